@@ -1,0 +1,4 @@
+pub mod Zigzag
+pub mod Over
+pub mod Push
+pub mod Extended
