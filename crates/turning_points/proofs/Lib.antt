@@ -2,3 +2,5 @@ pub mod Zigzag
 pub mod Over
 pub mod Push
 pub mod Extended
+pub mod TurnedSteps
+pub mod InPlace

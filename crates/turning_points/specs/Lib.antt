@@ -1,2 +1,3 @@
 pub mod Points
 pub mod Pairs
+pub mod Turned
