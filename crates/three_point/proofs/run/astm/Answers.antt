@@ -1,0 +1,7 @@
+use Rattle.std.proofs.Common.{◌∙◌, ap, arith}
+use Rattle.three_point.specs.Ranges.{all_listed}
+use Rattle.three_point.proofs.Buffer.{out_of_data}
+use Rattle.three_point.proofs.run.astm.Goals as goal
+
+pub returns : goal.returns
+returns c = ap all_listed c.from_vec.ensures ∙ out_of_data _ _ c.args.points.now _ _ _ c.loop-i.invariant.answer c.loop-i.invariant.within (omega arith) (omega arith) c.loop-point.invariant.answer
