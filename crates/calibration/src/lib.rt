@@ -1,0 +1,25 @@
+//! Stress classes: a gain turns a raw value into a stress, a grid puts the stress into a class.
+//!
+//! `specs/Level.antt` has the definition, with a floor for each of the two steps: the stress is
+//! `floor(raw * num / den) + offset` kPa, the level `floor((stress - low) / width)`, and negative quotients
+//! round down. `specs/History.antt` has the level history of a list of raw values.
+//!
+//! The code joins the two floors into one, `floor((raw * num + (offset - low) * den) / (den * width))`, all in
+//! 64 bits, and divides by a multiplication with the divisor's inverse. The remainder shows whether the
+//! quotient is one short. A `Classifier` keeps the numbers that a gain and a grid determine: make one for a
+//! block of samples. `level` is the same for one raw value.
+//!
+//! Cost: `Classifier::new` one division, `Classifier::level` three multiplications and no division.
+#![tactic(auto)]
+
+mod classifier;
+mod gain;
+mod grid;
+mod reading;
+#[cfg(test)]
+mod tests;
+
+pub use classifier::{Classifier, level};
+pub use gain::{Gain, GainFault};
+pub use grid::{Grid, GridFault};
+pub use reading::Reading;
