@@ -1,0 +1,58 @@
+use Rattle.std.proofs.Common.{◌-◌, ℕ, refl, arith, length-set}
+use Rattle.turning_points.proofs.Over.{own, zig_own}
+use Rattle.four_point.proofs.Stacked.{closes_none, closes_added, zig_more, last_turns, turn_test, turn_parts, below_at, below_set, calm_set}
+use Rattle.four_point.proofs.stack.settle.Goals as goal
+
+pub loop-len-init : goal.loop-len-init
+loop-len-init c = record {
+  within = omega arith;
+  fits = c.requires.within;
+  below = c.requires.below;
+  zig = zig_own _ c.requires.points;
+  cycles = closes_none _ _;
+  calm = c.requires.calm;
+  lengths = refl;
+  classes = refl;
+}
+
+pub is_cycle-requires-clause-first : goal.is_cycle-requires-clause-first
+is_cycle-requires-clause-first c = turn_test _ _ _ (last_turns c.loop-len.levels c.loop-len.len c.loop-len-test.true c.loop-len.invariant.fits c.loop-len.invariant.zig).0
+
+pub is_cycle-requires-clause-second : goal.is_cycle-requires-clause-second
+is_cycle-requires-clause-second c = turn_test _ _ _ (last_turns c.loop-len.levels c.loop-len.len c.loop-len-test.true c.loop-len.invariant.fits c.loop-len.invariant.zig).1
+
+pub add-requires-clause-ordered : goal.add-requires-clause-ordered
+add-requires-clause-ordered c =
+    let t = last_turns c.loop-len.levels c.loop-len.len c.loop-len-test.true c.loop-len.invariant.fits c.loop-len.invariant.zig in
+    let p = turn_parts _ _ _ t.1 in
+    omega arith
+
+pub add-requires-clause-within : goal.add-requires-clause-within
+add-requires-clause-within c =
+    let n = c.loop-len.len in
+    let v = c.loop-len.invariant in
+    let b = below_at _ n (n - 3) c.loop-len.levels v.below v.fits (omega arith) in
+    let d = below_at _ n (n - 2) c.loop-len.levels v.below v.fits (omega arith) in
+    omega arith
+
+pub loop-len-preserved : goal.loop-len-preserved
+loop-len-preserved c =
+    let n = c.loop-len.len in
+    let v = c.loop-len.invariant in
+    let t = c.is_cycle.ensures.0 c.if-is_cycle.true in
+    record {
+      within = omega arith;
+      fits = omega (arith, length-set {A = ℕ});
+      below = below_set _ n _ c.loop-len.levels v.below v.fits (omega arith) (below_at _ n (n - 1) c.loop-len.levels v.below v.fits (omega arith));
+      zig = zig_more c.loop-len.levels n c.loop-len-test.true v.fits v.zig t.0 t.1;
+      cycles = closes_added _ c.loop-len.levels n _ _ _ c.min.result c.max.result c.loop-len-test.true v.fits v.cycles t.0 t.1 c.min.ensures c.max.ensures c.add.ensures.added;
+      calm = calm_set c.loop-len.levels n _ v.calm;
+      lengths = omega arith;
+      classes = omega arith;
+    }
+
+pub returns-else-is_cycle-clause-points : goal.returns-else-is_cycle-clause-points
+returns-else-is_cycle-clause-points c = own c.loop-len.invariant.zig
+
+pub returns-after-loop-len-clause-points : goal.returns-after-loop-len-clause-points
+returns-after-loop-len-clause-points c = own c.loop-len.invariant.zig

@@ -1,0 +1,145 @@
+ghost use Rattle.std.specs.Prelude.{◌≡◌, ◌+◌, ◌*◌, ◌-◌, ◌^◌, ◌<◌, ◌≤◌, ◌↔◌, ◌++◌, ◌∷◌, [], All, IsTrue, length, take};
+ghost use Rattle.turning_points.specs.Points.{is_turn, points};
+ghost use Rattle.turning_points.specs.Pairs.{range};
+ghost use Rattle.tally.specs.Counts.{count_of, total_of};
+ghost use Rattle.four_point.specs.Residue.{Closes, IsCalmBelow, IsResidue, IsResidueBelow};
+
+use tally::Tally;
+use turning_points::goes_on;
+
+/// Whether the inner two of four points are one full cycle.
+// Points rise and fall in turn, so the two are not further apart than either of their neighbours' distances exactly
+// where both lie between the outer two.
+#[inline(always)]
+fn is_cycle(a: u16, b: u16, c: u16, d: u16) -> bool
+    requires first { IsTrue (is_turn a b c) }
+    requires second { IsTrue (is_turn b c d) }
+    ensures { IsTrue result ↔ ((range b c ≤ range a b) × (range b c ≤ range c d)) }
+{
+    a.min(d) <= b.min(c) && b.max(c) <= a.max(d)
+}
+
+/// Puts a level behind the first `len` levels, a list of points, and says how many points there are then.
+#[inline(always)]
+fn extend(levels: &mut [u16], len: usize, level: u16) -> usize
+    requires within { len < length levels.old }
+    requires points { points (take len levels.old) ≡ take len levels.old }
+    ensures within { result ≤ len + 1 }
+    ensures points { take result levels.new ≡ points (take len levels.old ++ level ∷ []) }
+    ensures front { take (result - 1) levels.new ≡ take (result - 1) levels.old }
+{
+    if len == 0 {
+        levels[0] = level;
+        return 1;
+    }
+    if levels[len - 1] == level {
+        return len;
+    }
+    if len >= 2 && goes_on(levels[len - 2], levels[len - 1], level) {
+        levels[len - 1] = level;
+        return len;
+    }
+    levels[len] = level;
+    len + 1
+}
+
+/// Deletes cycles from the end of the first `len` levels, and says how many levels are left.
+#[inline(always)]
+fn settle(levels: &mut [u16], mut len: usize, tally: &mut Tally) -> usize
+    requires within { len ≤ length levels.old }
+    requires below { All (λ level. level < tally.old.classes) (take len levels.old) }
+    requires points { points (take len levels.old) ≡ take len levels.old }
+    requires calm { IsCalmBelow levels.old (len - 1) }
+    requires total { total_of tally.old.cells + len ≤ 2 ^ 63 + 1 }
+    ensures within { result ≤ len }
+    ensures cycles { Closes (take len levels.old) (count_of tally.old.cells)
+        (take result levels.new) (count_of tally.new.cells) }
+    ensures below { All (λ level. level < tally.old.classes) (take result levels.new) }
+    ensures points { points (take result levels.new) ≡ take result levels.new }
+    ensures calm { IsCalmBelow levels.new result }
+    ensures lengths { 2 * total_of tally.new.cells + result ≡ 2 * total_of tally.old.cells + len }
+    ensures classes { tally.new.classes ≡ tally.old.classes }
+{
+    while len >= 4
+        && is_cycle(
+            levels[len - 4],
+            levels[len - 3],
+            levels[len - 2],
+            levels[len - 1],
+        )
+    {
+        let b = levels[len - 3];
+        let c = levels[len - 2];
+        tally.add(b.min(c), b.max(c), 1);
+        levels[len - 3] = levels[len - 1];
+        len -= 2;
+    }
+    len
+}
+
+/// Puts a level behind the first `len` levels, a residue, deletes the cycles that it closes, and says how many levels
+/// are left.
+#[inline(always)]
+pub fn push(levels: &mut [u16], len: usize, level: u16, tally: &mut Tally) -> usize
+    requires within { len < length levels.old }
+    requires residue { IsResidue tally.old.classes (take len levels.old) }
+    requires level { level < tally.old.classes }
+    requires total { total_of tally.old.cells + len ≤ 2 ^ 63 }
+    ensures within { result ≤ length levels.new }
+    ensures step { Closes (points (take len levels.old ++ level ∷ [])) (count_of tally.old.cells)
+        (take result levels.new) (count_of tally.new.cells) }
+    ensures residue { IsResidue tally.old.classes (take result levels.new) }
+    ensures lengths { 2 * total_of tally.new.cells + result
+        ≡ 2 * total_of tally.old.cells + length (points (take len levels.old ++ level ∷ [])) }
+    ensures room { total_of tally.new.cells + result ≤ total_of tally.old.cells + len + 1 }
+    ensures classes { tally.new.classes ≡ tally.old.classes }
+{
+    let longer = extend(levels, len, level);
+    settle(levels, longer, tally)
+}
+
+/// Whether the level at `i` goes on a residue, the levels before it.
+fn goes_behind(levels: &[u16], i: usize, classes: u16) -> bool
+    requires within { i < length levels.now }
+    requires before { IsResidueBelow classes levels.now i }
+    ensures { IsTrue result ↔ IsResidueBelow classes levels.now (i + 1) }
+{
+    let level = levels[i];
+    if level >= classes {
+        return false;
+    }
+    if i == 0 {
+        return true;
+    }
+    let last = levels[i - 1];
+    if last == level {
+        return false;
+    }
+    if i == 1 {
+        return true;
+    }
+    if goes_on(levels[i - 2], last, level) {
+        return false;
+    }
+    i == 2 || !is_cycle(levels[i - 3], levels[i - 2], last, level)
+}
+
+/// Whether the levels are a list of points over so many classes to which no deletion applies.
+pub fn is_residue(levels: &[u16], classes: u16) -> bool
+    ensures { IsTrue result ↔ IsResidue classes levels.now }
+{
+    for i in 0..levels.len() {
+        if !goes_behind(levels, i, classes) {
+            return false;
+        }
+    }
+    true
+}
+
+/// Copies a list to the front of a buffer.
+pub fn put_first(levels: &mut [u16], list: &[u16])
+    requires { length list.now ≤ length levels.old }
+    ensures { take (length list.now) levels.new ≡ list.now }
+{
+    levels[..list.len()].copy_from_slice(list);
+}
