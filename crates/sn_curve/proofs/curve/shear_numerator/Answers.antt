@@ -1,0 +1,14 @@
+-- The factored range is at most 54000 fortieths, the category at least 80.
+use Rattle.std.proofs.Common.{◌*◌, arith}
+use Rattle.sn_curve.proofs.Powers.{fifth_bound, shear_below, positive_power}
+use Rattle.sn_curve.proofs.curve.shear_numerator.Goals as goal
+
+pub pow-requires : goal.pow-requires
+pow-requires c = omega (arith, fifth_bound c.args.range c.requires.range)
+
+pub returns-then-range-category-clause-below_one : goal.returns-then-range-category-clause-below_one
+returns-then-range-category-clause-below_one c =
+    omega (arith, shear_below c.args.range c.args.category c.requires.range c.requires.category_from)
+
+pub returns-clause-below_one : goal.returns-clause-below_one
+returns-clause-below_one c = omega (arith, positive_power (40 * c.args.category) 5 (omega arith))
