@@ -1,8 +1,7 @@
 ghost use Rattle.std.specs.Prelude.{◌≡◌, ℕ, ◌+◌, ◌<◌, ◌≤◌, ◌↔◌, ◌++◌, [], List, length, take, reverse, IsTrue, IfOk, vec_len, vec_capacity};
 ghost use Rattle.turning_points.specs.Points.{points as points_of};
-ghost use Rattle.turning_points.specs.Pairs.{range};
 ghost use Rattle.three_point.specs.Run.{listed, settle as settled, lists, rest, run};
-ghost use Rattle.three_point.specs.Ranges.{listed_of, all_listed};
+ghost use Rattle.three_point.specs.Ranges.{listed_of, all_listed, IsReached};
 
 use crate::ranges::{Range, Ranges};
 use std::alloc::{AllocError, Global};
@@ -10,56 +9,56 @@ use std::alloc::{AllocError, Global};
 /// Counts the ranges of a list of points by the three-point count of ASTM E1049-85, 5.4.4, in the order of the standard's steps:
 /// those of step 6 come last, in order of the history.
 ///
-/// Takes memory for the answer and for the points that are live, once each. Time is in proportion to the number of points.
+/// Takes memory twice: room for the answer and for the live points. Time is in proportion to the number of points.
 pub fn astm(alloc: Global, points: &[u16]) -> Result<Ranges, AllocError>
     requires { points_of points.now ≡ points.now }
     ensures { IfOk result (λ ranges. all_listed ranges ≡ run [] points.now) }
 {
     let mut ranges = Vec::with_capacity(alloc, points.len())?;
-    let mut live = vec![in alloc; 0; points.len()]?;
-    let mut len = 0;
+    let mut live = Vec::with_capacity(alloc, points.len())?;
     for &point in points {
-        len = read(&mut live, len, point, &mut ranges);
+        read(&mut live, point, &mut ranges);
     }
-    for i in 1..len {
+    for i in 1..live.len() {
         ranges.push_reserved(counted(live[i - 1], live[i], 1));
     }
     Ok(Ranges::from_vec(ranges))
 }
 
-/// Reads the next point: counts and discards what it closes of the first `len` levels, the live points, and puts it behind them.
-/// Says how many points are live then.
-fn read(live: &mut [u16], mut len: usize, point: u16, ranges: &mut Vec<Range>) -> usize
-    requires room { len < length live.old }
-    requires reserved { len + vec_len ranges.old < vec_capacity ranges.old }
-    ensures live { reverse (take result live.new) ≡ settled point (reverse (take len live.old)) }
-    ensures counted { all_listed ranges.new.items ≡ all_listed ranges.old.items ++ lists point (reverse (take len live.old)) }
-    ensures fewer { result + vec_len ranges.new ≤ len + 1 + vec_len ranges.old }
-    ensures capacity { vec_capacity ranges.new ≡ vec_capacity ranges.old }
+/// Reads the next point: counts the ranges that it closes, and puts it behind those of the live points that are left.
+fn read(live: &mut Vec<u16>, point: u16, ranges: &mut Vec<Range>)
+    requires room { vec_len live.old < vec_capacity live.old }
+    requires reserved { vec_len live.old + vec_len ranges.old < vec_capacity ranges.old }
+    ensures live { reverse live.new.items ≡ settled point (reverse live.old.items) }
+    ensures counted { all_listed ranges.new.items ≡ all_listed ranges.old.items ++ lists point (reverse live.old.items) }
+    ensures fewer { vec_len live.new + vec_len ranges.new ≤ vec_len live.old + 1 + vec_len ranges.old }
+    ensures room { vec_capacity live.new ≡ vec_capacity live.old }
+    ensures reserved { vec_capacity ranges.new ≡ vec_capacity ranges.old }
 {
-    // X runs from the newest live point to `point`, Y from the live point before it.
-    while len >= 2 && reaches(live[len - 2], live[len - 1], point) {
+    while closes(live, point) {
+        let len = live.len();
         let first = live[len - 2];
         let second = live[len - 1];
         if len == 2 {
             // Y contains the starting point: it is a half cycle, and its second point is the start from now on.
             ranges.push_reserved(counted(first, second, 1));
             live[0] = second;
-            len = 1;
+            live.truncate(1);
         } else {
             ranges.push_reserved(counted(first, second, 2));
-            len -= 2;
+            live.truncate(len - 2);
         }
     }
-    live[len] = point;
-    len + 1
+    live.push_reserved(point);
 }
 
-/// Whether the range X, from `second` to `point`, is at least the range Y, from `first` to `second`.
-fn reaches(first: u16, second: u16, point: u16) -> bool
-    ensures { IsTrue result ↔ (range first second ≤ range second point) }
+/// Whether there are three points with the one that is read, and the range X, from the newest live point to it, is at least the range
+/// Y, between the two newest live points.
+fn closes(live: &[u16], point: u16) -> bool
+    ensures { IsTrue result ↔ IsReached live.now point }
 {
-    first.abs_diff(second) <= second.abs_diff(point)
+    let len = live.len();
+    len >= 2 && live[len - 2].abs_diff(live[len - 1]) <= live[len - 1].abs_diff(point)
 }
 
 /// So many half units of the range between two points.

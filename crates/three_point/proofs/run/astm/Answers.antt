@@ -4,4 +4,4 @@ use Rattle.three_point.proofs.Buffer.{out_of_data}
 use Rattle.three_point.proofs.run.astm.Goals as goal
 
 pub returns : goal.returns
-returns c = ap all_listed c.from_vec.ensures ∙ out_of_data _ _ c.args.points.now _ _ _ c.loop-i.invariant.answer c.loop-i.invariant.within (omega arith) (omega arith) c.loop-point.invariant.answer
+returns c = ap all_listed c.from_vec.ensures ∙ out_of_data _ c.loop-point.live.items c.args.points.now _ _ c.loop-i.invariant.answer (omega arith) (omega arith) (omega arith) c.loop-point.invariant.answer

@@ -6,17 +6,17 @@ use Rattle.three_point.proofs.run.astm.Given as goal
 -- what was counted, and the run over the points that are left, are the whole run
 abbrev pub invariant-loop-point : goal.invariant-loop-point
 invariant-loop-point l = record {
-  answer : all_listed l.ranges.items ++ run (reverse (take l.len l.live.items)) (drop l.point-index l.points) ≡ run [] l.points;
-  room : l.len + vec_len l.ranges ≤ l.point-index;
+  answer : all_listed l.ranges.items ++ run (reverse l.live.items) (drop l.point-index l.points) ≡ run [] l.points;
+  fewer : vec_len l.live + vec_len l.ranges ≤ l.point-index;
+  room : length l.points ≤ vec_capacity l.live;
   reserved : length l.points ≤ vec_capacity l.ranges;
-  buffer : vec_len l.live ≡ length l.points;
 }
 
 -- the ranges between the first live points were counted
 abbrev pub invariant-loop-i : goal.invariant-loop-i
 invariant-loop-i l = record {
   answer : all_listed l.ranges.items ≡ all_listed l.initial.ranges.items ++ rest (reverse (take l.i l.live.items));
-  room : vec_len l.ranges + 1 ≡ vec_len l.initial.ranges + l.i;
+  fewer : vec_len l.ranges + 1 ≡ vec_len l.initial.ranges + l.i;
   reserved : vec_capacity l.ranges ≡ vec_capacity l.initial.ranges;
-  within : l.i ≤ max 1 l.len;
+  within : l.i ≤ max 1 (vec_len l.live);
 }
