@@ -1,0 +1,26 @@
+//! Recordings: the bytes of a head and of samples, by the format SGRC (`docs/FORMATS.md`).
+//!
+//! A recording is a head of 32 bytes and a body of samples, four bytes each. `specs/Head.antt` says
+//! what the bytes of a head are and what is wrong with others, `specs/Samples.antt` reads a body as
+//! samples and odd bytes, and `specs/Filling.antt` says how a `fill` or a `skip` ends.
+//!
+//! `fill` and `skip` take up to 64 KiB at once into a buffer on the stack (4 KiB for few samples),
+//! and take again until it is full, so what they give does not depend on the sizes of the source's
+//! takes, and a part sample is never kept between calls. Bytes become samples a buffer at a time.
+//! No call here takes memory. A `fill` costs the takes and about one copy of the bytes.
+#![tactic(auto)]
+
+mod ends;
+mod filling;
+mod head;
+mod skipping;
+mod taking;
+#[cfg(test)]
+mod tests;
+mod writing;
+
+pub use ends::{Fill, FillEnd, Skip};
+pub use filling::fill;
+pub use head::{Head, HeadFault, read_head, write_head};
+pub use skipping::skip;
+pub use writing::write_samples;

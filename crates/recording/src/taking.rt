@@ -1,0 +1,83 @@
+ghost use Rattle.std.specs.Prelude.{◌≡◌, ◌≤◌, ◌*◌, ◌/◌, ◌++◌, ◌↔◌, [], length, take};
+ghost use Rattle.outside.specs.Fault.{Rose};
+ghost use Rattle.recording.specs.Filling.{SameFirst, Takes};
+ghost use Rattle.recording.specs.declared.ends.FillEnd.TheVariants.{More, Failed as FailedEnd};
+ghost use Rattle.recording.specs.declared.taking.Stop.TheVariants.{Full, Ended, Failed};
+
+use crate::ends::{Fill, FillEnd};
+use outside::Source;
+
+/// Bytes of a buffer on the stack, for few samples and for many.
+pub(crate) const SMALL: usize = 4096;
+
+pub(crate) const LARGE: usize = 65536;
+
+/// How far takes have filled a buffer of bytes.
+#[derive(Clone, Copy)]
+pub(crate) struct Taken {
+    pub(crate) n: usize,
+    pub(crate) stop: Stop,
+}
+
+#[derive(Clone, Copy)]
+pub(crate) enum Stop {
+    Full,
+    Ended,
+    Failed,
+}
+
+/// Takes until the buffer is full, input ends or a take fails.
+pub(crate) fn take_all<S: Source>(src: &mut S, bytes: &mut [u8]) -> Taken
+    ensures length { length bytes.new ≡ length bytes.old }
+    ensures within { result.n ≤ length bytes.old }
+    ensures bytes { S.tells → S.left src.old ≡ take result.n bytes.new ++ S.left src.new }
+    ensures full { (result.stop ≡ Full) ↔ (result.n ≡ length bytes.old) }
+    ensures ended { S.tells → result.stop ≡ Ended → S.left src.new ≡ [] }
+    ensures cause { result.stop ≡ Failed → Rose (S.faults src.old) (S.faults src.new) }
+    ensures later { S.faults src.old ≤ S.faults src.new }
+{
+    let mut n = 0;
+    while n < bytes.len() {
+        match src.take(&mut bytes[n..]) {
+            Ok(0) => return Taken {
+                n,
+                stop: Stop::Ended,
+            },
+            Ok(taken) => n += taken,
+            Err(_) => return Taken {
+                n,
+                stop: Stop::Failed,
+            },
+        }
+    }
+    Taken {
+        n,
+        stop: Stop::Full,
+    }
+}
+
+/// Takes whole samples, as bytes, until the buffer is full or an end comes as in `fill`.
+pub(crate) fn take_samples<S: Source>(src: &mut S, bytes: &mut [u8]) -> Fill
+    requires { length bytes.old ≡ 4 * (length bytes.old / 4) }
+    ensures length { length bytes.new ≡ length bytes.old }
+    ensures within { 4 * result.n ≤ length bytes.old }
+    ensures bytes { S.tells → SameFirst (4 * result.n) bytes.new (S.left src.old) }
+    ensures taken { S.tells → Takes (length bytes.old / 4) (S.left src.old) result.n result.end (S.left src.new) }
+    ensures full { (result.end ≡ More) ↔ (4 * result.n ≡ length bytes.old) }
+    ensures cause { result.end ≡ FailedEnd → Rose (S.faults src.old) (S.faults src.new) }
+    ensures later { S.faults src.old ≤ S.faults src.new }
+{
+    let taken = take_all(src, bytes);
+    let end = match taken.stop {
+        Stop::Full => FillEnd::More,
+        Stop::Ended => match taken.n % 4 {
+            0 => FillEnd::Ended,
+            part => FillEnd::Torn(part as u8),
+        },
+        Stop::Failed => FillEnd::Failed,
+    };
+    Fill {
+        n: taken.n / 4,
+        end,
+    }
+}
