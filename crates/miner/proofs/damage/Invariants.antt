@@ -1,0 +1,14 @@
+-- The ranges below k are in the total.
+use Rattle.std.proofs.Common.{◌≡◌, ◌-◌, ◌≤◌, take, drop}
+use Rattle.std.specs.Prelude.{sum}
+use Rattle.sn_curve.specs.Curve.{denominator_of}
+use Rattle.exact_frac.specs.Frac.{parts}
+use Rattle.miner.specs.Damage.{DamageFrom}
+use Rattle.miner.proofs.damage.Given as goal
+
+abbrev pub invariant-loop-k : goal.invariant-loop-k
+invariant-loop-k l = record {
+  den : l.total.den ≡ denominator_of l.detail;
+  so_far : DamageFrom l.detail l.grid l.total.den 1 (take (l.k - 1) (drop 1 l.half_counts)) (parts l.total);
+  few : l.total.whole ≤ sum (take l.k l.half_counts);
+}
