@@ -1,0 +1,12 @@
+pub mod Line
+pub mod Status
+pub mod Table
+pub mod Words
+pub mod Counts
+pub mod Printed
+pub mod Answer
+pub use Rattle.outside.specs.Fault
+pub mod Within
+pub mod RangeUnits
+pub mod Verdict
+pub mod Sorted

@@ -1,0 +1,21 @@
+ghost use Rattle.std.specs.Prelude.{◌≡◌};
+ghost use Rattle.monitor.specs.Printed.{table_grid, table_gain};
+
+use calibration::{Classifier, Gain, Grid};
+
+/// The classes of `table`.
+pub const CLASSES: u16 = 64;
+
+/// How many half MPa a class of `table` is wide.
+pub const WIDTH: u16 = 2;
+
+/// The grid and the gain of `table`: a raw value from 0 to 63 is its own level.
+pub fn table_classifier() -> Classifier
+    ensures gain { result.gain ≡ table_gain }
+    ensures grid { result.grid ≡ table_grid }
+{
+    match (Gain::new(1000, 1, 0), Grid::new(CLASSES, WIDTH, 0, 32)) {
+        (Ok(gain), Ok(grid)) => Classifier::new(&gain, &grid),
+        _ => unreachable!(),
+    }
+}

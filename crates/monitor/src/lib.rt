@@ -1,0 +1,28 @@
+//! The commands of the program, over a site of recordings and a sink for texts.
+//!
+//! `monitor` reads the words of the command line, and calls the command that they name. Its contract is the theorem of the
+//! program: what is printed is the three-point count of ASTM E1049-85, 5.4.4, over the whole level history of the file, each refusal
+//! has its cause in the file (`specs/Verdict.antt`, `specs/Answer.antt`), and all sources are back at the site. The text of a table is
+//! `specs/Table.antt`, and what `table` prints of a file `specs/Printed.antt`.
+//!
+//! A recording is read in pieces of 64 KiB into one list of levels, 2 bytes each. Its points are found in place, and counted by one run. So `table`
+//! takes 2 bytes for each level and 8 for each point: a live point and a range.
+#![tactic(auto)]
+
+mod command;
+mod counting;
+mod grid;
+mod reading;
+mod refusal;
+mod sorted;
+mod status;
+mod table;
+mod top;
+mod words;
+
+pub use command::table_command;
+pub use status::{RecordingFault, Status};
+pub use top::monitor;
+
+#[cfg(test)]
+mod tests;

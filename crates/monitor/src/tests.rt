@@ -1,0 +1,201 @@
+ghost use Rattle.std.specs.Prelude.{◌≡◌, IfOk};
+
+use super::*;
+use outside::{MapSite, VecSink};
+use std::alloc::{AllocError, Global};
+use std::collections::BTreeMap;
+use std::test::Fail;
+
+mod faulty;
+
+use faulty::FaultySite;
+
+const HEAD: [u8; 32] = [
+    b'S', b'G', b'R', b'C', 1, 0, 0, 0, 0x11, 0x11, 0x11, 0x11, 0x11, 0x11, 0x11, 0x11, 0x11, 0x11,
+    0x11, 0x11, 0x11, 0x11, 0x11, 0x11, 0x10, 0x27, 0, 0, 0, 0, 0, 0,
+];
+
+// The levels of the standard's own example.
+const EXAMPLE: [i32; 9] = [6, 9, 5, 13, 7, 11, 4, 12, 6];
+
+const EXAMPLE_TABLE: &str = "rainflow\n9.0 0.5\n8.0 1.0\n6.0 0.5\n4.0 1.5\n3.0 0.5\n";
+
+fn file_of(alloc: Global, raws: &[i32]) -> Result<Vec<u8>, AllocError> {
+    let mut bytes = HEAD.to_vec(alloc)?;
+    for raw in raws {
+        bytes.extend_from_slice(&raw.to_le_bytes())?;
+    }
+    Ok(bytes)
+}
+
+// A site with the one file `t`, whose sources give so many bytes at a time.
+fn site_of(alloc: Global, bytes: Vec<u8>, longest: usize) -> Result<MapSite, AllocError>
+    ensures { IfOk result (λ site. site.out ≡ 0) }
+{
+    let mut files = BTreeMap::new(alloc);
+    files.insert(String::from_str(alloc, "t")?, bytes)?;
+    Ok(MapSite::new(alloc, files, longest.max(1), Vec::new(alloc)))
+}
+
+fn words_of(alloc: Global, words: &[&str]) -> Result<Vec<String>, AllocError> {
+    let mut all = Vec::new(alloc);
+    for word in words {
+        all.push(String::from_str(alloc, word)?)?;
+    }
+    Ok(all)
+}
+
+// What `table t` answers of a file, and what it prints.
+fn table(
+    rt: &HostRuntime,
+    bytes: Vec<u8>,
+    longest: usize,
+    room: usize,
+) -> Result<(Status, VecSink), AllocError> {
+    let alloc = rt.alloc();
+    let mut site = site_of(alloc, bytes, longest)?;
+    let mut out = VecSink::new(alloc, room, Vec::new(alloc))?;
+    let words = words_of(alloc, &["table", "t"])?;
+    let status = monitor(rt, words.as_slice(), &mut site, &mut out);
+    Ok((status, out))
+}
+
+// The tables were computed by hand, from the steps of the standard.
+#[test]
+fn tables(rt: HostRuntime) -> Result<(), Fail> {
+    let alloc = rt.alloc();
+    let cases: [(&[i32], &str, &str); 9] = [
+        (
+            &EXAMPLE,
+            "samples 9 used 9 missing 0 refused 0\n",
+            EXAMPLE_TABLE,
+        ),
+        (
+            &[6, 9, 5, 13, 7, 11, 4, 12, 6, 64],
+            "samples 10 used 9 missing 0 refused 1\n",
+            EXAMPLE_TABLE,
+        ),
+        (
+            &[
+                i32::MIN,
+                6,
+                9,
+                5,
+                -1,
+                13,
+                7,
+                i32::MIN,
+                11,
+                4,
+                i32::MAX,
+                12,
+                6,
+            ],
+            "samples 13 used 9 missing 2 refused 2\n",
+            EXAMPLE_TABLE,
+        ),
+        (&[], "samples 0 used 0 missing 0 refused 0\n", "rainflow\n"),
+        (
+            &[10, 10, 10],
+            "samples 3 used 3 missing 0 refused 0\n",
+            "rainflow\n",
+        ),
+        (
+            &[8, 13, 8, 13],
+            "samples 4 used 4 missing 0 refused 0\n",
+            "rainflow\n5.0 1.5\n",
+        ),
+        (
+            &[8, 13, 13, 8],
+            "samples 4 used 4 missing 0 refused 0\n",
+            "rainflow\n5.0 1.0\n",
+        ),
+        (
+            &[8, 13, 11, 9, 14],
+            "samples 5 used 5 missing 0 refused 0\n",
+            "rainflow\n6.0 0.5\n4.0 1.0\n",
+        ),
+        (
+            &[0, 63],
+            "samples 2 used 2 missing 0 refused 0\n",
+            "rainflow\n63.0 0.5\n",
+        ),
+    ];
+    for (raws, samples, rainflow) in cases {
+        for longest in [1, 7, 4096] {
+            let (status, out) = table(&rt, file_of(alloc, raws)?, longest, 200)?;
+            assert_eq!(rt; status, Status::Done);
+            let expected = format!(in alloc; "{samples}{rainflow}")?;
+            assert_eq!(rt; out.written(), expected.as_bytes());
+        }
+    }
+    Ok(())
+}
+
+#[test]
+fn refusals_print_nothing(rt: HostRuntime) -> Result<(), Fail> {
+    let alloc = rt.alloc();
+    let refused = |fault| Status::Recording { gauge: 0, fault };
+    let cases = [
+        (0, b'T', 32, refused(RecordingFault::Magic)),
+        (4, 2, 40, refused(RecordingFault::Version(2))),
+        (6, 1, 40, refused(RecordingFault::NotZero)),
+        (31, 9, 40, refused(RecordingFault::NotZero)),
+        (0, b'S', 31, refused(RecordingFault::Short)),
+        (0, b'S', 0, refused(RecordingFault::Short)),
+        (0, b'S', 34, Status::Torn { gauge: 0, bytes: 2 }),
+        (0, b'S', 67, Status::Torn { gauge: 0, bytes: 3 }),
+    ];
+    for (place, byte, length, status) in cases {
+        let mut bytes = file_of(alloc, &EXAMPLE)?;
+        bytes.truncate(length);
+        if place < bytes.len() {
+            bytes[place] = byte;
+        }
+        let (answer, out) = table(&rt, bytes, 5, 200)?;
+        assert_eq!(rt; answer, status);
+        assert_eq!(rt; out.written().len(), 0);
+    }
+    Ok(())
+}
+
+#[test]
+fn faults_of_the_outside(rt: HostRuntime) -> Result<(), Fail> {
+    let alloc = rt.alloc();
+    let (status, out) = table(&rt, file_of(alloc, &EXAMPLE)?, 5, 0)?;
+    assert_eq!(rt; status, Status::WriteFault);
+    assert_eq!(rt; out.written().len(), 0);
+
+    // Takes of 7 bytes: the head ends in the fifth, the body in the tenth, and the eleventh finds the end.
+    let words = words_of(alloc, &["table", "t"])?;
+    for failing in [0, 4, 5, 9, 10] {
+        let mut site = FaultySite::new(alloc, file_of(alloc, &EXAMPLE)?, failing);
+        let mut out = VecSink::new(alloc, 200, Vec::new(alloc))?;
+        let status = monitor(&rt, words.as_slice(), &mut site, &mut out);
+        assert_eq!(rt; status, Status::ReadFault, "at take {failing}");
+        assert_eq!(rt; out.written().len(), 0);
+    }
+    Ok(())
+}
+
+#[test]
+fn words(rt: HostRuntime) -> Result<(), Fail> {
+    let alloc = rt.alloc();
+    let cases: [(&[&str], Status); 7] = [
+        (&[], Status::Usage),
+        (&["draw"], Status::Usage),
+        (&["table"], Status::Usage),
+        (&["table", "-t"], Status::Usage),
+        (&["tables", "t"], Status::Usage),
+        (&["table", "t", "t"], Status::Usage),
+        (&["table", "u"], Status::ReadFault),
+    ];
+    for (words, status) in cases {
+        let mut site = site_of(alloc, file_of(alloc, &EXAMPLE)?, 5)?;
+        let mut out = VecSink::new(alloc, 200, Vec::new(alloc))?;
+        let words = words_of(alloc, words)?;
+        assert_eq!(rt; monitor(&rt, words.as_slice(), &mut site, &mut out), status);
+        assert_eq!(rt; out.written().len(), 0);
+    }
+    Ok(())
+}
