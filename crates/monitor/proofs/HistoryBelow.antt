@@ -8,8 +8,8 @@ use Rattle.calibration.specs.Level.{in_grid, is_missing, class_of, stress_of}
 use Rattle.calibration.specs.History.{history, level_in}
 use Rattle.calibration.specs.declared.reading.Reading.TheVariants.{Missing, Refused, Level}
 use Rattle.monitor.specs.Printed.{table_grid, table_gain}
-use Rattle.monitor.specs.Sorted.{Adds}
-use Rattle.monitor.specs.declared.sorted.Sorted.{Sorted}
+use Rattle.monitor.specs.Readings.{Adds}
+use Rattle.monitor.specs.declared.readings.Readings.{Readings}
 use Rattle.monitor.specs.Within.{Below, below_none, below_more}
 
 class_below : (classes n : ℕ) (b : Bool) (rest : List ℕ) → nat_lt n classes ≡ b → Below classes rest → Below classes (cons_option (level_in (if b then Level n else Refused)) rest)
@@ -32,5 +32,5 @@ append_below : {n : ℕ} {l m : List ℕ} → Below n l → Below n m → Below 
 append_below below_none b = b
 append_below (below_more p a) b = below_more p (append_below a b)
 
-pub added_below : (old new : Sorted) (raws : List ℤ) → Adds old new raws → Below 64 old.levels.items → Below 64 new.levels.items
+pub added_below : (old new : Readings) (raws : List ℤ) → Adds old new raws → Below 64 old.levels.items → Below 64 new.levels.items
 added_below old new raws a below = subst (λ (l : List ℕ). Below 64 l) (sym a.levels) (append_below below (history_below table_grid table_gain raws))

@@ -2,7 +2,7 @@ mod RangeLines
 mod RunWithin
 mod RangeSums
 mod PointsAgain
-mod SortedPieces
+mod ReadingPieces
 mod HistoryBelow
 mod TableText
 mod Refusals

@@ -2,7 +2,7 @@
 use Rattle.std.specs.Prelude.{ℕ, List, length, slice_index}
 use Rattle.three_point.specs.Run.{half_units}
 use Rattle.monitor.specs.declared.table.SampleCounts.{SampleCounts}
-use Rattle.monitor.specs.declared.sorted.Sorted.{Sorted}
+use Rattle.monitor.specs.declared.readings.Readings.{Readings}
 use Rattle.monitor.specs.Table.{Figures}
 
 -- of the text's arguments
@@ -16,7 +16,7 @@ figures_of counts halves = record {
 }
 
 -- of the samples that were read
-abbrev pub figures_in : Sorted → Figures
+abbrev pub figures_in : Readings → Figures
 figures_in s = record {
   samples = s.samples;
   used = length s.levels.items;

@@ -9,4 +9,4 @@ pub use Rattle.outside.specs.Fault
 pub mod Within
 pub mod RangeUnits
 pub mod Verdict
-pub mod Sorted
+pub mod Readings

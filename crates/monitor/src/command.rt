@@ -9,9 +9,9 @@ ghost use Rattle.monitor.specs.Answer.{AnswersFor, IsAnswerOf, IsPrinting, statu
 
 use crate::Status;
 use crate::counting::table_of_samples;
-use crate::reading::read_recording;
+use crate::read::read_recording;
+use crate::readings::Readings;
 use crate::refusal::Refusal;
-use crate::sorted::Sorted;
 use outside::{Sink, Site};
 use std::alloc::Global;
 
@@ -36,7 +36,8 @@ pub fn table_command<T: Site, O: Sink>(
 
     // Which answer it is.
     ensures answer { T.tells → AnswersFor (T.files site.old file.now) result }
-    ensures complete { T.tells → ¬ Rose (T.faults site.old) (T.faults site.new) → ¬ Rose (O.faults out.old) (O.faults out.new) →
+    ensures complete { T.tells → ¬ Rose (T.faults site.old) (T.faults site.new) →
+        ¬ Rose (O.faults out.old) (O.faults out.new) →
         IsAnswerOf (T.files site.old file.now) result }
     ensures read { result ≡ Status.ReadFault → Rose (T.faults site.old) (T.faults site.new) }
     ensures write { result ≡ Status.WriteFault → Rose (O.faults out.old) (O.faults out.new) }
@@ -52,24 +53,24 @@ pub fn table_command<T: Site, O: Sink>(
     let read = read_recording(alloc, &mut src);
     site.give_back(src);
     match read {
-        Ok(sorted) => print_table(alloc, sorted, out),
+        Ok(readings) => print_table(alloc, readings, out),
         Err(refusal) => status_after(refusal),
     }
 }
 
 // Prints the table of a recording's samples.
-fn print_table<O: Sink>(alloc: Global, sorted: Sorted, out: &mut O) -> Status
-    requires below { Below 64 sorted.levels.items }
+fn print_table<O: Sink>(alloc: Global, readings: Readings, out: &mut O) -> Status
+    requires below { Below 64 readings.levels.items }
     ensures done { O.tells → result ≡ Status.Done →
-        O.written out.new ≡ O.written out.old ++ table_text 64 2 (figures_in sorted) }
+        O.written out.new ≡ O.written out.old ++ table_text 64 2 (figures_in readings) }
     ensures front { O.tells → result ≡ Status.WriteFault →
-        AppendsPrefix (O.written out.old) (O.written out.new) (table_text 64 2 (figures_in sorted)) }
+        AppendsPrefix (O.written out.old) (O.written out.new) (table_text 64 2 (figures_in readings)) }
     ensures nothing { O.tells → result ≢ Status.Done → result ≢ Status.WriteFault →
         O.written out.new ≡ O.written out.old }
     ensures write { result ≡ Status.WriteFault → Rose (O.faults out.old) (O.faults out.new) }
     ensures printing { IsPrinting result }
 {
-    let Ok(text) = table_of_samples(alloc, sorted) else {
+    let Ok(text) = table_of_samples(alloc, readings) else {
         return Status::OutOfMemory;
     };
     match out.put(text.as_bytes()) {

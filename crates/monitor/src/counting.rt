@@ -8,25 +8,25 @@ ghost use Rattle.monitor.specs.Within.{Below, Within};
 ghost use Rattle.monitor.specs.RangeUnits.{units_at};
 
 use crate::grid::{CLASSES, WIDTH};
-use crate::sorted::Sorted;
+use crate::readings::Readings;
 use crate::table::{SampleCounts, table_of};
 use std::alloc::{AllocError, Global};
 use three_point::{Range, Ranges, astm};
 use turning_points::keep_points;
 
 /// The rainflow table of a recording's samples, whose memory it takes over.
-pub fn table_of_samples(alloc: Global, sorted: Sorted) -> Result<String, AllocError>
-    requires below { Below 64 sorted.levels.items }
-    ensures { IfOk result (λ text. string_bytes text ≡ table_text 64 2 (figures_in sorted)) }
+pub fn table_of_samples(alloc: Global, readings: Readings) -> Result<String, AllocError>
+    requires below { Below 64 readings.levels.items }
+    ensures { IfOk result (λ text. string_bytes text ≡ table_text 64 2 (figures_in readings)) }
 {
-    let mut levels = sorted.levels;
+    let mut levels = readings.levels;
     let used = levels.len() as u64;
     let half_units = half_units_of(alloc, &mut levels)?;
     let counts = SampleCounts {
-        samples: sorted.samples,
+        samples: readings.samples,
         used,
-        missing: sorted.missing,
-        refused: sorted.refused,
+        missing: readings.missing,
+        refused: readings.refused,
     };
     table_of(alloc, &counts, WIDTH, &half_units)
 }

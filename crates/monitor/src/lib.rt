@@ -5,16 +5,16 @@
 //! has its cause in the file (`specs/Verdict.antt`, `specs/Answer.antt`), and all sources are back at the site. The text of a table is
 //! `specs/Table.antt`, and what `table` prints of a file `specs/Printed.antt`.
 //!
-//! A recording is read in pieces of 64 KiB into one list of levels, 2 bytes each. Its points are found in place, and counted by one run. So `table`
-//! takes 2 bytes for each level and 8 for each point: a live point and a range.
+//! A recording is read in pieces of 64 KiB into one list of levels, 2 bytes each. Its points are found in place, and counted by one
+//! run, which reserves 8 bytes for each point: a live point and a range. Nothing is done twice, and nothing is quadratic.
 #![tactic(auto)]
 
 mod command;
 mod counting;
 mod grid;
-mod reading;
+mod read;
+mod readings;
 mod refusal;
-mod sorted;
 mod status;
 mod table;
 mod top;

@@ -21,19 +21,24 @@ pub fn monitor<R: AllocGlobal, T: Site, O: Sink>(
     requires home { T.out site.old ≡ 0 }
 
     // What is printed.
-    ensures done { T.tells → O.tells → result ≡ Status.Done → (file : List ℕ) → command_of (map string_bytes words.now) ≡ Some (Table file) →
+    ensures done { T.tells → O.tells → result ≡ Status.Done →
+        (file : List ℕ) → command_of (map string_bytes words.now) ≡ Some (Table file) →
         Prints (T.files site.old file) (O.written out.old) (O.written out.new) }
-    ensures front { T.tells → O.tells → result ≡ Status.WriteFault → (file : List ℕ) → command_of (map string_bytes words.now) ≡ Some (Table file) →
+    ensures front { T.tells → O.tells → result ≡ Status.WriteFault →
+        (file : List ℕ) → command_of (map string_bytes words.now) ≡ Some (Table file) →
         PrintsPrefix (T.files site.old file) (O.written out.old) (O.written out.new) }
     ensures nothing { O.tells → result ≢ Status.Done → result ≢ Status.WriteFault →
         O.written out.new ≡ O.written out.old }
 
     // Which answer it is.
     ensures usage { (result ≡ Status.Usage) ↔ (command_of (map string_bytes words.now) ≡ None) }
-    ensures answer { T.tells → (file : List ℕ) → command_of (map string_bytes words.now) ≡ Some (Table file) →
+    ensures answer { T.tells →
+        (file : List ℕ) → command_of (map string_bytes words.now) ≡ Some (Table file) →
         AnswersFor (T.files site.old file) result }
-    ensures complete { T.tells → (file : List ℕ) → command_of (map string_bytes words.now) ≡ Some (Table file) →
-        ¬ Rose (T.faults site.old) (T.faults site.new) → ¬ Rose (O.faults out.old) (O.faults out.new) →
+    ensures complete { T.tells →
+        (file : List ℕ) → command_of (map string_bytes words.now) ≡ Some (Table file) →
+        ¬ Rose (T.faults site.old) (T.faults site.new) →
+        ¬ Rose (O.faults out.old) (O.faults out.new) →
         IsAnswerOf (T.files site.old file) result }
     ensures read { result ≡ Status.ReadFault → Rose (T.faults site.old) (T.faults site.new) }
     ensures write { result ≡ Status.WriteFault → Rose (O.faults out.old) (O.faults out.new) }

@@ -2,13 +2,13 @@ use Rattle.std.proofs.Common.{ℕ, ◌<◌, List, ◌++◌, Option, Err, sym, �
 use Rattle.outside.specs.Sink.{AppendsPrefix}
 use Rattle.monitor.specs.Printed.{Prints, PrintsPrefix}
 use Rattle.monitor.proofs.Refusals.{not_done, read_fault}
-use Rattle.monitor.proofs.TableText.{text_sorted}
+use Rattle.monitor.proofs.TableText.{text_of_readings}
 use Rattle.monitor.proofs.command.table_command.Goals as goal
 
 pub returns-in-Ok-read-clause-done : goal.returns-in-Ok-read-clause-done
 returns-in-Ok-read-clause-done g c = λ tells told is.
     let before = g.O.Sink.written c.args.out.now in
-    let text = text_sorted c.in-Ok-read.sorted (g.T.Src.Source.left c.in-Ok.src) (c.in-Ok-read.ensures.sorted (c.in-Ok.ensures.source_tells tells)) in
+    let text = text_of_readings c.in-Ok-read.readings (g.T.Src.Source.left c.in-Ok.src) (c.in-Ok-read.ensures.readings (c.in-Ok.ensures.source_tells tells)) in
     subst (λ (file : Option (List ℕ)). Prints file before (g.O.Sink.written c.print_table.new.out)) (sym (c.in-Ok.ensures.file tells))
     (c.print_table.ensures.done told is ∙ ap (λ (t : List ℕ). before ++ t) text)
 
@@ -16,7 +16,7 @@ pub returns-in-Ok-read-clause-front : goal.returns-in-Ok-read-clause-front
 returns-in-Ok-read-clause-front g c = λ tells told is.
     let before = g.O.Sink.written c.args.out.now in
     let now = g.O.Sink.written c.print_table.new.out in
-    let text = text_sorted c.in-Ok-read.sorted (g.T.Src.Source.left c.in-Ok.src) (c.in-Ok-read.ensures.sorted (c.in-Ok.ensures.source_tells tells)) in
+    let text = text_of_readings c.in-Ok-read.readings (g.T.Src.Source.left c.in-Ok.src) (c.in-Ok-read.ensures.readings (c.in-Ok.ensures.source_tells tells)) in
     subst (λ (file : Option (List ℕ)). PrintsPrefix file before now) (sym (c.in-Ok.ensures.file tells))
     (subst (λ (t : List ℕ). AppendsPrefix before now t) text (c.print_table.ensures.front told is))
 

@@ -9,7 +9,7 @@ half_units_of-requires c = record { below = subst (λ (l : List ℕ). Below 64 l
 
 pub returns : goal.returns
 returns c =
-    let used : c.len-used.result ≡ length c.args.sorted.levels.items = search rules in
+    let used : c.len-used.result ≡ length c.args.readings.levels.items = search rules in
     subst (λ (t : List ℕ). IfOk c.table_of.result (λ text. string_bytes text ≡ t))
-    (text_counted c.args.sorted _ c.in_ok-half_units.half_units refl used refl refl (search rules) (λ k inside. c.in_ok-half_units.ensures k inside ∙ ap (λ (h : List ℕ). half_units h k) c.deref_mut.ensures.value))
+    (text_counted c.args.readings _ c.in_ok-half_units.half_units refl used refl refl (search rules) (λ k inside. c.in_ok-half_units.ensures k inside ∙ ap (λ (h : List ℕ). half_units h k) c.deref_mut.ensures.value))
     c.table_of.ensures

@@ -11,8 +11,8 @@ use Rattle.recording.specs.declared.ends.FillEnd.TheVariants.{More, Ended, Torn}
 use Rattle.recording.proofs.SampleLists.{samples-drop, odd-drop, length-samples}
 use Rattle.calibration.specs.History.{history, missing_count, refused_count}
 use Rattle.monitor.specs.Printed.{table_grid, table_gain}
-use Rattle.monitor.specs.Sorted.{Adds, IsSorted, IsSortedUpTo}
-use Rattle.monitor.specs.declared.sorted.Sorted.{Sorted}
+use Rattle.monitor.specs.Readings.{Adds, AreReadings, AreReadingsUpTo}
+use Rattle.monitor.specs.declared.readings.Readings.{Readings}
 use Rattle.monitor.specs.Verdict.{Sound, Odd, Long, ended}
 
 history-append : (u v : List ℤ) → history table_grid table_gain (u ++ v) ≡ history table_grid table_gain u ++ history table_grid table_gain v
@@ -28,8 +28,8 @@ refused-append u v = sum_by-append _ u v
 abbrev Splits : List ℕ → List ℤ → List ℕ → Type 0
 Splits before read after = (samples before ≡ read ++ samples after) × (odd after ≡ odd before)
 
-pub sorted_more : (old new : Sorted) (bytes before after : List ℕ) (read : List ℤ) → IsSortedUpTo old bytes before → Splits before read after → Adds old new read → IsSortedUpTo new bytes after
-sorted_more old new bytes before after read s split a =
+pub readings_more : (old new : Readings) (bytes before after : List ℕ) (read : List ℤ) → AreReadingsUpTo old bytes before → Splits before read after → Adds old new read → AreReadingsUpTo new bytes after
+readings_more old new bytes before after read s split a =
     let e = split.0 in
     let h : history table_grid table_gain (samples before) ≡ history table_grid table_gain read ++ history table_grid table_gain (samples after) = ap (λ (w : List ℤ). history table_grid table_gain w) e ∙ history-append read (samples after) in
     let m : missing_count table_grid table_gain (samples before) ≡ missing_count table_grid table_gain read + missing_count table_grid table_gain (samples after) = ap (λ (w : List ℤ). missing_count table_grid table_gain w) e ∙ missing-append read (samples after) in
@@ -68,8 +68,8 @@ filled_more room n buf before after same t =
         grind (arith, nat_tests, enough, count)
 
 -- the last piece
-pub sorted_all : (old new : Sorted) (bytes before : List ℕ) (read : List ℤ) → IsSortedUpTo old bytes before → read ≡ samples before → Adds old new read → IsSorted new (samples bytes)
-sorted_all old new bytes before read s e a = record {
+pub all_readings : (old new : Readings) (bytes before : List ℕ) (read : List ℤ) → AreReadingsUpTo old bytes before → read ≡ samples before → Adds old new read → AreReadings new (samples bytes)
+all_readings old new bytes before read s e a = record {
   levels = a.levels ∙ ap (λ (w : List ℤ). old.levels.items ++ history table_grid table_gain w) e ∙ sym s.levels;
   missing = a.missing ∙ ap (λ (w : List ℤ). old.missing + missing_count table_grid table_gain w) e ∙ sym s.missing;
   refused = a.refused ∙ ap (λ (w : List ℤ). old.refused + refused_count table_grid table_gain w) e ∙ sym s.refused;
@@ -118,7 +118,7 @@ filled_torn room n bytes buf before after same t =
     record { read = (finished room n buf before same t.count three.0).read; odds_are = sym three.2; some = grind (arith, nat_tests, some, three.2) }
 
 -- how many samples there are at least
-pub counted : (old new : Sorted) (n : ℕ) (buf : List ℤ) (bytes before : List ℕ) → IsSortedUpTo old bytes before → SameFirst n buf (samples before) → Adds old new (take n buf) → new.samples ≤ length (samples bytes)
+pub counted : (old new : Readings) (n : ℕ) (buf : List ℤ) (bytes before : List ℕ) → AreReadingsUpTo old bytes before → SameFirst n buf (samples before) → Adds old new (take n buf) → new.samples ≤ length (samples bytes)
 counted old new n buf bytes before s same a =
     let few : length (take n buf) ≤ length (samples before) = subst (λ (l : List ℤ). length l ≤ length (samples before)) (sym same.1) (omega (arith, length-take n (samples before))) in
     omega (arith, s.samples, a.samples, few)
@@ -134,12 +134,12 @@ pub ends_long : (body : List ℕ) (count : ℕ) → count ≤ length (samples bo
 ends_long body count many long = grind (arith, nat_tests, many, long)
 
 -- After a piece, with the end that it had.
-module _ (old new : Sorted) (bytes before after : List ℕ) (room n : ℕ) (end : FillEnd) (buf : List ℤ) (s : IsSortedUpTo old bytes before) (same : SameFirst n buf (samples before)) (t : Takes room before n end after) (a : Adds old new (take n buf)) where
-  pub going_on : end ≡ More → IsSortedUpTo new bytes after
-  going_on is = sorted_more old new bytes before after (take n buf) s (filled_more room n buf before after same (subst (λ (e : FillEnd). Takes room before n e after) is t)) a
+module _ (old new : Readings) (bytes before after : List ℕ) (room n : ℕ) (end : FillEnd) (buf : List ℤ) (s : AreReadingsUpTo old bytes before) (same : SameFirst n buf (samples before)) (t : Takes room before n end after) (a : Adds old new (take n buf)) where
+  pub going_on : end ≡ More → AreReadingsUpTo new bytes after
+  going_on is = readings_more old new bytes before after (take n buf) s (filled_more room n buf before after same (subst (λ (e : FillEnd). Takes room before n e after) is t)) a
 
-  pub at_end : end ≡ Ended → IsSorted new (samples bytes)
-  at_end is = sorted_all old new bytes before (take n buf) s (filled_last room n buf before after same (subst (λ (e : FillEnd). Takes room before n e after) is t)).read a
+  pub at_end : end ≡ Ended → AreReadings new (samples bytes)
+  at_end is = all_readings old new bytes before (take n buf) s (filled_last room n buf before after same (subst (λ (e : FillEnd). Takes room before n e after) is t)).read a
 
   pub sound : end ≡ Ended → new.samples ≤ 2 ^ 40 - 1 → ended bytes ≡ Sound
   sound is few =
@@ -149,7 +149,7 @@ module _ (old new : Sorted) (bytes before after : List ℕ) (room n : ℕ) (end 
   pub torn : (odds : ℕ) → end ≡ Torn odds → new.samples ≤ 2 ^ 40 - 1 → ended bytes ≡ Odd odds
   torn odds is few =
       let last = filled_torn room n odds buf before after same (subst (λ (e : FillEnd). Takes room before n e after) is t) in
-      ends_odd bytes new.samples odds (sorted_all old new bytes before (take n buf) s last.read a).samples few (s.odd_bytes ∙ last.odds_are) last.some
+      ends_odd bytes new.samples odds (all_readings old new bytes before (take n buf) s last.read a).samples few (s.odd_bytes ∙ last.odds_are) last.some
 
   pub long : 2 ^ 40 - 1 < new.samples → ended bytes ≡ Long
   long more = ends_long bytes new.samples (counted old new n buf bytes before s same a) more

@@ -1,7 +1,7 @@
 use Rattle.std.proofs.Common.{◌≡◌, ◌+◌, ◌≤◌, ◌++◌, length, vec_len, vec_capacity}
 use Rattle.calibration.specs.History.{history, missing_count, refused_count}
 use Rattle.monitor.specs.Printed.{table_grid, table_gain}
-use Rattle.monitor.proofs.sorted.Sorted.take.Given as goal
+use Rattle.monitor.proofs.readings.Readings.take.Given as goal
 
 -- what was taken, and what is left, is the whole
 abbrev pub invariant-loop-rest : goal.invariant-loop-rest

@@ -4,13 +4,13 @@ ghost use Rattle.recording.specs.Samples.{samples};
 ghost use Rattle.monitor.specs.Verdict.{ended, verdict};
 ghost use Rattle.monitor.specs.Within.{Below};
 ghost use Rattle.monitor.specs.Answer.{Judges};
-ghost use Rattle.monitor.specs.Sorted.{IsSorted};
+ghost use Rattle.monitor.specs.Readings.{AreReadings};
 ghost use Rattle.monitor.specs.declared.refusal.Refusal.TheVariants.{Fault};
 
 use crate::RecordingFault;
 use crate::grid::table_classifier;
+use crate::readings::Readings;
 use crate::refusal::Refusal;
-use crate::sorted::Sorted;
 use outside::Source;
 use recording::{FillEnd, HeadFault, fill, read_head};
 use std::alloc::Global;
@@ -21,9 +21,9 @@ const MAX_SAMPLES: u64 = (1 << 40) - 1;
 // Samples that are read at once: 64 KiB. Larger pieces read no faster.
 const PIECE: usize = 16384;
 
-/// Reads a recording to its end, and sorts its samples by the grid of `table`.
-pub fn read_recording<S: Source>(alloc: Global, src: &mut S) -> Result<Sorted, Refusal>
-    ensures sorted { S.tells → IfOk result (λ s. IsSorted s (samples (drop 32 (S.left src.old)))) }
+/// Reads a recording to its end, and puts its samples into the classes of `table`.
+pub fn read_recording<S: Source>(alloc: Global, src: &mut S) -> Result<Readings, Refusal>
+    ensures readings { S.tells → IfOk result (λ s. AreReadings s (samples (drop 32 (S.left src.old)))) }
     ensures below { IfOk result (λ s. Below 64 s.levels.items) }
     ensures judged { S.tells → Judges result (verdict (S.left src.old)) }
     ensures fault { result ≡ Err Fault → Rose (S.faults src.old) (S.faults src.new) }
@@ -39,26 +39,26 @@ pub fn read_recording<S: Source>(alloc: Global, src: &mut S) -> Result<Sorted, R
     }
 }
 
-// Reads and sorts all samples that are left.
-fn read_samples<S: Source>(alloc: Global, src: &mut S) -> Result<Sorted, Refusal>
-    ensures sorted { S.tells → IfOk result (λ s. IsSorted s (samples (S.left src.old))) }
+// The readings of all samples that are left.
+fn read_samples<S: Source>(alloc: Global, src: &mut S) -> Result<Readings, Refusal>
+    ensures readings { S.tells → IfOk result (λ s. AreReadings s (samples (S.left src.old))) }
     ensures below { IfOk result (λ s. Below 64 s.levels.items) }
     ensures judged { S.tells → Judges result (ended (S.left src.old)) }
     ensures fault { result ≡ Err Fault → Rose (S.faults src.old) (S.faults src.new) }
     ensures later { S.faults src.old ≤ S.faults src.new }
 {
     let classifier = table_classifier();
-    let mut sorted = Sorted::new(alloc);
+    let mut readings = Readings::new(alloc);
     let mut piece = [0; PIECE];
     for _ in 0..u64::MAX {
         let filled = fill(src, &mut piece);
-        sorted.take(&classifier, &piece[..filled.n])?;
-        if sorted.samples > MAX_SAMPLES {
+        readings.take(&classifier, &piece[..filled.n])?;
+        if readings.samples > MAX_SAMPLES {
             return Err(Refusal::TooLong);
         }
         match filled.end {
             FillEnd::More => {}
-            FillEnd::Ended => return Ok(sorted),
+            FillEnd::Ended => return Ok(readings),
             FillEnd::Torn(bytes) => return Err(Refusal::Odd(bytes)),
             FillEnd::Failed => return Err(Refusal::Fault),
         }

@@ -6,23 +6,23 @@ use std::alloc::{AllocError, Global};
 
 /// The samples of a recording: the levels of those that have one, and the numbers of the others.
 #[derive(Drop)]
-pub struct Sorted {
+pub struct Readings {
     pub levels: Vec<u16>,
     pub samples: u64,
     pub missing: u64,
     pub refused: u64,
 }
 
-impl Sorted {
-    ghost use Rattle.monitor.specs.Sorted.{Adds};
+impl Readings {
+    ghost use Rattle.monitor.specs.Readings.{Adds};
 
-    pub fn new(alloc: Global) -> Sorted
+    pub fn new(alloc: Global) -> Readings
         ensures levels { result.levels.items ≡ [] }
         ensures samples { result.samples ≡ 0 }
         ensures missing { result.missing ≡ 0 }
         ensures refused { result.refused ≡ 0 }
     {
-        Sorted {
+        Readings {
             levels: Vec::new(alloc),
             samples: 0,
             missing: 0,
