@@ -1,0 +1,44 @@
+use Rattle.std.proofs.Common.{refl, ◌∙◌, subst, arith, ◌++◌}
+use Rattle.std.proofs.lemmas.List.{take_all}
+use Rattle.turning_points.specs.Points.{points}
+use Rattle.tally.specs.Counts.{count_of}
+use Rattle.four_point.specs.Residue.{Closes}
+use Rattle.four_point.proofs.Index.{residue_bound}
+use Rattle.residue_join.proofs.Joined.{closes_none, length_none, closes_one_more, length_one_more, joined_results}
+use Rattle.residue_join.proofs.join.join_residue.Goals as goal
+
+pub loop-level-init : goal.loop-level-init
+loop-level-init c =
+    let own = c.residue-left.ensures.shape.own in
+    record {
+      step = closes_none _ _ own;
+      shape = c.residue-left.ensures.shape;
+      lengths = omega (arith, length_none _ own);
+      room = omega arith;
+      classes = refl;
+      tally_classes = refl;
+    }
+
+pub loop-level-preserved : goal.loop-level-preserved
+loop-level-preserved c =
+    let l = c.args.left.now.residue in
+    let i = c.loop-level.level-index in
+    let v = c.loop-level.invariant in
+    record {
+      step = closes_one_more l c.args.right.now i _ c.loop-level-test.true refl _ _ _ _ _ v.step c.push.ensures.step;
+      shape = c.push.ensures.shape;
+      lengths = omega (arith, v.lengths, c.push.ensures.lengths, length_one_more l c.args.right.now i _ c.loop-level-test.true refl _ _ _ v.step);
+      room = omega (arith, v.room, c.push.ensures.room);
+      classes = c.push.ensures.classes ∙ v.classes;
+      tally_classes = c.push.ensures.tally_classes ∙ v.tally_classes;
+    }
+
+pub returns-clause-result : goal.returns-clause-result
+returns-clause-result c =
+    let v = c.loop-level.invariant in
+    let all = take_all c.loop-level.level-index c.args.right.now c.loop-level-test.false in
+    let pushed = subst (λ k. Closes (points (c.args.left.now.residue ++ k)) (count_of c.args.tally.now.cells) c.loop-level.left.residue (count_of c.loop-level.tally.cells)) all v.step in
+    λ u w d e a b. joined_results u w d e _ _ _ _ _ a b pushed v.shape.rests
+
+pub returns-clause-bound : goal.returns-clause-bound
+returns-clause-bound c = residue_bound _ _ c.loop-level.invariant.shape
