@@ -2,7 +2,7 @@
 use Rattle.std.proofs.Common.{◌≡◌, refl}
 use Rattle.monitor.specs.declared.refusal.Refusal.{Refusal}
 use Rattle.monitor.specs.declared.refusal.Refusal.TheVariants as refusal
-use Rattle.monitor.specs.declared.status.Status.TheVariants.{Done, WriteFault, ReadFault}
+use Rattle.monitor.specs.declared.status.Status.TheVariants.{Done, ReadFault}
 use Rattle.monitor.specs.Answer.{status_of}
 
 pub not_done : (e : Refusal) → status_of e ≡ Done → ⊥
@@ -11,13 +11,6 @@ not_done (refusal.Odd bytes) is = cc
 not_done refusal.TooLong is = cc
 not_done refusal.Fault is = cc
 not_done refusal.Memory is = cc
-
-pub not_written : (e : Refusal) → status_of e ≡ WriteFault → ⊥
-not_written (refusal.Head fault) is = cc
-not_written (refusal.Odd bytes) is = cc
-not_written refusal.TooLong is = cc
-not_written refusal.Fault is = cc
-not_written refusal.Memory is = cc
 
 -- only a fault of the source is a read fault
 pub read_fault : (e : Refusal) → status_of e ≡ ReadFault → e ≡ refusal.Fault
