@@ -5,11 +5,13 @@
 //! round down. `specs/History.antt` has the level history of a list of raw values.
 //!
 //! The code joins the two floors into one, `floor((raw * num + (offset - low) * den) / (den * width))`, all in
-//! 64 bits, and divides by a multiplication with the divisor's inverse. The remainder shows whether the
-//! quotient is one short. A `Classifier` keeps the numbers that a gain and a grid determine: make one for a
-//! block of samples. `level` is the same for one raw value.
+//! 64 bits. The dividend is first compared with the width of all classes, which refuses both sides at once, and
+//! is then below 128 times the divisor. So two multiplications and a shift by a fixed number give the exact
+//! quotient: the first makes the divisor one of nearly 49 bits, the second is by 2^112 over that. A `Classifier`
+//! keeps the numbers that a gain and a grid determine: make one for a block of samples. `level` is the same for
+//! one raw value.
 //!
-//! Cost: `Classifier::new` one division, `Classifier::level` three multiplications and no division.
+//! Cost: `Classifier::new` two divisions, `Classifier::level` three multiplications and no division.
 #![tactic(auto)]
 
 mod classifier;
