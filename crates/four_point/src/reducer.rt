@@ -1,7 +1,7 @@
 ghost use Rattle.std.specs.Prelude.{◌≡◌, ℕ, ◌+◌, ◌*◌, ◌-◌, ◌^◌, ◌<◌, ◌≤◌, ◌↔◌, ◌++◌, ◌∷◌, [], List, IfOk, IsTrue, MatchBool, length};
 ghost use Rattle.turning_points.specs.Points.{points};
 ghost use Rattle.tally.specs.Counts.{count_of, total_of};
-ghost use Rattle.four_point.specs.Reduction.{Result};
+ghost use Rattle.four_point.specs.Reduction.{IsFourPointResult};
 
 use crate::stack::{is_residue, push, put_first};
 use std::alloc::{AllocError, Global};
@@ -29,7 +29,7 @@ impl Model for Reducer {
 }
 
 impl Reducer {
-    ghost use Rattle.four_point.specs.Residue.{Closes, IsResidue};
+    ghost use Rattle.four_point.specs.Residue.{AddsCycles, IsResidue};
 
     /// A reducer with an empty residue. Reserves room for `2 * classes` levels, which is all that it ever needs.
     pub fn new(alloc: Global, classes: u16) -> Result<Reducer, AllocError>
@@ -67,11 +67,11 @@ impl Reducer {
         requires total { total_of tally.old.cells + length self.old.residue ≤ 2 ^ 63 }
 
         // Where the residue was that of a history, it is that of the history with this level.
-        ensures result { (h : List ℕ) (c : ℕ → ℕ → ℕ) → Result (points h) c self.old.residue →
-            Result (points (h ++ level ∷ []))
+        ensures result { (h : List ℕ) (c : ℕ → ℕ → ℕ) → IsFourPointResult (points h) c self.old.residue →
+            IsFourPointResult (points (h ++ level ∷ []))
             (λ lo hi. c lo hi + (count_of tally.new.cells lo hi - count_of tally.old.cells lo hi))
             self.new.residue }
-        ensures step { Closes (points (self.old.residue ++ level ∷ [])) (count_of tally.old.cells)
+        ensures step { AddsCycles (points (self.old.residue ++ level ∷ [])) (count_of tally.old.cells)
             self.new.residue (count_of tally.new.cells) }
         ensures shape { IsResidue self.new.classes self.new.residue }
         ensures bound { length self.new.residue ≤ 2 * self.new.classes - 1 }

@@ -2,10 +2,10 @@ ghost use Rattle.std.specs.Prelude.{◌≡◌, ◌+◌, ◌*◌, ◌-◌, ◌^�
 ghost use Rattle.turning_points.specs.Points.{is_turn, points};
 ghost use Rattle.turning_points.specs.Pairs.{range};
 ghost use Rattle.tally.specs.Counts.{count_of, total_of};
-ghost use Rattle.four_point.specs.Residue.{Closes, IsCalmBelow, IsResidue, IsResidueBelow};
+ghost use Rattle.four_point.specs.Residue.{AddsCycles, HasNoCycleBelow, IsResidue, IsResidueBelow};
 
 use tally::Tally;
-use turning_points::goes_on;
+use turning_points::is_between;
 
 /// Whether the inner two of four points are one full cycle.
 // Points rise and fall in turn, so the two are not further apart than either of their neighbours' distances exactly
@@ -35,7 +35,7 @@ fn extend(levels: &mut [u16], len: usize, level: u16) -> usize
     if levels[len - 1] == level {
         return len;
     }
-    if len >= 2 && goes_on(levels[len - 2], levels[len - 1], level) {
+    if len >= 2 && is_between(levels[len - 2], levels[len - 1], level) {
         levels[len - 1] = level;
         return len;
     }
@@ -45,18 +45,18 @@ fn extend(levels: &mut [u16], len: usize, level: u16) -> usize
 
 /// Deletes cycles from the end of the first `len` levels, and says how many levels are left.
 #[inline(always)]
-fn settle(levels: &mut [u16], mut len: usize, tally: &mut Tally) -> usize
+fn delete_cycles(levels: &mut [u16], mut len: usize, tally: &mut Tally) -> usize
     requires within { len ≤ length levels.old }
     requires below { All (λ level. level < tally.old.classes) (take len levels.old) }
     requires points { points (take len levels.old) ≡ take len levels.old }
-    requires calm { IsCalmBelow levels.old (len - 1) }
+    requires calm { HasNoCycleBelow levels.old (len - 1) }
     requires total { total_of tally.old.cells + len ≤ 2 ^ 63 + 1 }
     ensures within { result ≤ len }
-    ensures cycles { Closes (take len levels.old) (count_of tally.old.cells)
+    ensures cycles { AddsCycles (take len levels.old) (count_of tally.old.cells)
         (take result levels.new) (count_of tally.new.cells) }
     ensures below { All (λ level. level < tally.old.classes) (take result levels.new) }
     ensures points { points (take result levels.new) ≡ take result levels.new }
-    ensures calm { IsCalmBelow levels.new result }
+    ensures calm { HasNoCycleBelow levels.new result }
     ensures lengths { 2 * total_of tally.new.cells + result ≡ 2 * total_of tally.old.cells + len }
     ensures classes { tally.new.classes ≡ tally.old.classes }
 {
@@ -86,7 +86,7 @@ pub fn push(levels: &mut [u16], len: usize, level: u16, tally: &mut Tally) -> us
     requires level { level < tally.old.classes }
     requires total { total_of tally.old.cells + len ≤ 2 ^ 63 }
     ensures within { result ≤ length levels.new }
-    ensures step { Closes (points (take len levels.old ++ level ∷ [])) (count_of tally.old.cells)
+    ensures step { AddsCycles (points (take len levels.old ++ level ∷ [])) (count_of tally.old.cells)
         (take result levels.new) (count_of tally.new.cells) }
     ensures residue { IsResidue tally.old.classes (take result levels.new) }
     ensures lengths { 2 * total_of tally.new.cells + result
@@ -95,7 +95,7 @@ pub fn push(levels: &mut [u16], len: usize, level: u16, tally: &mut Tally) -> us
     ensures classes { tally.new.classes ≡ tally.old.classes }
 {
     let longer = extend(levels, len, level);
-    settle(levels, longer, tally)
+    delete_cycles(levels, longer, tally)
 }
 
 /// Whether the level at `i` goes on a residue, the levels before it.
@@ -118,7 +118,7 @@ fn goes_behind(levels: &[u16], i: usize, classes: u16) -> bool
     if i == 1 {
         return true;
     }
-    if goes_on(levels[i - 2], last, level) {
+    if is_between(levels[i - 2], last, level) {
         return false;
     }
     i == 2 || !is_cycle(levels[i - 3], levels[i - 2], last, level)

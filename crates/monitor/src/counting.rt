@@ -1,7 +1,7 @@
 ghost use Rattle.std.specs.Prelude.{◌≡◌, ℕ, ◌+◌, ◌^◌, ◌<◌, ◌≤◌, [], length, slice_index, IfOk, string_bytes};
 ghost use Rattle.turning_points.specs.Points.{points};
-ghost use Rattle.three_point.specs.Run.{half_units, range_units, run};
-ghost use Rattle.three_point.specs.Ranges.{all_listed};
+ghost use Rattle.three_point.specs.Run.{half_units, half_units_at_range, run};
+ghost use Rattle.three_point.specs.Ranges.{counted_ranges};
 ghost use Rattle.monitor.specs.Table.{table_text};
 ghost use Rattle.monitor.specs.Counts.{figures_in};
 ghost use Rattle.monitor.specs.Within.{Below, Within};
@@ -44,7 +44,7 @@ fn half_units_of(alloc: Global, levels: &mut [u16]) -> Result<[u64; CLASSES as u
 
 // The ranges of a level history, as the three-point count lists them. The points take the place of the levels.
 fn ranges_of(alloc: Global, levels: &mut [u16]) -> Result<Ranges, AllocError>
-    ensures { IfOk result (λ ranges. all_listed ranges ≡ run [] (points levels.old)) }
+    ensures { IfOk result (λ ranges. counted_ranges ranges ≡ run [] (points levels.old)) }
 {
     let count = keep_points(levels);
     astm(alloc, &levels[..count])
@@ -52,10 +52,10 @@ fn ranges_of(alloc: Global, levels: &mut [u16]) -> Result<Ranges, AllocError>
 
 // Adds the half units of each range at the place of its length.
 fn add_half_units(ranges: &[Range], half_units: &mut [u64])
-    requires within { Within (length half_units.old) (all_listed ranges.now) }
+    requires within { Within (length half_units.old) (counted_ranges ranges.now) }
     requires zero { (k : ℕ) → slice_index half_units.old k ≡ 0 }
     ensures { (k : ℕ) → k < length half_units.old →
-        slice_index half_units.new k ≡ range_units k (all_listed ranges.now) }
+        slice_index half_units.new k ≡ half_units_at_range k (counted_ranges ranges.now) }
 {
     for range in ranges {
         add_range(*range, half_units);

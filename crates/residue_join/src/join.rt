@@ -1,8 +1,8 @@
 ghost use Rattle.std.specs.Prelude.{◌≡◌, ℕ, ◌+◌, ◌*◌, ◌-◌, ◌^◌, ◌≤◌, ◌++◌, List, length};
 ghost use Rattle.turning_points.specs.Points.{points};
 ghost use Rattle.tally.specs.Counts.{count_of, total_of};
-ghost use Rattle.four_point.specs.Reduction.{Result};
-ghost use Rattle.four_point.specs.Residue.{Closes, IsResidue};
+ghost use Rattle.four_point.specs.Reduction.{IsFourPointResult};
+ghost use Rattle.four_point.specs.Residue.{AddsCycles, IsResidue};
 
 use four_point::Reducer;
 use tally::Tally;
@@ -16,11 +16,11 @@ pub fn join_residue(left: &mut Reducer, right: &[u16], tally: &mut Tally)
 
     // Where the two were the residues of histories, the left one is that of their concatenation.
     ensures result { (u v : List ℕ) (c d : ℕ → ℕ → ℕ) →
-        Result (points u) c left.old.residue → Result (points v) d right.now →
-        Result (points (u ++ v))
+        IsFourPointResult (points u) c left.old.residue → IsFourPointResult (points v) d right.now →
+        IsFourPointResult (points (u ++ v))
         (λ lo hi. c lo hi + d lo hi + (count_of tally.new.cells lo hi - count_of tally.old.cells lo hi))
         left.new.residue }
-    ensures step { Closes (points (left.old.residue ++ right.now)) (count_of tally.old.cells)
+    ensures step { AddsCycles (points (left.old.residue ++ right.now)) (count_of tally.old.cells)
         left.new.residue (count_of tally.new.cells) }
     ensures shape { IsResidue left.new.classes left.new.residue }
     ensures bound { length left.new.residue ≤ 2 * left.new.classes - 1 }

@@ -1,14 +1,14 @@
 -- The ranges and the live points of the code, as the definitions have them.
 use Rattle.std.specs.Prelude.{ℕ, ◌-◌, ◌≤◌, List, length, map, slice_index}
 use Rattle.turning_points.specs.Pairs.{range}
-use Rattle.three_point.specs.Run.{Listed}
+use Rattle.three_point.specs.Run.{CountedRange}
 use Rattle.three_point.specs.declared.ranges.Range.{Range}
 
-abbrev pub listed_of : Range → Listed
-listed_of r = record { pair = record { lo = r.lo; hi = r.hi }; halves = r.halves }
+abbrev pub counted_range_of : Range → CountedRange
+counted_range_of r = record { pair = record { lo = r.lo; hi = r.hi }; halves = r.halves }
 
-abbrev pub all_listed : List Range → List Listed
-all_listed ranges = map listed_of ranges
+abbrev pub counted_ranges : List Range → List CountedRange
+counted_ranges ranges = map counted_range_of ranges
 
 -- Of three points, the two newest of the live points s and z, which is read, make the ranges X and Y with X >= Y.
 abbrev pub IsReached : List ℕ → ℕ → Type 0

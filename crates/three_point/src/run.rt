@@ -1,7 +1,7 @@
 ghost use Rattle.std.specs.Prelude.{◌≡◌, ℕ, ◌+◌, ◌<◌, ◌≤◌, ◌↔◌, ◌++◌, [], List, length, take, reverse, IsTrue, IfOk, vec_len, vec_capacity};
 ghost use Rattle.turning_points.specs.Points.{points as points_of};
-ghost use Rattle.three_point.specs.Run.{listed, settle as settled, lists, rest, run};
-ghost use Rattle.three_point.specs.Ranges.{listed_of, all_listed, IsReached};
+ghost use Rattle.three_point.specs.Run.{counted_range, live_after, ranges_counted, run};
+ghost use Rattle.three_point.specs.Ranges.{counted_range_of, counted_ranges, IsReached};
 
 use crate::ranges::{Range, Ranges};
 use std::alloc::{AllocError, Global};
@@ -12,7 +12,7 @@ use std::alloc::{AllocError, Global};
 /// Takes memory twice: room for the answer and for the live points. Time is in proportion to the number of points.
 pub fn astm(alloc: Global, points: &[u16]) -> Result<Ranges, AllocError>
     requires { points_of points.now ≡ points.now }
-    ensures { IfOk result (λ ranges. all_listed ranges ≡ run [] points.now) }
+    ensures { IfOk result (λ ranges. counted_ranges ranges ≡ run [] points.now) }
 {
     let mut ranges = Vec::with_capacity(alloc, points.len())?;
     let mut live = Vec::with_capacity(alloc, points.len())?;
@@ -29,8 +29,8 @@ pub fn astm(alloc: Global, points: &[u16]) -> Result<Ranges, AllocError>
 fn read(live: &mut Vec<u16>, point: u16, ranges: &mut Vec<Range>)
     requires room { vec_len live.old < vec_capacity live.old }
     requires reserved { vec_len live.old + vec_len ranges.old < vec_capacity ranges.old }
-    ensures live { reverse live.new.items ≡ settled point (reverse live.old.items) }
-    ensures counted { all_listed ranges.new.items ≡ all_listed ranges.old.items ++ lists point (reverse live.old.items) }
+    ensures live { reverse live.new.items ≡ live_after point (reverse live.old.items) }
+    ensures counted { counted_ranges ranges.new.items ≡ counted_ranges ranges.old.items ++ ranges_counted point (reverse live.old.items) }
     ensures fewer { vec_len live.new + vec_len ranges.new ≤ vec_len live.old + 1 + vec_len ranges.old }
     ensures room { vec_capacity live.new ≡ vec_capacity live.old }
     ensures reserved { vec_capacity ranges.new ≡ vec_capacity ranges.old }
@@ -63,7 +63,7 @@ fn closes(live: &[u16], point: u16) -> bool
 
 /// So many half units of the range between two points.
 fn counted(x: u16, y: u16, halves: u8) -> Range
-    ensures { listed_of result ≡ listed x y halves }
+    ensures { counted_range_of result ≡ counted_range x y halves }
 {
     if x < y {
         Range {

@@ -17,6 +17,6 @@ mod in_place;
 mod tests;
 mod turner;
 
-pub use direction::goes_on;
+pub use direction::is_between;
 pub use in_place::keep_points;
 pub use turner::Turner;

@@ -2,7 +2,7 @@ use Rattle.std.proofs.Common.{refl, ◌∙◌, subst, arith, ◌++◌}
 use Rattle.std.proofs.lemmas.List.{take_all}
 use Rattle.turning_points.specs.Points.{points}
 use Rattle.tally.specs.Counts.{count_of}
-use Rattle.four_point.specs.Residue.{Closes}
+use Rattle.four_point.specs.Residue.{AddsCycles}
 use Rattle.four_point.proofs.Index.{residue_bound}
 use Rattle.residue_join.proofs.Joined.{closes_none, length_none, closes_one_more, length_one_more, joined_results}
 use Rattle.residue_join.proofs.join.join_residue.Goals as goal
@@ -37,8 +37,8 @@ pub returns-clause-result : goal.returns-clause-result
 returns-clause-result c =
     let v = c.loop-level.invariant in
     let all = take_all c.loop-level.level-index c.args.right.now c.loop-level-test.false in
-    let pushed = subst (λ k. Closes (points (c.args.left.now.residue ++ k)) (count_of c.args.tally.now.cells) c.loop-level.left.residue (count_of c.loop-level.tally.cells)) all v.step in
-    λ u w d e a b. joined_results u w d e _ _ _ _ _ a b pushed v.shape.rests
+    let pushed = subst (λ k. AddsCycles (points (c.args.left.now.residue ++ k)) (count_of c.args.tally.now.cells) c.loop-level.left.residue (count_of c.loop-level.tally.cells)) all v.step in
+    λ u w d e a b. joined_results u w d e _ _ _ _ _ a b pushed v.shape.irreducible
 
 pub returns-clause-bound : goal.returns-clause-bound
 returns-clause-bound c = residue_bound _ _ c.loop-level.invariant.shape

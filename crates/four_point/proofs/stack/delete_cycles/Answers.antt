@@ -1,7 +1,7 @@
 use Rattle.std.proofs.Common.{◌-◌, ℕ, refl, arith, length-set}
 use Rattle.turning_points.proofs.Over.{own, zig_own}
 use Rattle.four_point.proofs.Stacked.{closes_none, closes_added, zig_more, last_turns, turn_test, turn_parts, below_at, below_set, calm_set}
-use Rattle.four_point.proofs.stack.settle.Goals as goal
+use Rattle.four_point.proofs.stack.delete_cycles.Goals as goal
 
 pub loop-len-init : goal.loop-len-init
 loop-len-init c = record {
