@@ -1,0 +1,160 @@
+#!/bin/sh
+# Tries the script `monitor` on a small checkout of its own, with a stand-in for the kit's command `rt`.
+# Last line: script: N passed, M failed
+set -u
+unset CDPATH
+here=$(cd -- "$(dirname -- "$0")" && pwd)
+room=$(mktemp -d) || exit 1
+trap 'rm -rf "$room"' EXIT
+passed=0
+failed=0
+
+# check NAME WANTED GOT
+check() {
+    if [ "$2" = "$3" ]; then
+        passed=$((passed + 1))
+    else
+        failed=$((failed + 1))
+        printf 'script: %s: wanted "%s", got "%s"\n' "$1" "$2" "$3"
+    fi
+}
+
+# The stand-in makes a program that prints its words and ends with status 3, and notes each build.
+mkdir -p "$room/kit/bin" "$room/caller"
+echo 'stand-in 1' >"$room/kit/KIT-ID"
+cat >"$room/kit/bin/rt" <<'RT'
+#!/bin/sh
+echo build >>"$NOTES"
+echo 'crate low: modules loaded=0 checked=1'
+echo 'crate monitor_main: modules loaded=0 checked=1'
+eval "${DURING:-:}"
+mkdir -p out
+printf '#!/bin/sh\nprintf "%%s|" ran "$@"\nexit 3\n' >out/monitor_main
+chmod +x out/monitor_main
+RT
+chmod +x "$room/kit/bin/rt"
+NOTES=$room/notes
+export NOTES
+kit=$room/kit/bin:/usr/bin:/bin
+bare=/usr/bin:/bin
+
+# A fresh checkout at $top, with a blank in its path.
+top="$room/check out"
+fresh() {
+    rm -rf "$top"
+    mkdir -p "$top/crates/low/src" "$top/crates/low/specs" "$top/crates/monitor_main/src" "$top/crates/apart/src"
+    cp "$here/../monitor" "$top/monitor"
+    printf 'low:\napart: low\n# the program\nmonitor_main: low # stands on low\n' >"$top/crates.txt"
+    echo 'fn low() {}' >"$top/crates/low/src/lib.rt"
+    echo 'abbrev' >"$top/crates/low/specs/Low.antt"
+    echo 'fn main() {}' >"$top/crates/monitor_main/src/main.rt"
+    echo 'fn apart() {}' >"$top/crates/apart/src/lib.rt"
+}
+
+# run PATH WORDS..: standard output and the status, in the caller's folder; standard error goes to $room/told
+run() {
+    path=$1
+    shift
+    (cd "$room/caller" && PATH=$path "$command" "$@" 2>"$room/told")
+    echo "$?"
+}
+
+# builds NAME WANTED: runs once more, and says whether it was built anew
+builds() {
+    : >"$NOTES"
+    check "$1: the program runs" 'ran|3' "$(run "$kit")"
+    check "$1: builds" "$2" "$(wc -l <"$NOTES" | tr -d ' ')"
+}
+
+command="$top/monitor"
+fresh
+check 'first use' 'ran|table|a b|3' "$(run "$kit" table 'a b')"
+check 'progress' '3' "$(wc -l <"$room/told" | tr -d ' ')"
+check 'progress names each crate' 'monitor: proved monitor_main' "$(tail -n 1 "$room/told")"
+builds 'again' 0
+
+# however it is called
+ln -s "$top/monitor" "$room/linked"
+command="$room/linked"
+builds 'through a link' 0
+command="$top/monitor"
+mkdir -p "$room/elsewhere/crates" "$room/caller/crates"
+CDPATH=$room/elsewhere
+export CDPATH
+builds 'with CDPATH' 0
+unset CDPATH
+(cd "$top" && PATH=$kit sh monitor x >"$room/printed" 2>/dev/null)
+check 'by sh, in its own folder' 'ran|x|' "$(cat "$room/printed")"
+
+# what the program is made of
+echo 'fn low() { }' >"$top/crates/low/src/lib.rt"
+builds 'a changed source' 1
+echo 'abbrev two' >"$top/crates/low/specs/Two.antt"
+builds 'a new source' 1
+rm "$top/crates/low/specs/Two.antt"
+builds 'a deleted source' 1
+printf 'low:\napart: low\nmonitor_main: low apart\n' >"$top/crates.txt"
+builds 'a changed crates.txt' 1
+fresh
+builds 'a fresh checkout' 1
+echo 'fn apart() { }' >"$top/crates/apart/src/lib.rt"
+builds 'a source of another crate' 0
+echo '# a remark' >>"$top/crates.txt"
+builds 'a remark in crates.txt' 0
+mkdir -p "$top/crates/low/must-fail"
+echo 'file: src/lib.rt' >"$top/crates/low/must-fail/wrong.edit"
+builds 'an edit' 0
+touch -d '2100-01-01' "$top/crates/low/src/lib.rt"
+builds 'a clock in the future' 0
+touch -d '2100-01-01' "$top/crates/monitor_main/out/monitor_main"
+echo 'fn low() {  }' >"$top/crates/low/src/lib.rt"
+builds 'a change, and a program from the future' 1
+echo 'stand-in 2' >"$room/kit/KIT-ID"
+builds 'a new kit' 1
+builds 'the same kit' 0
+echo 'fn low() {   }' >"$top/crates/low/src/lib.rt"
+DURING='echo "fn low() { 1 }" >../low/src/lib.rt'
+export DURING
+builds 'a source that changes during the build' 1
+unset DURING
+builds 'after it' 1
+builds 'after that' 0
+
+# the program that stands there
+: >"$top/crates/monitor_main/out/monitor_main"
+builds 'an empty program' 1
+chmod -x "$top/crates/monitor_main/out/monitor_main"
+builds 'a program that cannot be run' 1
+printf '#!/bin/sh\necho another\n' >"$top/crates/monitor_main/out/monitor_main"
+builds 'another program' 1
+check 'without a kit' 'ran|3' "$(run "$bare")"
+
+# its own failures
+echo 'fn low() { 2 }' >"$top/crates/low/src/lib.rt"
+check 'no kit, and a changed source' '70' "$(run "$bare")"
+check 'no kit: one line' '1' "$(wc -l <"$room/told" | tr -d ' ')"
+DURING='echo wrong; exit 1'
+export DURING
+check 'a build that fails' '70' "$(run "$kit")"
+log=$(tail -n 1 "$room/told" | sed 's/.*; \(.*\) says why/\1/')
+check 'the log, where it was told' 'wrong' "$(tail -n 1 "$log")"
+check 'a build that fails, with standard error closed' '70' \
+    "$(cd "$room/caller" && PATH=$kit "$top/monitor" 2>&-; echo $?)"
+unset DURING
+check 'standard error closed' 'ran|3' "$(cd "$room/caller" && PATH=$kit "$top/monitor" 2>&-; echo $?)"
+echo 'fn low() { 3 }' >"$top/crates/low/src/lib.rt"
+check 'standard error gone' 'ran|' \
+    "$(cd "$room/caller" && { PATH=$kit "$top/monitor" 2>&1 >"$room/printed" | true; }; cat "$room/printed")"
+fresh
+echo 'no folder' >"$top/crates/monitor_main/out"
+check 'no place for the program' '70' "$(run "$kit")"
+check 'no place: one line' '1' "$(wc -l <"$room/told" | tr -d ' ')"
+fresh
+rm "$top/crates.txt"
+check 'no crates.txt' '70' "$(run "$kit")"
+
+check 'nothing is made elsewhere' 'caller crates' "$(cd "$room" && find caller -mindepth 0 -maxdepth 1 -printf '%f ' | sed 's/ $//')"
+check 'nothing is made in the folder of CDPATH' 'crates' "$(ls "$room/elsewhere")"
+
+echo "script: $passed passed, $failed failed"
+[ "$failed" = 0 ]
