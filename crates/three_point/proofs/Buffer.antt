@@ -5,16 +5,15 @@
 --   counted_one               one range more was counted
 --   out_of_data               what was counted, with the ranges that are left, is the whole run
 use Rattle.std.proofs.Common.{◌≡◌, ℕ, ◌+◌, ◌-◌, ◌<◌, ◌≤◌, List, [], ◌∷◌, ◌++◌, length, take, drop, get_or, reverse, sym, ap, ◌∙◌, arith, append_assoc, append-nil, max, ◌⊎◌, inl, inr}
-use Rattle.std.proofs.lemmas.List.{drop_all, take_all, take_more, reverse-append, length-reverse, length-take, map-append}
+use Rattle.std.proofs.lemmas.List.{drop_all, take_all, reverse-append, length-reverse, length-take, map-append}
 use Rattle.std.proofs.lemmas.Bool.{cases_lt}
+use Rattle.std.proofs.Math.Nat.{lt_of_not-le}
+use Rattle.lemmas.proofs.Lists.{reverse-take_next}
 use Rattle.turning_points.specs.Pairs.{range}
 use Rattle.three_point.specs.Run.{CountedRange, counted_range, live_after, ranges_counted, ranges_left, run}
 use Rattle.three_point.specs.Ranges.{counted_range_of, counted_ranges, IsReached}
 use Rattle.three_point.specs.declared.ranges.Range.{Range}
 use Rattle.three_point.proofs.Steps.{live_after_cycle, ranges_counted_cycle, live_after_less, live_after_few, ranges_counted_less, ranges_counted_few, ranges_left_few}
-
-reverse-take : (s : List ℕ) (k : ℕ) → k < length s → reverse (take (k + 1) s) ≡ get_or s k 0 ∷ reverse (take k s)
-reverse-take s k h = ap reverse (take_more s k 0 h) ∙ reverse-append (take k s) (get_or s k 0 ∷ [])
 
 -- the last but one and the last of s
 abbrev pub first_of_two : List ℕ → ℕ
@@ -28,7 +27,7 @@ last_two s h =
     let n = length s - 2 in
     let e : s ≡ take (n + 1 + 1) s = sym (take_all (n + 1 + 1) s (omega arith)) in
     let f : n + 1 ≡ length s - 1 = omega arith in
-    ap reverse e ∙ reverse-take s (n + 1) (omega arith) ∙ ap (λ l. get_or s (n + 1) 0 ∷ l) (reverse-take s n (omega arith)) ∙ ap (λ k. get_or s k 0 ∷ get_or s n 0 ∷ reverse (take n s)) f
+    ap reverse e ∙ reverse-take_next s (n + 1) (omega arith) ∙ ap (λ l. get_or s (n + 1) 0 ∷ l) (reverse-take_next s n (omega arith)) ∙ ap (λ k. get_or s k 0 ∷ get_or s n 0 ∷ reverse (take n s)) f
 
 live_after_not_empty : (z y x : ℕ) (v : List ℕ) → 0 < length v → range x y ≤ range y z → live_after z (y ∷ x ∷ v) ≡ live_after z v
 live_after_not_empty z y x [] f h = absurd (omega arith)
@@ -37,9 +36,6 @@ live_after_not_empty z y x (w ∷ v) f h = live_after_cycle z y x w v h
 ranges_counted_not_empty : (z y x : ℕ) (v : List ℕ) → 0 < length v → range x y ≤ range y z → ranges_counted z (y ∷ x ∷ v) ≡ counted_range x y 2 ∷ ranges_counted z v
 ranges_counted_not_empty z y x [] f h = absurd (omega arith)
 ranges_counted_not_empty z y x (w ∷ v) f h = ranges_counted_cycle z y x w v h
-
-less_of : (a b : ℕ) → (a ≤ b → ⊥) → b < a
-less_of a b g = grind arith
 
 -- the points s are live, and z is read
 module _ (s : List ℕ) (z : ℕ) where
@@ -57,11 +53,11 @@ module _ (s : List ℕ) (z : ℕ) where
   less_live g (inl h) = reverse-append s (z ∷ []) ∙ sym (live_after_few z (reverse s) (omega (arith, length-reverse s)))
   less_live g (inr h) =
       let e = last_two s h in
-      reverse-append s (z ∷ []) ∙ ap (λ l. z ∷ l) e ∙ sym (ap (live_after z) e ∙ live_after_less z _ _ (reverse (take (length s - 2) s)) (less_of _ _ (λ r. g (h, r))))
+      reverse-append s (z ∷ []) ∙ ap (λ l. z ∷ l) e ∙ sym (ap (live_after z) e ∙ live_after_less z _ _ (reverse (take (length s - 2) s)) (lt_of_not-le (λ r. g (h, r))))
 
   less_counted : (IsReached s z → ⊥) → (length s < 2) ⊎ (2 ≤ length s) → ranges_counted z (reverse s) ≡ []
   less_counted g (inl h) = ranges_counted_few z (reverse s) (omega (arith, length-reverse s))
-  less_counted g (inr h) = ap (ranges_counted z) (last_two s h) ∙ ranges_counted_less z _ _ (reverse (take (length s - 2) s)) (less_of _ _ (λ r. g (h, r)))
+  less_counted g (inr h) = ap (ranges_counted z) (last_two s h) ∙ ranges_counted_less z _ _ (reverse (take (length s - 2) s)) (lt_of_not-le (λ r. g (h, r)))
 
   pub open_live : (IsReached s z → ⊥) → reverse (s ++ (z ∷ [])) ≡ live_after z (reverse s)
   open_live g = less_live g (cases_lt (length s) 2)

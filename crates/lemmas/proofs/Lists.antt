@@ -1,0 +1,123 @@
+-- Parts and places of lists.
+--   take_next, take_two, take_four   the first levels of a buffer, with the last one, two or four apart
+--   take_by_last_two                 the same by the length; take_set_last, take_set_third: after a write near the end
+--   take_pushed                      with an item more behind
+--   take-append-part, take-append-taken   the front of a buffer that was filled in two steps
+--   reverse-take_next                a front read from its end
+--   longer                           a list with an item more is another list
+--   length-rewritten                 a buffer whose front was written
+--   get_or-behind, get_or-zeros      places; positive_within: what is past the end is 0
+--   below_positive, below_at, below_set_third   lists of numbers below a bound
+use Rattle.std.proofs.Common.{◌≡◌, ◌≢◌, ℕ, zero, suc, ◌+◌, ◌-◌, ◌<◌, ◌≤◌, ◌⊎◌, inl, inr, List, [], ◌∷◌, ◌++◌, length, take, drop, set, get_or, reverse, refl, sym, ap, ◌∙◌, arith, append_assoc, take-append-drop, length-append, length-set, get_or-take, get_or-set_same, get_or-set_other, length-take-le}
+use Rattle.std.specs.Prelude.{All, replicate}
+use Rattle.std.proofs.lemmas.Bool.{cases_lt, cases_eq}
+use Rattle.std.proofs.lemmas.List.{take_more, take_more_set, take_at, drop-drop, take-append-le, reverse-append, get_or-replicate, get_or_past, length-replicate}
+use Rattle.std.proofs.lemmas.List.Elements.{All-head}
+use Rattle.std.proofs.Math.Seq.{take-append-add}
+
+pub take_next : (s : List ℕ) (i j : ℕ) → j ≡ i + 1 → i < length s → take j s ≡ take i s ++ get_or s i 0 ∷ []
+take_next s i j e h = ap (λ n. take n s) e ∙ take_more s i 0 h
+
+pub take_two : (s : List ℕ) (k n : ℕ) → n ≡ k + 2 → n ≤ length s → take n s ≡ take k s ++ (get_or s k 0 ∷ get_or s (k + 1) 0 ∷ [])
+take_two s k n e h =
+    let p = take_next s k (k + 1) refl (omega arith) in
+    let q = take_next s (k + 1) n (omega arith) (omega arith) in
+    q ∙ ap (λ l. l ++ get_or s (k + 1) 0 ∷ []) p ∙ append_assoc (take k s) (get_or s k 0 ∷ []) (get_or s (k + 1) 0 ∷ [])
+
+pub take_four : (s : List ℕ) (k n : ℕ) → n ≡ k + 4 → n ≤ length s → take n s ≡ take k s ++ (get_or s k 0 ∷ get_or s (k + 1) 0 ∷ get_or s (k + 2) 0 ∷ get_or s (k + 3) 0 ∷ [])
+take_four s k n e h =
+    let p = take_two s k (k + 2) refl (omega arith) in
+    let q : take n s ≡ take (k + 2) s ++ (get_or s (k + 2) 0 ∷ get_or s (k + 3) 0 ∷ []) = take_two s (k + 2) n (omega arith) h ∙ ap (λ i. take (k + 2) s ++ (get_or s (k + 2) 0 ∷ get_or s i 0 ∷ [])) (omega arith) in
+    q ∙ ap (λ l. l ++ (get_or s (k + 2) 0 ∷ get_or s (k + 3) 0 ∷ [])) p ∙ append_assoc (take k s) (get_or s k 0 ∷ get_or s (k + 1) 0 ∷ []) (get_or s (k + 2) 0 ∷ get_or s (k + 3) 0 ∷ [])
+
+pub take_by_last_two : (s : List ℕ) (n : ℕ) → 2 ≤ n → n ≤ length s → take n s ≡ take (n - 2) s ++ (get_or s (n - 2) 0 ∷ get_or s (n - 1) 0 ∷ [])
+take_by_last_two s n h r = take_two s (n - 2) n (omega arith) r ∙ ap (λ i. take (n - 2) s ++ (get_or s (n - 2) 0 ∷ get_or s i 0 ∷ [])) (omega arith)
+
+-- the last of the first n items was written
+pub take_set_last : (s : List ℕ) (n v : ℕ) → 2 ≤ n → n ≤ length s → take n (set s (n - 1) v) ≡ take (n - 2) s ++ (get_or s (n - 2) 0 ∷ v ∷ [])
+take_set_last s n v h r =
+    let e : n ≡ (n - 1) + 1 = omega arith in
+    let a = take_next s (n - 2) (n - 1) (omega arith) (omega arith) in
+    let b = take_more_set s (n - 1) v (omega arith) in
+    ap (λ k. take k (set s (n - 1) v)) e ∙ b ∙ ap (λ l. l ++ (v ∷ [])) a ∙ append_assoc (take (n - 2) s) (get_or s (n - 2) 0 ∷ []) (v ∷ [])
+
+-- the third from the end was written, and the last two dropped
+pub take_set_third : (s : List ℕ) (k n d : ℕ) → n ≡ k + 4 → n ≤ length s → take (n - 2) (set s (n - 3) d) ≡ take k s ++ (get_or s k 0 ∷ d ∷ [])
+take_set_third s k n d e h =
+    let i : n - 2 ≡ (k + 1) + 1 = omega arith in
+    let j : n - 3 ≡ k + 1 = omega arith in
+    let p = take_more_set s (k + 1) d (omega arith) in
+    let q = take_next s k (k + 1) refl (omega arith) in
+    ap (λ m. take m (set s (n - 3) d)) i ∙ ap (λ m. take ((k + 1) + 1) (set s m d)) j ∙ p ∙ ap (λ l. l ++ d ∷ []) q ∙ append_assoc (take k s) (get_or s k 0 ∷ []) (d ∷ [])
+
+-- an item more behind the first n, of which the last two are apart
+pub take_pushed : (s : List ℕ) (n v : ℕ) → 2 ≤ n → n ≤ length s → take n s ++ (v ∷ []) ≡ take (n - 2) s ++ (get_or s (n - 2) 0 ∷ get_or s (n - 1) 0 ∷ v ∷ [])
+take_pushed s n v h r =
+    let e = take_by_last_two s n h r in
+    ap (λ l. l ++ (v ∷ [])) e ∙ append_assoc (take (n - 2) s) (get_or s (n - 2) 0 ∷ get_or s (n - 1) 0 ∷ []) (v ∷ [])
+
+-- k items more in a buffer that had n, and what is left behind them
+pub take-append-part : {X : Type 0} (n k : ℕ) (xs ys rest left more : List X) → n ≤ length xs → k ≤ length ys → left ≡ take k ys ++ more → take n xs ++ left ≡ take (n + k) (take n xs ++ (ys ++ rest)) ++ more
+take-append-part n k xs ys rest left more long inside is =
+    let p = take n xs in
+    let size : length p ≡ n = length-take-le n xs long in
+    let split : take (n + k) (p ++ (ys ++ rest)) ≡ p ++ take k ys = ap (λ m. take (m + k) (p ++ (ys ++ rest))) (sym size) ∙ take-append-add p (ys ++ rest) k ∙ ap (λ l. p ++ l) (take-append-le k ys rest inside) in
+    ap (λ l. p ++ l) is ∙ sym (append_assoc p (take k ys) more) ∙ ap (λ l. l ++ more) (sym split)
+
+-- n items from a place on, copied to the front of a buffer, and what lies behind them
+pub take-append-taken : {X : Type 0} (n at : ℕ) (xs copied rest left : List X) → length copied ≡ n → copied ≡ take n (drop at xs) → left ≡ drop at xs → left ≡ take n (copied ++ rest) ++ drop (at + n) xs
+take-append-taken n at xs copied rest left long is was =
+    was ∙ sym (take-append-drop n (drop at xs)) ∙ ap (λ l. l ++ drop n (drop at xs)) (sym is ∙ sym (take_at copied rest n long)) ∙ ap (λ l. take n (copied ++ rest) ++ l) (drop-drop n at xs)
+
+pub reverse-take_next : (s : List ℕ) (k : ℕ) → k < length s → reverse (take (k + 1) s) ≡ get_or s k 0 ∷ reverse (take k s)
+reverse-take_next s k h = ap reverse (take_more s k 0 h) ∙ reverse-append (take k s) (get_or s k 0 ∷ [])
+
+pub longer : (l : List ℕ) (x : ℕ) → l ++ (x ∷ []) ≡ l → ⊥
+longer [] x e = cc
+longer (y ∷ l) x e = longer l x (cc)
+
+pub length-rewritten : {X : Type 0} (k : ℕ) (new old : List X) → length new ≡ length (take k old) → length (new ++ drop k old) ≡ length old
+length-rewritten k new old same = length-append new (drop k old) ∙ ap (λ m. m + length (drop k old)) same ∙ sym (length-append (take k old) (drop k old)) ∙ ap length (take-append-drop k old)
+
+-- a place behind the first item
+pub get_or-behind : (x : ℕ) (l : List ℕ) (i j : ℕ) → j ≡ suc i → get_or (x ∷ l) j 0 ≡ get_or l i 0
+get_or-behind x l i j e = ap (λ k. get_or (x ∷ l) k 0) e
+
+zeros_by : (n p : ℕ) → ((p < n) ⊎ (n ≤ p)) → ◌≡◌ {A = ℕ} (get_or (replicate n 0) p 0) 0
+zeros_by n p (inl h) = get_or-replicate n p 0 0 h
+zeros_by n p (inr h) = get_or_past (replicate n 0) p 0 (omega (arith, length-replicate {A = ℕ} n 0))
+
+-- a list of zeros has 0 anywhere
+pub get_or-zeros : (n p : ℕ) → ◌≡◌ {A = ℕ} (get_or (replicate n 0) p 0) 0
+get_or-zeros n p = zeros_by n p (cases_lt p n)
+
+-- what is past the end is 0, so a place that holds something is within the list
+pub positive_within : (t : List ℕ) (p : ℕ) → 0 < get_or t p 0 → p < length t
+positive_within [] p h = absurd (omega arith)
+positive_within (n ∷ ns) zero h = omega arith
+positive_within (n ∷ ns) (suc p) h = omega (arith, positive_within ns p h)
+
+-- no number is below 0
+pub below_positive : (k x : ℕ) (l : List ℕ) → All (λ y. y < k) (x ∷ l) → 1 ≤ k
+below_positive k x l a = let h = All-head (λ y. y < k) x l a in omega arith
+
+pub below_at : (k n i : ℕ) (s : List ℕ) → All (λ x. x < k) (take n s) → n ≤ length s → i < n → get_or s i 0 < k
+below_at k n i s a room h = let e = get_or-take n s i 0 h in let w = a i 0 (omega (arith, length-take-le n s room)) in omega arith
+
+below_more : (k n x i d : ℕ) (s : List ℕ) → All (λ y. y < k) (take n s) → n ≤ length s → 3 ≤ n → x < k → i < n - 2 → ((i ≡ n - 3) ⊎ (i ≢ n - 3)) → get_or (set s (n - 3) x) i d < k
+below_more k n x i d s a room few w h (inl e) = let f = get_or-set_same s (n - 3) x d (omega arith) in let g = ap (λ j. get_or (set s (n - 3) x) j d) e in omega arith
+below_more k n x i d s a room few w h (inr e) =
+    let f = get_or-set_other s (n - 3) i x d e in
+    let g = get_or-take n s i d (omega arith) in
+    let v = a i d (omega (arith, length-take-le n s room)) in
+    omega arith
+
+-- the third of the first n from the end was written, and the last two dropped
+pub below_set_third : (k n x : ℕ) (s : List ℕ) → All (λ y. y < k) (take n s) → n ≤ length s → 3 ≤ n → x < k → All (λ y. y < k) (take (n - 2) (set s (n - 3) x))
+below_set_third k n x s a room few w = λ i d h.
+    let t = set s (n - 3) x in
+    let l = length-take-le (n - 2) t (omega (arith, length-set s (n - 3) x)) in
+    let g : i < n - 2 = omega arith in
+    let e = get_or-take (n - 2) t i d g in
+    let v = below_more k n x i d s a room few w g (cases_eq i (n - 3)) in
+    omega arith
