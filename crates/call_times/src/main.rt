@@ -1,0 +1,50 @@
+//! Single calls of the counting crates over one recording that is made here: for each a digest of what it answers, and with the word
+//! `time` also its processor time, in hundredths of a nanosecond to the sample. `bench/src/calls.c` prints the same digests.
+//!
+//! Only safety is proved here. What the calls answer is said by their own contracts; the digests show that the C program beside
+//! them does the same work.
+#![tactic(auto)]
+
+mod calls;
+mod digest;
+
+use calls::{Call, Recording, answer};
+use std::rt::Env;
+use std::time::CpuClock;
+use std::{env, io};
+
+/// How often a call is repeated where its time is asked for. The least time counts.
+const REPEATS: u32 = 9;
+
+fn main(rt: HostRuntime) -> io::Result<()> {
+    let is_timed = env::args(&rt)?.skip(1).any(|word| word.as_str() == "time");
+    let recording = Recording::new(rt.alloc())?;
+    for call in Call::ALL {
+        let digest = answer(rt.alloc(), call, &recording)?;
+        if is_timed {
+            let hundredths = time_of(&rt, call, &recording)?;
+            println!(rt; "{call} {digest} {hundredths}")?;
+        } else {
+            println!(rt; "{call} {digest}")?;
+        }
+    }
+    Ok(())
+}
+
+// The least processor time of a call over the recording, in hundredths of a nanosecond to the sample.
+fn time_of<R: CpuClock + AllocGlobal>(
+    rt: &R,
+    call: Call,
+    recording: &Recording,
+) -> io::Result<u128> {
+    let mut least = u128::MAX;
+    for _ in 0..REPEATS {
+        let start = rt.process_cpu_time()?;
+        answer(rt.alloc(), call, recording)?;
+        let end = rt.process_cpu_time()?;
+        if end >= start {
+            least = least.min((end - start).as_nanos());
+        }
+    }
+    Ok(least.wrapping_mul(100) / recording.len().max(1) as u128)
+}
