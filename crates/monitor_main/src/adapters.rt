@@ -62,6 +62,8 @@ impl<'a, R: Files<File = File>> Site for FolderSite<'a, R> {
 
     ghost files = { λ _ _. None };
 
+    ghost names_asked = { λ _ _. Unit {0} };
+
     ghost out = { λ s. s.out };
 
     ghost faults = { λ s. s.faults };

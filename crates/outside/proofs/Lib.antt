@@ -1,2 +1,3 @@
+pub mod Asked
 mod Files
 mod Lists

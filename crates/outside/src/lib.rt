@@ -6,8 +6,14 @@
 //! Each object counts its faults. A call answers `Failed` only where this count rose in the call:
 //! it is greater afterwards, or stands at the last value of a counter.
 //!
-//! The objects in memory (`BytesSource`, `SteadySource`, `VecSink`, `MapSite`) fail exactly where
-//! they were told to. A take or a put costs one copy of its bytes, a fetch one copy of the file.
+//! The objects in memory fail where they were told to. `BytesSource`, `SteadySource` and `VecSink`
+//! fail there and nowhere else, by their clauses. A fetch of `MapSite` fails there, where it has no
+//! such file, and where its copy of the file finds no memory. The last no clause can rule out: none
+//! parts a refused copy from another failure. A take or a put costs one copy of its bytes, a fetch
+//! one copy of the file.
+//!
+//! A site says besides which names it was asked for, so that a contract can say which files a call
+//! reads.
 #![tactic(auto)]
 
 mod bytes_source;

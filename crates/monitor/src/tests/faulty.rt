@@ -41,6 +41,8 @@ impl Site for FaultySite {
 
     ghost files = { λ _ _. None };
 
+    ghost names_asked = { λ _ _. Unit {0} };
+
     ghost out = { λ s. s.out };
 
     ghost faults = { λ s. s.faults };
