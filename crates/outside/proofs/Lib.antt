@@ -1,3 +1,2 @@
 pub mod Asked
 mod Files
-mod Lists
