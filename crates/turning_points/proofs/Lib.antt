@@ -1,5 +1,6 @@
 pub mod Zigzag
 pub mod Over
+pub mod Levels
 pub mod Push
 pub mod Extended
 pub mod TurnedSteps
