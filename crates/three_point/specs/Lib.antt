@@ -1,2 +1,5 @@
 pub mod Run
+pub mod Standard
+pub mod Sums
+pub mod Bounds
 pub mod Ranges

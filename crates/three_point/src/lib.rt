@@ -9,6 +9,8 @@
 //! as there are points is reserved once; what is not used of it is not touched.
 #![tactic(auto)]
 
+/// Laws over the definitions alone.
+pub mod laws;
 mod ranges;
 mod run;
 #[cfg(test)]

@@ -1,4 +1,6 @@
-ghost use Rattle.std.specs.Prelude.{◌≡◌};
+ghost use Rattle.std.specs.Prelude.{◌≡◌, ℕ, ◌+◌, ◌-◌, ◌^◌, ◌<◌, ◌≤◌, ◌==◌, if◌then◌else◌, All, length, slice_index};
+ghost use Rattle.three_point.specs.Run.{half_units_at_range};
+ghost use Rattle.three_point.specs.Bounds.{IsWithin};
 
 use std::marker::Model;
 
@@ -26,6 +28,8 @@ impl Model for Ranges {
 }
 
 impl Ranges {
+    ghost use Rattle.three_point.specs.Ranges.{counted_ranges};
+
     /// Takes a list over.
     pub fn from_vec(items: Vec<Range>) -> Self
         ensures { result ≡ items.items }
@@ -39,4 +43,29 @@ impl Ranges {
     {
         &self.items
     }
+
+    /// Puts the half units at each range into `out`: place k gets those of the ranges between levels k apart, whatever it held. A
+    /// half unit is half a cycle. Each range lies between levels below the number of places.
+    pub fn half_units(&self, out: &mut [u64])
+        requires within { All (IsWithin (length out.old)) (counted_ranges self.now) }
+        ensures { (k : ℕ) → k < length out.old →
+            slice_index out.new k ≡ half_units_at_range k (counted_ranges self.now) }
+    {
+        out.fill(0);
+        for range in &self.items {
+            add_half_units(*range, out);
+        }
+    }
+}
+
+// Adds the half units of one range at the place of its length.
+fn add_half_units(range: Range, out: &mut [u64])
+    requires ordered { range.lo ≤ range.hi }
+    requires below { range.hi < length out.old }
+    requires room { (k : ℕ) → slice_index out.old k + range.halves < 2 ^ 64 }
+    ensures added { (k : ℕ) → k < length out.old → slice_index out.new k ≡
+        slice_index out.old k + (if k == range.hi - range.lo then range.halves else 0) }
+    ensures few { (k : ℕ) → slice_index out.new k ≤ slice_index out.old k + range.halves }
+{
+    out[usize::from(range.hi - range.lo)] += u64::from(range.halves);
 }

@@ -44,3 +44,13 @@ fn counts_as_the_standard_does(rt: HostRuntime) -> Result<(), Fail> {
     }
     Ok(())
 }
+
+#[test]
+fn adds_half_units_by_range(rt: HostRuntime) -> Result<(), Fail> {
+    // The standard's example, whose table has half cycles at 3, 4, 6, 8 and 9, two of them at 8, and a cycle at 4.
+    let ranges = astm(rt.alloc(), &[6, 9, 5, 13, 7, 11, 4, 12, 6])?;
+    let mut half_units = [7; 14];
+    ranges.half_units(&mut half_units);
+    assert_eq!(rt; half_units, [0, 0, 0, 1, 3, 0, 1, 0, 2, 1, 0, 0, 0, 0]);
+    Ok(())
+}
