@@ -6,7 +6,7 @@
 //!
 //! The code joins the two floors into one, `floor((raw * num + (offset - low) * den) / (den * width))`, all in
 //! 64 bits. The dividend is first compared with the width of all classes, which refuses both sides at once, and
-//! is then below 128 times the divisor. So two multiplications and a shift by a fixed number give the exact
+//! is then below `MAX_CLASSES` times the divisor. So two multiplications and a shift by a fixed number give the exact
 //! quotient: the first makes the divisor one of nearly 49 bits, the second is by 2^112 over that. A `Classifier`
 //! keeps the numbers that a gain and a grid determine: make one for a block of samples. `level` is the same for
 //! one raw value.
@@ -22,6 +22,6 @@ mod reading;
 mod tests;
 
 pub use classifier::{Classifier, level};
-pub use gain::{Gain, GainFault};
-pub use grid::{Grid, GridFault};
+pub use gain::{Gain, GainFault, MAX_DEN, MAX_NUM, MAX_OFFSET};
+pub use grid::{Grid, GridFault, MAX_CLASSES, MAX_LOW_KPA, MAX_SPAN, MIN_CLASSES, STEP_KPA};
 pub use reading::Reading;
