@@ -1,6 +1,6 @@
 -- What the code keeps of the samples that it read.
 use Rattle.std.specs.Prelude.{◌≡◌, ℕ, ◌+◌, ℤ, List, ◌++◌, length}
-use Rattle.recording.specs.Samples.{samples, odd}
+use Rattle.recording.specs.Samples.{samples, torn_bytes}
 use Rattle.calibration.specs.History.{history, missing_count, refused_count}
 use Rattle.monitor.specs.Printed.{table_grid, table_gain}
 use Rattle.monitor.specs.declared.readings.Readings.{Readings}
@@ -25,4 +25,4 @@ pub record AreReadingsUpTo (s : Readings) (bytes left : List ℕ) : Type 0 where
   pub missing : missing_count table_grid table_gain (samples bytes) ≡ s.missing + missing_count table_grid table_gain (samples left)
   pub refused : refused_count table_grid table_gain (samples bytes) ≡ s.refused + refused_count table_grid table_gain (samples left)
   pub samples : length (samples bytes) ≡ s.samples + length (samples left)
-  pub odd_bytes : odd bytes ≡ odd left
+  pub odd_bytes : torn_bytes bytes ≡ torn_bytes left

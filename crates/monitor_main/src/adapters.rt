@@ -23,6 +23,8 @@ impl Source for FileSource {
 
     ghost faults = { λ s. s.faults };
 
+    ghost failed_last = { λ _. Unit {0} };
+
     fn take(&mut self, buf: &mut [u8]) -> Result<usize, Failed> {
         match self.file.read(buf) {
             Ok(n) => Ok(n),

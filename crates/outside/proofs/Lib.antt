@@ -1,2 +1,3 @@
 pub mod Asked
+mod Calls
 mod Files

@@ -2,7 +2,7 @@
 //!
 //! A recording is a head of 32 bytes and a body of samples, four bytes each. `specs/Head.antt` says
 //! what the bytes of a head are and what is wrong with others, `specs/Samples.antt` reads a body as
-//! samples and odd bytes, and `specs/Filling.antt` says how a `fill` or a `skip` ends.
+//! samples and torn bytes, and `specs/Filling.antt` says how a `fill` or a `skip` ends.
 //!
 //! `fill` and `skip` take up to 64 KiB at once into a buffer on the stack (4 KiB for few samples),
 //! and take again until it is full, so what they give does not depend on the sizes of the source's
@@ -24,3 +24,6 @@ pub use filling::fill;
 pub use head::{Head, HeadFault, read_head, write_head};
 pub use skipping::skip;
 pub use writing::write_samples;
+
+/// The most samples of a recording.
+pub const MAX_SAMPLES: u64 = (1 << 40) - 1;

@@ -1,7 +1,6 @@
 ghost use Rattle.std.specs.Prelude.{◌≡◌, ◌≤◌, ◌*◌, ◌/◌, ◌++◌, ◌↔◌, [], length, take};
 ghost use Rattle.outside.specs.Fault.{Rose};
-ghost use Rattle.recording.specs.Filling.{SameFirst, Takes};
-ghost use Rattle.recording.specs.declared.ends.FillEnd.TheVariants.{More, Failed as FailedEnd};
+ghost use Rattle.recording.specs.Filling.{SameFirst, Skips};
 ghost use Rattle.recording.specs.declared.taking.Stop.TheVariants.{Full, Ended, Failed};
 
 use crate::ends::{Fill, FillEnd};
@@ -34,6 +33,7 @@ pub(crate) fn take_all<S: Source>(src: &mut S, bytes: &mut [u8]) -> Taken
     ensures full { (result.stop ≡ Full) ↔ (result.n ≡ length bytes.old) }
     ensures ended { S.tells → result.stop ≡ Ended → S.left src.new ≡ [] }
     ensures cause { result.stop ≡ Failed → Rose (S.faults src.old) (S.faults src.new) }
+    ensures last { result.stop ≡ Failed → S.failed_last src.new }
     ensures later { S.faults src.old ≤ S.faults src.new }
 {
     let mut n = 0;
@@ -60,12 +60,9 @@ pub(crate) fn take_all<S: Source>(src: &mut S, bytes: &mut [u8]) -> Taken
 pub(crate) fn take_samples<S: Source>(src: &mut S, bytes: &mut [u8]) -> Fill
     requires { length bytes.old ≡ 4 * (length bytes.old / 4) }
     ensures length { length bytes.new ≡ length bytes.old }
-    ensures within { 4 * result.n ≤ length bytes.old }
     ensures bytes { S.tells → SameFirst (4 * result.n) bytes.new (S.left src.old) }
-    ensures taken { S.tells → Takes (length bytes.old / 4) (S.left src.old) result.n result.end (S.left src.new) }
-    ensures full { (result.end ≡ More) ↔ (4 * result.n ≡ length bytes.old) }
-    ensures cause { result.end ≡ FailedEnd → Rose (S.faults src.old) (S.faults src.new) }
-    ensures later { S.faults src.old ≤ S.faults src.new }
+    ensures samples { Skips S.tells S.left S.faults S.failed_last src.old src.new
+        (length bytes.old / 4) result.n result.end }
 {
     let taken = take_all(src, bytes);
     let end = match taken.stop {
