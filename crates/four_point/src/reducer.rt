@@ -1,6 +1,6 @@
-ghost use Rattle.std.specs.Prelude.{◌≡◌, ℕ, ◌+◌, ◌*◌, ◌-◌, ◌^◌, ◌<◌, ◌≤◌, ◌↔◌, ◌++◌, ◌∷◌, [], List, IfOk, IsTrue, MatchBool, length};
+ghost use Rattle.std.specs.Prelude.{◌≡◌, ℕ, ◌+◌, ◌*◌, ◌-◌, ◌^◌, ◌<◌, ◌≤◌, ◌↔◌, ◌++◌, ◌∷◌, ◌⊎◌, [], List, IfOk, IsTrue, MatchBool, length};
 ghost use Rattle.turning_points.specs.Points.{points};
-ghost use Rattle.tally.specs.Counts.{count_of, total_of};
+ghost use Rattle.tally.specs.Counts.{count_of, total_of, HasGreatestRoom};
 ghost use Rattle.four_point.specs.Reduction.{IsFourPointResult};
 
 use crate::stack::{is_residue, push, put_first};
@@ -65,6 +65,8 @@ impl Reducer {
         requires level { level < self.old.classes }
         requires classes { self.old.classes ≡ tally.old.classes }
         requires total { total_of tally.old.cells + length self.old.residue ≤ 2 ^ 63 }
+        requires room { HasGreatestRoom tally.old
+            ⊎ (2 * length tally.old.cells + length self.old.residue ≤ 2 * tally.old.room) }
 
         // Where the residue was that of a history, it is that of the history with this level.
         ensures result { (h : List ℕ) (c : ℕ → ℕ → ℕ) → IsFourPointResult (points h) c self.old.residue →
@@ -81,8 +83,12 @@ impl Reducer {
             ≡ 2 * total_of tally.old.cells + length (points (self.old.residue ++ level ∷ [])) }
         ensures room { total_of tally.new.cells + length self.new.residue
             ≤ total_of tally.old.cells + length self.old.residue + 1 }
+        // And it adds one cell at most.
+        ensures cells { 2 * length tally.new.cells + length self.new.residue
+            ≤ 2 * length tally.old.cells + length self.old.residue + 1 }
         ensures classes { self.new.classes ≡ self.old.classes }
         ensures tally_classes { tally.new.classes ≡ tally.old.classes }
+        ensures tally_room { tally.new.room ≡ tally.old.room }
     {
         self.len = push(&mut self.levels, self.len, level, tally);
     }

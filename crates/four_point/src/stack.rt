@@ -1,7 +1,7 @@
-ghost use Rattle.std.specs.Prelude.{◌≡◌, ◌+◌, ◌*◌, ◌-◌, ◌^◌, ◌<◌, ◌≤◌, ◌↔◌, ◌++◌, ◌∷◌, [], All, IsTrue, length, take};
+ghost use Rattle.std.specs.Prelude.{◌≡◌, ◌+◌, ◌*◌, ◌-◌, ◌^◌, ◌<◌, ◌≤◌, ◌↔◌, ◌++◌, ◌∷◌, ◌⊎◌, [], All, IsTrue, length, take};
 ghost use Rattle.turning_points.specs.Points.{is_turn, points};
 ghost use Rattle.turning_points.specs.Pairs.{range};
-ghost use Rattle.tally.specs.Counts.{count_of, total_of};
+ghost use Rattle.tally.specs.Counts.{count_of, total_of, HasGreatestRoom};
 ghost use Rattle.four_point.specs.Residue.{AddsCycles, HasNoCycleBelow, IsResidue, IsResidueBelow};
 
 use tally::Tally;
@@ -51,6 +51,7 @@ fn delete_cycles(levels: &mut [u16], mut len: usize, tally: &mut Tally) -> usize
     requires points { points (take len levels.old) ≡ take len levels.old }
     requires calm { HasNoCycleBelow levels.old (len - 1) }
     requires total { total_of tally.old.cells + len ≤ 2 ^ 63 + 1 }
+    requires room { HasGreatestRoom tally.old ⊎ (2 * length tally.old.cells + len ≤ 2 * tally.old.room + 1) }
     ensures within { result ≤ len }
     ensures cycles { AddsCycles (take len levels.old) (count_of tally.old.cells)
         (take result levels.new) (count_of tally.new.cells) }
@@ -58,7 +59,9 @@ fn delete_cycles(levels: &mut [u16], mut len: usize, tally: &mut Tally) -> usize
     ensures points { points (take result levels.new) ≡ take result levels.new }
     ensures calm { HasNoCycleBelow levels.new result }
     ensures lengths { 2 * total_of tally.new.cells + result ≡ 2 * total_of tally.old.cells + len }
+    ensures cells { 2 * length tally.new.cells + result ≤ 2 * length tally.old.cells + len }
     ensures classes { tally.new.classes ≡ tally.old.classes }
+    ensures tally_room { tally.new.room ≡ tally.old.room }
 {
     while len >= 4
         && is_cycle(
@@ -85,6 +88,7 @@ pub fn push(levels: &mut [u16], len: usize, level: u16, tally: &mut Tally) -> us
     requires residue { IsResidue tally.old.classes (take len levels.old) }
     requires level { level < tally.old.classes }
     requires total { total_of tally.old.cells + len ≤ 2 ^ 63 }
+    requires room { HasGreatestRoom tally.old ⊎ (2 * length tally.old.cells + len ≤ 2 * tally.old.room) }
     ensures within { result ≤ length levels.new }
     ensures step { AddsCycles (points (take len levels.old ++ level ∷ [])) (count_of tally.old.cells)
         (take result levels.new) (count_of tally.new.cells) }
@@ -92,7 +96,9 @@ pub fn push(levels: &mut [u16], len: usize, level: u16, tally: &mut Tally) -> us
     ensures lengths { 2 * total_of tally.new.cells + result
         ≡ 2 * total_of tally.old.cells + length (points (take len levels.old ++ level ∷ [])) }
     ensures room { total_of tally.new.cells + result ≤ total_of tally.old.cells + len + 1 }
+    ensures cells { 2 * length tally.new.cells + result ≤ 2 * length tally.old.cells + len + 1 }
     ensures classes { tally.new.classes ≡ tally.old.classes }
+    ensures tally_room { tally.new.room ≡ tally.old.room }
 {
     let longer = extend(levels, len, level);
     delete_cycles(levels, longer, tally)

@@ -1,6 +1,6 @@
-ghost use Rattle.std.specs.Prelude.{◌≡◌, ℕ, ◌+◌, ◌*◌, ◌-◌, ◌^◌, ◌≤◌, ◌++◌, List, length};
+ghost use Rattle.std.specs.Prelude.{◌≡◌, ℕ, ◌+◌, ◌*◌, ◌-◌, ◌^◌, ◌≤◌, ◌++◌, ◌⊎◌, List, length};
 ghost use Rattle.turning_points.specs.Points.{points};
-ghost use Rattle.tally.specs.Counts.{count_of, total_of};
+ghost use Rattle.tally.specs.Counts.{count_of, total_of, HasGreatestRoom};
 ghost use Rattle.four_point.specs.Reduction.{IsFourPointResult};
 ghost use Rattle.four_point.specs.Residue.{AddsCycles, IsResidue};
 
@@ -13,6 +13,8 @@ pub fn join_residue(left: &mut Reducer, right: &[u16], tally: &mut Tally)
     requires residue { IsResidue left.old.classes right.now }
     requires classes { left.old.classes ≡ tally.old.classes }
     requires total { total_of tally.old.cells + length left.old.residue + length right.now ≤ 2 ^ 63 }
+    requires room { HasGreatestRoom tally.old
+        ⊎ (2 * length tally.old.cells + length left.old.residue + length right.now ≤ 2 * tally.old.room + 1) }
 
     // Where the two were the residues of histories, the left one is that of their concatenation.
     ensures result { (u v : List ℕ) (c d : ℕ → ℕ → ℕ) →
@@ -30,8 +32,12 @@ pub fn join_residue(left: &mut Reducer, right: &[u16], tally: &mut Tally)
         ≡ 2 * total_of tally.old.cells + length (points (left.old.residue ++ right.now)) }
     ensures room { total_of tally.new.cells + length left.new.residue
         ≤ total_of tally.old.cells + length left.old.residue + length right.now }
+    // And it adds one cell at most.
+    ensures cells { 2 * length tally.new.cells + length left.new.residue
+        ≤ 2 * length tally.old.cells + length left.old.residue + length right.now }
     ensures classes { left.new.classes ≡ left.old.classes }
     ensures tally_classes { tally.new.classes ≡ tally.old.classes }
+    ensures tally_room { tally.new.room ≡ tally.old.room }
 {
     // That the left's levels are a residue too is what this call says.
     let _left = left.residue();

@@ -5,10 +5,11 @@ use Rattle.std.proofs.lemmas.List.Elements.{All-cons, All-head, All-tail}
 use Rattle.std.proofs.lemmas.List.Kept.{AllPairs-cons}
 use Rattle.std.proofs.lemmas.List.Sums.{sum_by-cons}
 use Rattle.std.proofs.lemmas.List.{drop_more}
+use Rattle.std.proofs.Math.Seq.{drop-nil}
 use Rattle.std.proofs.lemmas.Bool.Decides.{nat_tests}
 use Rattle.tally.specs.declared.cells.Cell.{Cell}
 use Rattle.tally.specs.Counts.{is_from, count_of, total_of, Before, IsAscending, IsCell}
-use Rattle.tally.specs.Layout.{row_start, place_of, next_lo, next_hi, cells_from}
+use Rattle.tally.specs.Layout.{row_start, place_of, next_lo, next_hi, cells_from, places_filled}
 use Rattle.tally.proofs.Places.{UpTo, Order, same, before, behind, order, next_place, next_ordered, next_up_to, next_behind, before_next, next_within, place_within, places_ascend}
 
 -- the count of a pair in a list whose first cell is or is not at the pair
@@ -18,10 +19,10 @@ count_here c cells lo hi e f = grind (arith, nat_tests)
 pub count_other : (c : Cell) (cells : List Cell) (lo hi : ℕ) → ((c.lo ≡ lo) × (c.hi ≡ hi) → ⊥) → count_of (c ∷ cells) lo hi ≡ count_of cells lo hi
 count_other c cells lo hi n = grind (arith, nat_tests)
 
-before_differs : {a b lo hi : ℕ} → Before lo hi a b → (a ≡ lo) × (b ≡ hi) → ⊥
+pub before_differs : {a b lo hi : ℕ} → Before lo hi a b → (a ≡ lo) × (b ≡ hi) → ⊥
 before_differs h e = grind arith
 
-behind_differs : {a b lo hi : ℕ} → Before a b lo hi → (a ≡ lo) × (b ≡ hi) → ⊥
+pub behind_differs : {a b lo hi : ℕ} → Before a b lo hi → (a ≡ lo) × (b ≡ hi) → ⊥
 behind_differs h e = grind arith
 
 -- a pair that the walk has passed is not met any more
@@ -47,12 +48,12 @@ not_behind : {a b lo hi : ℕ} → UpTo a b lo hi → Before lo hi a b → ⊥
 not_behind u h = grind arith
 
 -- before a pair of the table the walk does not end
-goes_on : (k a b lo hi : ℕ) → place_of k a b < place_of k lo hi → place_of k lo hi < row_start k k → ((next_hi k a b < k) ⊎ (place_of k a b + 1 ≡ row_start k k)) → next_hi k a b < k
-goes_on k a b lo hi h w (inl g) = g
-goes_on k a b lo hi h w (inr g) = absurd (omega arith)
+walk_continues : (k a b lo hi : ℕ) → place_of k a b < place_of k lo hi → place_of k lo hi < row_start k k → ((next_hi k a b < k) ⊎ (place_of k a b + 1 ≡ row_start k k)) → next_hi k a b < k
+walk_continues k a b lo hi h w (inl g) = g
+walk_continues k a b lo hi h w (inr g) = absurd (omega arith)
 
 next_fits : (k a b lo hi : ℕ) → a < b → b < k → lo < hi → hi < k → Before a b lo hi → next_hi k a b < k
-next_fits k a b lo hi o w p q h = goes_on k a b lo hi (places_ascend k a b lo hi o w p h) (place_within k lo hi p q) (next_within k a b o w)
+next_fits k a b lo hi o w p q h = walk_continues k a b lo hi (places_ascend k a b lo hi o w p h) (place_within k lo hi p q) (next_within k a b o w)
 
 count_by_order : (k a b lo hi n : ℕ) (ns : List ℕ) → a < b → b < k → lo < hi → hi < k → UpTo a b lo hi → Order a b lo hi → (Before a b lo hi → count_of (cells_from k (next_lo k a b) (next_hi k a b) ns) lo hi ≡ get_or ns (place_of k lo hi - place_of k (next_lo k a b) (next_hi k a b)) 0) → count_of (cells_from k a b (n ∷ ns)) lo hi ≡ get_or (n ∷ ns) (place_of k lo hi - place_of k a b) 0
 count_by_order k a b lo hi zero ns o w p q u (same e f) next = count_passed k (next_lo k a b) (next_hi k a b) lo hi ns (same_next k a b lo hi e f) ∙ ap (λ i. get_or (0 ∷ ns) i 0) (sym (no_gap k a b lo hi e f))
@@ -78,15 +79,11 @@ count_is k lo hi t p q =
 outside : (k lo hi : ℕ) (c : Cell) → IsCell k c → ((lo < hi) → (hi < k) → ⊥) → (c.lo ≡ lo) × (c.hi ≡ hi) → ⊥
 outside k lo hi c v n e = let o = v.ordered in let w = v.within in grind arith
 
-drop_none : (i : ℕ) → drop {A = ℕ} i [] ≡ []
-drop_none zero = refl
-drop_none (suc i) = refl
-
 -- from a pair on
-from_here : (lo hi : ℕ) (c : Cell) (cells : List Cell) → UpTo lo hi c.lo c.hi → find (is_from lo hi) (c ∷ cells) ≡ Some c
+pub from_here : (lo hi : ℕ) (c : Cell) (cells : List Cell) → UpTo lo hi c.lo c.hi → find (is_from lo hi) (c ∷ cells) ≡ Some c
 from_here lo hi c cells u = grind (arith, nat_tests)
 
-from_later : (lo hi : ℕ) (c : Cell) (cells : List Cell) → Before c.lo c.hi lo hi → find (is_from lo hi) (c ∷ cells) ≡ find (is_from lo hi) cells
+pub from_later : (lo hi : ℕ) (c : Cell) (cells : List Cell) → Before c.lo c.hi lo hi → find (is_from lo hi) (c ∷ cells) ≡ find (is_from lo hi) cells
 from_later lo hi c cells h = grind (arith, nat_tests)
 
 pub found_here : (k lo hi a b n : ℕ) (ns : List ℕ) → UpTo lo hi a b → 0 < n → find (is_from lo hi) (cells_from k a b (n ∷ ns)) ≡ Some (record { lo = a; hi = b; n = n })
@@ -111,7 +108,7 @@ find_by_order k a b lo hi (suc n) ns o w p q u (before h) next = from_later lo h
 find_by_order k a b lo hi n ns o w p q u (behind h) next = absurd (not_behind u h)
 
 find_ahead : (k a b lo hi : ℕ) (t : List ℕ) → a < b → b < k → lo < hi → hi < k → UpTo a b lo hi → find (is_from lo hi) (cells_from k a b t) ≡ find (is_from lo hi) (cells_from k lo hi (drop (place_of k lo hi - place_of k a b) t))
-find_ahead k a b lo hi [] o w p q u = ap (λ l. find (is_from lo hi) (cells_from k lo hi l)) (sym (drop_none (place_of k lo hi - place_of k a b)))
+find_ahead k a b lo hi [] o w p q u = ap (λ l. find (is_from lo hi) (cells_from k lo hi l)) (sym (drop-nil (place_of k lo hi - place_of k a b)))
 find_ahead k a b lo hi (n ∷ ns) o w p q u = find_by_order k a b lo hi n ns o w p q u (order a b lo hi) (λ h. find_ahead k (next_lo k a b) (next_hi k a b) lo hi ns (next_ordered k a b o) (next_fits k a b lo hi o w p q h) p q (next_up_to k a b lo hi o p q h))
 
 -- the walk may start at the place of the pair that is asked for
@@ -136,6 +133,12 @@ total_is k a b (suc n ∷ ns) =
     ∙ ap (λ s. suc n + s) (total_is k (next_lo k a b) (next_hi k a b) ns)
     ∙ sym (sum_by-cons (λ x. x) (suc n) ns)
 
+-- a cell for each place that holds something
+pub cells_filled : (k a b : ℕ) (t : List ℕ) → length (cells_from k a b t) ≡ places_filled t
+cells_filled k a b [] = refl
+cells_filled k a b (zero ∷ ns) = cells_filled k (next_lo k a b) (next_hi k a b) ns
+cells_filled k a b (suc n ∷ ns) = ap suc (cells_filled k (next_lo k a b) (next_hi k a b) ns)
+
 -- a table of zeros has no cell
 pub cells_empty : (k a b : ℕ) (t : List ℕ) → ((p : ℕ) → get_or t p 0 ≡ 0) → cells_from k a b t ≡ []
 cells_empty k a b [] h = refl
@@ -150,7 +153,7 @@ short k a b n ns o w h (inr g) = inr (omega arith)
 module _ (k : ℕ) where
   each_by : (a b n : ℕ) (ns : List ℕ) → a < b → b < k → All (IsCell k) (cells_from k (next_lo k a b) (next_hi k a b) ns) → All (IsCell k) (cells_from k a b (n ∷ ns))
   each_by a b zero ns o w next = next
-  each_by a b (suc n) ns o w next = All-cons (IsCell k) _ _ (record { ordered = o; within = w; filled = omega arith }) next
+  each_by a b (suc n) ns o w next = All-cons (IsCell k) _ _ (record { ordered = o; within = w; positive = omega arith }) next
 
   pub each_cell : (a b : ℕ) (t : List ℕ) → a < b → ((b < k) ⊎ (length t ≡ 0)) → place_of k a b + length t ≤ row_start k k → All (IsCell k) (cells_from k a b t)
   each_cell a b [] o w h = λ i d g. absurd (omega arith)

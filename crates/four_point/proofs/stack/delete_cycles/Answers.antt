@@ -1,4 +1,5 @@
-use Rattle.std.proofs.Common.{◌-◌, ℕ, refl, arith, length-set}
+use Rattle.std.proofs.Common.{◌≡◌, ◌-◌, ◌+◌, ◌*◌, ◌<◌, ◌≤◌, ◌⊎◌, ◌∙◌, inl, inr, ℕ, refl, sym, ap, length, arith, length-set}
+use Rattle.tally.specs.Counts.{Counts, HasGreatestRoom, HasPlace, most_cells}
 use Rattle.turning_points.proofs.Over.{own, zig_own}
 use Rattle.four_point.proofs.Stacked.{closes_none, closes_added, zig_more, last_turns, turn_test, turn_parts, below_at, below_set, calm_set}
 use Rattle.four_point.proofs.stack.delete_cycles.Goals as goal
@@ -12,6 +13,8 @@ loop-len-init c = record {
   cycles = closes_none _ _;
   calm = c.requires.calm;
   lengths = refl;
+  cells = omega arith;
+  room = refl;
   classes = refl;
 }
 
@@ -35,6 +38,17 @@ add-requires-clause-within c =
     let d = below_at _ n (n - 2) c.loop-len.levels v.below v.fits (omega arith) in
     omega arith
 
+-- where the room is not the greatest, it is not yet full
+room_by : (s t : Counts) (len n lo hi one : ℕ) → s.classes ≡ t.classes → s.room ≡ t.room → 4 ≤ len →
+    2 * length s.cells + len ≤ 2 * length t.cells + n → HasGreatestRoom t ⊎ (2 * length t.cells + n ≤ 2 * t.room + 1) → HasPlace s lo hi one
+room_by s t len n lo hi one e f m k (inl h) = inr (inr (inr (f ∙ h ∙ sym (ap most_cells e))))
+room_by s t len n lo hi one e f m k (inr h) = inr (inr (inl (omega arith)))
+
+pub add-requires-clause-room : goal.add-requires-clause-room
+add-requires-clause-room c =
+    let v = c.loop-len.invariant in
+    room_by c.loop-len.tally c.args.tally.now c.loop-len.len c.args.len _ _ 1 v.classes v.room c.loop-len-test.true v.cells c.requires.room
+
 pub loop-len-preserved : goal.loop-len-preserved
 loop-len-preserved c =
     let n = c.loop-len.len in
@@ -48,6 +62,8 @@ loop-len-preserved c =
       cycles = closes_added _ c.loop-len.levels n _ _ _ c.min.result c.max.result c.loop-len-test.true v.fits v.cycles t.0 t.1 c.min.ensures c.max.ensures c.add.ensures.added;
       calm = calm_set c.loop-len.levels n _ v.calm;
       lengths = omega arith;
+      cells = omega (arith, c.add.ensures.cells, v.cells);
+      room = c.add.ensures.room ∙ v.room;
       classes = omega arith;
     }
 

@@ -14,6 +14,8 @@ invariant-loop-len l = record {
   cycles : AddsCycles (take l.initial.len l.initial.levels) (count_of l.initial.tally.cells) (take l.len l.levels) (count_of l.tally.cells);
   calm : HasNoCycleBelow l.levels (l.len - 1);
   lengths : 2 * total_of l.tally.cells + l.len ≡ 2 * total_of l.initial.tally.cells + l.initial.len;
+  cells : 2 * length l.tally.cells + l.len ≤ 2 * length l.initial.tally.cells + l.initial.len;
+  room : l.tally.room ≡ l.initial.tally.room;
   classes : l.tally.classes ≡ l.initial.tally.classes;
 }
 

@@ -1,7 +1,7 @@
-use Rattle.std.proofs.Common.{refl, ◌∙◌, subst, arith, ◌++◌}
+use Rattle.std.proofs.Common.{◌≡◌, ◌+◌, ◌*◌, ◌<◌, ◌≤◌, ◌⊎◌, inl, inr, ℕ, length, refl, sym, ap, ◌∙◌, subst, arith, ◌++◌}
 use Rattle.std.proofs.lemmas.List.{take_all}
 use Rattle.turning_points.specs.Points.{points}
-use Rattle.tally.specs.Counts.{count_of}
+use Rattle.tally.specs.Counts.{Counts, HasGreatestRoom, most_cells, count_of}
 use Rattle.four_point.specs.Residue.{AddsCycles}
 use Rattle.four_point.proofs.Index.{residue_bound}
 use Rattle.residue_join.proofs.Joined.{closes_none, length_none, closes_one_more, length_one_more, joined_results}
@@ -15,9 +15,21 @@ loop-level-init c =
       shape = c.residue-left.ensures.shape;
       lengths = omega (arith, length_none _ own);
       room = omega arith;
+      cells = omega arith;
+      tally_room = refl;
       classes = refl;
       tally_classes = refl;
     }
+
+room_by : (s t : Counts) (len n i m : ℕ) → s.classes ≡ t.classes → s.room ≡ t.room → 2 * length s.cells + len ≤ 2 * length t.cells + n + i → i < m →
+    HasGreatestRoom t ⊎ (2 * length t.cells + n + m ≤ 2 * t.room + 1) → HasGreatestRoom s ⊎ (2 * length s.cells + len ≤ 2 * s.room)
+room_by s t len n i m e f k w (inl h) = inl (f ∙ h ∙ sym (ap most_cells e))
+room_by s t len n i m e f k w (inr h) = inr (omega arith)
+
+pub push-requires-clause-room : goal.push-requires-clause-room
+push-requires-clause-room c =
+    let v = c.loop-level.invariant in
+    room_by c.loop-level.tally c.args.tally.now _ _ c.loop-level.level-index _ v.tally_classes v.tally_room v.cells c.loop-level-test.true c.requires.room
 
 pub loop-level-preserved : goal.loop-level-preserved
 loop-level-preserved c =
@@ -29,6 +41,8 @@ loop-level-preserved c =
       shape = c.push.ensures.shape;
       lengths = omega (arith, v.lengths, c.push.ensures.lengths, length_one_more l c.args.right.now i _ c.loop-level-test.true refl _ _ _ v.step);
       room = omega (arith, v.room, c.push.ensures.room);
+      cells = omega (arith, v.cells, c.push.ensures.cells);
+      tally_room = c.push.ensures.tally_room ∙ v.tally_room;
       classes = c.push.ensures.classes ∙ v.classes;
       tally_classes = c.push.ensures.tally_classes ∙ v.tally_classes;
     }

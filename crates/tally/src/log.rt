@@ -1,0 +1,154 @@
+ghost use Rattle.std.specs.Prelude.{◌≡◌, ℕ, ◌+◌, ◌*◌, ◌^◌, ◌<◌, ◌≤◌, ◌⊎◌, ◌==◌, ◌&&◌, if◌then◌else◌, [], All, IfOk, find, take, length, vec_capacity, vec_len};
+ghost use Rattle.tally.specs.Counts.{IsCell, IsCounts, count_of, total_of, is_from, most_cells, HasPlace};
+ghost use Rattle.tally.specs.Log.{cells_of};
+
+use crate::cells::{Cell, MAX_CLASSES, MAX_TOTAL, MIN_CLASSES};
+use crate::entries::{amount_in, first_in, gather, pairs_in, put_first};
+use std::alloc::{AllocError, Global};
+use std::marker::Model;
+
+/// Counts by unordered pair of levels, as a log: what was counted, in the order in which it was. There are an eighth more places
+/// than room for cells, so that a full log, once it is put in order, has a place for so many entries more.
+#[derive(Debug, Drop)]
+pub struct Log {
+    classes: u16,
+    room: u32,
+    total: u64,
+    entries: Vec<Cell>,
+}
+
+impl Model for Log {
+    ghost use Rattle.tally.specs.Counts.{Counts};
+    ghost use Rattle.tally.specs.Log.{cells_of, IsLog};
+    ghost use Rattle.std.specs.Prelude.{vec_capacity};
+
+    ghost Value = { Counts };
+
+    ghost view = { λ t. record { classes = t.classes; room = t.room; cells = cells_of t.entries.items } };
+
+    ghost invariant = { λ t. IsLog t.classes t.room t.total t.entries.items (vec_capacity t.entries) };
+}
+
+/// Leaves at least one place free.
+#[inline(always)]
+fn make_place(entries: &mut Vec<Cell>)
+    requires each { All (IsCell MAX_CLASSES) entries.old.items }
+    requires total { total_of entries.old.items < 2 ^ 64 }
+    requires room { length (cells_of entries.old.items) < vec_capacity entries.old }
+    ensures place { vec_len entries.new < vec_capacity entries.new }
+    ensures entries { (entries.new.items ≡ cells_of entries.old.items) ⊎ (entries.new.items ≡ entries.old.items) }
+    ensures capacity { vec_capacity entries.new ≡ vec_capacity entries.old }
+{
+    if entries.len() == entries.capacity() {
+        gather(entries);
+    }
+}
+
+impl Log {
+    /// Reserves all places.
+    pub fn new(alloc: Global, classes: u16, room: u32) -> Result<Log, AllocError>
+        requires few { MIN_CLASSES ≤ classes }
+        requires many { classes ≤ MAX_CLASSES }
+        requires most { room ≤ most_cells classes }
+        ensures empty { IfOk result (λ tally. tally ≡ record { classes = classes; room = room; cells = [] }) }
+    {
+        let places = room as usize + room as usize / 8 + 1;
+        Ok(Log {
+            classes,
+            room,
+            total: 0,
+            entries: Vec::with_capacity(alloc, places)?,
+        })
+    }
+
+    pub fn classes(&self) -> u16
+        ensures classes { result ≡ self.now.classes }
+        ensures counts { IsCounts self.now }
+    {
+        self.classes
+    }
+
+    pub fn room(&self) -> u32
+        ensures room { result ≡ self.now.room }
+        ensures counts { IsCounts self.now }
+    {
+        self.room
+    }
+
+    pub fn cells(&self) -> u32
+        ensures cells { result ≡ length self.now.cells }
+        ensures counts { IsCounts self.now }
+    {
+        pairs_in(&self.entries) as u32
+    }
+
+    pub fn total(&self) -> u64
+        ensures total { result ≡ total_of self.now.cells }
+        ensures counts { IsCounts self.now }
+    {
+        self.total
+    }
+
+    /// What was counted, in no order.
+    pub fn entries(&self) -> &[Cell]
+        ensures cells { cells_of result.now ≡ self.now.cells }
+        ensures each { All (IsCell self.now.classes) result.now }
+        ensures total { total_of result.now ≡ total_of self.now.cells }
+        ensures counts { IsCounts self.now }
+    {
+        &self.entries
+    }
+
+    /// Writes the cells, in order, to the front of a buffer. Puts the log in order and equal pairs together first.
+    pub fn write(&mut self, out: &mut [Cell]) -> usize
+        requires room { length self.old.cells ≤ length out.old }
+        ensures cells { take result out.new ≡ self.old.cells }
+        ensures count { result ≡ length self.old.cells }
+        ensures same { self.new ≡ self.old }
+    {
+        gather(&mut self.entries);
+        put_first(out, &self.entries);
+        self.entries.len()
+    }
+
+    #[inline(always)]
+    pub fn add(&mut self, lo: u16, hi: u16, n: u64)
+        requires ordered { lo < hi }
+        requires within { hi < self.old.classes }
+        requires total { total_of self.old.cells + n ≤ MAX_TOTAL }
+        requires room { HasPlace self.old lo hi n }
+        ensures added { (a b : ℕ) → count_of self.new.cells a b ≡
+            count_of self.old.cells a b + (if a == lo && b == hi then n else 0) }
+        ensures total { total_of self.new.cells ≡ total_of self.old.cells + n }
+        ensures cells { length self.new.cells ≤ length self.old.cells + 1 }
+        ensures classes { self.new.classes ≡ self.old.classes }
+        ensures room { self.new.room ≡ self.old.room }
+        ensures counts { IsCounts self.new }
+    {
+        self.total += n;
+        if n > 0 {
+            make_place(&mut self.entries);
+            self.entries.push_reserved(Cell { lo, hi, n });
+        }
+    }
+
+    pub fn get(&self, lo: u16, hi: u16) -> u64
+        ensures { result ≡ count_of self.now.cells lo hi }
+    {
+        amount_in(&self.entries, lo, hi)
+    }
+
+    pub fn next(&self, lo: u16, hi: u16) -> Option<Cell>
+        ensures { result ≡ find (is_from lo hi) self.now.cells }
+    {
+        first_in(&self.entries, lo, hi)
+    }
+
+    pub fn clear(&mut self)
+        ensures empty { self.new ≡ record { classes = self.old.classes; room = self.old.room; cells = [] } }
+        ensures counts { IsCounts self.new }
+    {
+        self.entries.clear();
+        self.total = 0;
+    }
+}
