@@ -7,12 +7,13 @@
 --   longer                           a list with an item more is another list
 --   length-rewritten                 a buffer whose front was written
 --   get_or-behind, get_or-zeros      places; positive_within: what is past the end is 0
+--   All-reverse, All-of_reverse     what holds of each item
 --   below_positive, below_at, below_set_third   lists of numbers below a bound
-use Rattle.std.proofs.Common.{◌≡◌, ◌≢◌, ℕ, zero, suc, ◌+◌, ◌-◌, ◌<◌, ◌≤◌, ◌⊎◌, inl, inr, List, [], ◌∷◌, ◌++◌, length, take, drop, set, get_or, reverse, refl, sym, ap, ◌∙◌, arith, append_assoc, take-append-drop, length-append, length-set, get_or-take, get_or-set_same, get_or-set_other, length-take-le}
+use Rattle.std.proofs.Common.{◌≡◌, ◌≢◌, ℕ, zero, suc, ◌+◌, ◌-◌, ◌<◌, ◌≤◌, ◌⊎◌, inl, inr, List, [], ◌∷◌, ◌++◌, length, take, drop, set, get_or, reverse, refl, sym, ap, ◌∙◌, subst, arith, append_assoc, take-append-drop, length-append, length-set, get_or-take, get_or-set_same, get_or-set_other, length-take-le}
 use Rattle.std.specs.Prelude.{All, replicate}
 use Rattle.std.proofs.lemmas.Bool.{cases_lt, cases_eq}
-use Rattle.std.proofs.lemmas.List.{take_more, take_more_set, take_at, drop-drop, take-append-le, reverse-append, get_or-replicate, get_or_past, length-replicate}
-use Rattle.std.proofs.lemmas.List.Elements.{All-head}
+use Rattle.std.proofs.lemmas.List.{take_more, take_more_set, take_at, drop-drop, take-append-le, reverse-append, reverse-reverse, get_or-replicate, get_or_past, length-replicate}
+use Rattle.std.proofs.lemmas.List.Elements.{All-head, All-tail, All-push}
 use Rattle.std.proofs.Math.Seq.{take-append-add}
 
 pub take_next : (s : List ℕ) (i j : ℕ) → j ≡ i + 1 → i < length s → take j s ≡ take i s ++ get_or s i 0 ∷ []
@@ -121,3 +122,11 @@ below_set_third k n x s a room few w = λ i d h.
     let e = get_or-take (n - 2) t i d g in
     let v = below_more k n x i d s a room few w g (cases_eq i (n - 3)) in
     omega arith
+
+-- what holds of each item holds in any order
+pub All-reverse : {X : Type 0} (P : X → Type 0) (l : List X) → All P l → All P (reverse l)
+All-reverse P [] a = a
+All-reverse P (x ∷ l) a = subst (All P) (sym (reverse-append (x ∷ []) l)) (All-push P (reverse l) x (All-reverse P l (All-tail P x l a)) (All-head P x l a))
+
+pub All-of_reverse : {X : Type 0} (P : X → Type 0) (l : List X) → All P (reverse l) → All P l
+All-of_reverse P l a = subst (All P) (reverse-reverse l) (All-reverse P (reverse l) a)

@@ -1,84 +1,97 @@
--- Live points in a list, the newest last, and what the steps of the standard do to them.
---   last_two                  the two newest apart
---   cycle_live, cycle_counted   X >= Y, and Y does not contain the starting point: its two points are dropped, and Y is counted
---   open_live, open_counted     X < Y, or there are fewer than three points: the point is live, and nothing is counted
---   counted_one               one range more was counted
---   out_of_data               what was counted, with the ranges that are left, is the whole run
-use Rattle.std.proofs.Common.{◌≡◌, ℕ, ◌+◌, ◌-◌, ◌<◌, ◌≤◌, List, [], ◌∷◌, ◌++◌, length, take, drop, get_or, reverse, sym, ap, ◌∙◌, arith, append_assoc, append-nil, max, ◌⊎◌, inl, inr}
-use Rattle.std.proofs.lemmas.List.{drop_all, take_all, reverse-append, length-reverse, length-take, map-append}
+-- Live points at the first n places of a buffer, the newest last, and what the steps of the standard do to them. The point z is read.
+--   newest_two                   the two newest apart
+--   cycle_live, cycle_counted    X >= Y, and Y doesn't contain the starting point: its two points are dropped, and Y is counted
+--   half_live, half_counted      X >= Y, and Y contains the starting point: the second of its points is the start
+--   open_live, open_counted      X < Y, or there are fewer than three points: the point is live, and nothing is counted
+--   left_next, left_few          step 6, one range after the other
+--   All-first_few, All-start, All-read   what holds of each live point
+use Rattle.std.proofs.Common.{◌≡◌, ℕ, zero, suc, ◌+◌, ◌-◌, ◌<◌, ◌≤◌, ◌⊎◌, inl, inr, List, [], ◌∷◌, ◌++◌, length, take, set, get_or, reverse, sym, ap, ◌∙◌, arith, get_or-take}
+use Rattle.std.specs.Prelude.{All}
+use Rattle.std.proofs.lemmas.List.{take_more_set, reverse-append, length-reverse, length-take, length-take-le}
+use Rattle.std.proofs.lemmas.List.Elements.{All-nil, All-cons}
 use Rattle.std.proofs.lemmas.Bool.{cases_lt}
 use Rattle.std.proofs.Math.Nat.{lt_of_not-le}
-use Rattle.lemmas.proofs.Lists.{reverse-take_next}
+use Rattle.lemmas.proofs.Lists.{take_by_last_two, reverse-take_next}
 use Rattle.turning_points.specs.Pairs.{range}
-use Rattle.three_point.specs.Run.{CountedRange, counted_range, live_after, ranges_counted, ranges_left, run}
-use Rattle.three_point.specs.Ranges.{counted_range_of, counted_ranges, IsReached}
-use Rattle.three_point.specs.declared.ranges.Range.{Range}
-use Rattle.three_point.proofs.Steps.{live_after_cycle, ranges_counted_cycle, live_after_less, live_after_few, ranges_counted_less, ranges_counted_few, ranges_left_few}
+use Rattle.three_point.specs.Run.{counted_range, live_after, ranges_counted, ranges_left}
+use Rattle.three_point.proofs.Steps.{live_after_cycle, ranges_counted_cycle, live_after_half, ranges_counted_half, live_after_less, live_after_few, ranges_counted_less, ranges_counted_few, ranges_left_few}
 
--- the last but one and the last of s
-abbrev pub first_of_two : List ℕ → ℕ
-first_of_two s = get_or s (length s - 2) 0
+pub newest_two : (s : List ℕ) (n : ℕ) → 2 ≤ n → n ≤ length s → reverse (take n s) ≡ get_or s (n - 1) 0 ∷ get_or s (n - 2) 0 ∷ reverse (take (n - 2) s)
+newest_two s n h r = ap reverse (take_by_last_two s n h r) ∙ reverse-append (take (n - 2) s) (get_or s (n - 2) 0 ∷ get_or s (n - 1) 0 ∷ [])
 
-abbrev pub second_of_two : List ℕ → ℕ
-second_of_two s = get_or s (length s - 1) 0
+live_after_more : (z y x : ℕ) (v : List ℕ) → 0 < length v → range x y ≤ range y z → live_after z (y ∷ x ∷ v) ≡ live_after z v
+live_after_more z y x [] f h = absurd (omega arith)
+live_after_more z y x (w ∷ v) f h = live_after_cycle z y x w v h
 
-last_two : (s : List ℕ) → 2 ≤ length s → reverse s ≡ second_of_two s ∷ first_of_two s ∷ reverse (take (length s - 2) s)
-last_two s h =
-    let n = length s - 2 in
-    let e : s ≡ take (n + 1 + 1) s = sym (take_all (n + 1 + 1) s (omega arith)) in
-    let f : n + 1 ≡ length s - 1 = omega arith in
-    ap reverse e ∙ reverse-take_next s (n + 1) (omega arith) ∙ ap (λ l. get_or s (n + 1) 0 ∷ l) (reverse-take_next s n (omega arith)) ∙ ap (λ k. get_or s k 0 ∷ get_or s n 0 ∷ reverse (take n s)) f
+ranges_counted_more : (z y x : ℕ) (v : List ℕ) → 0 < length v → range x y ≤ range y z → ranges_counted z (y ∷ x ∷ v) ≡ counted_range x y 2 ∷ ranges_counted z v
+ranges_counted_more z y x [] f h = absurd (omega arith)
+ranges_counted_more z y x (w ∷ v) f h = ranges_counted_cycle z y x w v h
 
-live_after_not_empty : (z y x : ℕ) (v : List ℕ) → 0 < length v → range x y ≤ range y z → live_after z (y ∷ x ∷ v) ≡ live_after z v
-live_after_not_empty z y x [] f h = absurd (omega arith)
-live_after_not_empty z y x (w ∷ v) f h = live_after_cycle z y x w v h
+module _ (s : List ℕ) (n z : ℕ) (room : n ≤ length s) where
+  older : 2 < n → 0 < length (reverse (take (n - 2) s))
+  older h = omega (arith, length-reverse (take (n - 2) s), length-take (n - 2) s)
 
-ranges_counted_not_empty : (z y x : ℕ) (v : List ℕ) → 0 < length v → range x y ≤ range y z → ranges_counted z (y ∷ x ∷ v) ≡ counted_range x y 2 ∷ ranges_counted z v
-ranges_counted_not_empty z y x [] f h = absurd (omega arith)
-ranges_counted_not_empty z y x (w ∷ v) f h = ranges_counted_cycle z y x w v h
+  pub cycle_live : 2 < n → range (get_or s (n - 2) 0) (get_or s (n - 1) 0) ≤ range (get_or s (n - 1) 0) z → live_after z (reverse (take (n - 2) s)) ≡ live_after z (reverse (take n s))
+  cycle_live h r = sym (ap (live_after z) (newest_two s n (omega arith) room) ∙ live_after_more z _ _ (reverse (take (n - 2) s)) (older h) r)
 
--- the points s are live, and z is read
-module _ (s : List ℕ) (z : ℕ) where
-  pub cycle_live : 2 < length s → IsReached s z → live_after z (reverse (take (length s - 2) s)) ≡ live_after z (reverse s)
-  cycle_live h r =
-      let v = reverse (take (length s - 2) s) in
-      sym (ap (live_after z) (last_two s (omega arith)) ∙ live_after_not_empty z _ _ v (omega (arith, length-reverse (take (length s - 2) s), length-take (length s - 2) s)) r.1)
+  pub cycle_counted : 2 < n → range (get_or s (n - 2) 0) (get_or s (n - 1) 0) ≤ range (get_or s (n - 1) 0) z → ranges_counted z (reverse (take n s)) ≡ counted_range (get_or s (n - 2) 0) (get_or s (n - 1) 0) 2 ∷ ranges_counted z (reverse (take (n - 2) s))
+  cycle_counted h r = ap (ranges_counted z) (newest_two s n (omega arith) room) ∙ ranges_counted_more z _ _ (reverse (take (n - 2) s)) (older h) r
 
-  pub cycle_counted : 2 < length s → IsReached s z → counted_range (first_of_two s) (second_of_two s) 2 ∷ ranges_counted z (reverse (take (length s - 2) s)) ≡ ranges_counted z (reverse s)
-  cycle_counted h r =
-      let v = reverse (take (length s - 2) s) in
-      sym (ap (ranges_counted z) (last_two s (omega arith)) ∙ ranges_counted_not_empty z _ _ v (omega (arith, length-reverse (take (length s - 2) s), length-take (length s - 2) s)) r.1)
+  pub open_live : n < length s → (2 ≤ n → range (get_or s (n - 2) 0) (get_or s (n - 1) 0) ≤ range (get_or s (n - 1) 0) z → ⊥) → reverse (take (n + 1) (set s n z)) ≡ live_after z (reverse (take n s))
+  open_live inside g = ap reverse (take_more_set s n z inside) ∙ reverse-append (take n s) (z ∷ []) ∙ sym (stays (cases_lt n 2))
+    where
+      stays : ((n < 2) ⊎ (2 ≤ n)) → live_after z (reverse (take n s)) ≡ z ∷ reverse (take n s)
+      stays (inl h) = live_after_few z (reverse (take n s)) (omega (arith, length-reverse (take n s), length-take n s))
+      stays (inr h) =
+          let e = newest_two s n h room in
+          ap (live_after z) e ∙ live_after_less z _ _ (reverse (take (n - 2) s)) (lt_of_not-le (g h)) ∙ ap (λ l. z ∷ l) (sym e)
 
-  less_live : (IsReached s z → ⊥) → (length s < 2) ⊎ (2 ≤ length s) → reverse (s ++ (z ∷ [])) ≡ live_after z (reverse s)
-  less_live g (inl h) = reverse-append s (z ∷ []) ∙ sym (live_after_few z (reverse s) (omega (arith, length-reverse s)))
-  less_live g (inr h) =
-      let e = last_two s h in
-      reverse-append s (z ∷ []) ∙ ap (λ l. z ∷ l) e ∙ sym (ap (live_after z) e ∙ live_after_less z _ _ (reverse (take (length s - 2) s)) (lt_of_not-le (λ r. g (h, r))))
+  pub open_counted : (2 ≤ n → range (get_or s (n - 2) 0) (get_or s (n - 1) 0) ≤ range (get_or s (n - 1) 0) z → ⊥) → ranges_counted z (reverse (take n s)) ≡ []
+  open_counted g = none (cases_lt n 2)
+    where
+      none : ((n < 2) ⊎ (2 ≤ n)) → ranges_counted z (reverse (take n s)) ≡ []
+      none (inl h) = ranges_counted_few z (reverse (take n s)) (omega (arith, length-reverse (take n s), length-take n s))
+      none (inr h) = ap (ranges_counted z) (newest_two s n h room) ∙ ranges_counted_less z _ _ (reverse (take (n - 2) s)) (lt_of_not-le (g h))
 
-  less_counted : (IsReached s z → ⊥) → (length s < 2) ⊎ (2 ≤ length s) → ranges_counted z (reverse s) ≡ []
-  less_counted g (inl h) = ranges_counted_few z (reverse s) (omega (arith, length-reverse s))
-  less_counted g (inr h) = ap (ranges_counted z) (last_two s h) ∙ ranges_counted_less z _ _ (reverse (take (length s - 2) s)) (lt_of_not-le (λ r. g (h, r)))
+pub half_live : (s : List ℕ) (n z : ℕ) → n ≤ length s → n ≡ 2 → range (get_or s (n - 2) 0) (get_or s (n - 1) 0) ≤ range (get_or s (n - 1) 0) z → live_after z (reverse (take 1 (set s 0 (get_or s (n - 1) 0)))) ≡ live_after z (reverse (take n s))
+half_live [] n z room e h = absurd (omega arith)
+half_live (x ∷ []) n z room e h = absurd (omega arith)
+half_live (x ∷ y ∷ s) (suc (suc zero)) z room e h = sym (live_after_half z y x h)
+half_live (x ∷ y ∷ s) zero z room e h = absurd (omega arith)
+half_live (x ∷ y ∷ s) (suc zero) z room e h = absurd (omega arith)
+half_live (x ∷ y ∷ s) (suc (suc (suc n))) z room e h = absurd (omega arith)
 
-  pub open_live : (IsReached s z → ⊥) → reverse (s ++ (z ∷ [])) ≡ live_after z (reverse s)
-  open_live g = less_live g (cases_lt (length s) 2)
+pub half_counted : (s : List ℕ) (n z : ℕ) → n ≤ length s → n ≡ 2 → range (get_or s (n - 2) 0) (get_or s (n - 1) 0) ≤ range (get_or s (n - 1) 0) z → ranges_counted z (reverse (take n s)) ≡ counted_range (get_or s (n - 2) 0) (get_or s (n - 1) 0) 1 ∷ ranges_counted z (reverse (take 1 (set s 0 (get_or s (n - 1) 0))))
+half_counted [] n z room e h = absurd (omega arith)
+half_counted (x ∷ []) n z room e h = absurd (omega arith)
+half_counted (x ∷ y ∷ s) (suc (suc zero)) z room e h = ranges_counted_half z y x h
+half_counted (x ∷ y ∷ s) zero z room e h = absurd (omega arith)
+half_counted (x ∷ y ∷ s) (suc zero) z room e h = absurd (omega arith)
+half_counted (x ∷ y ∷ s) (suc (suc (suc n))) z room e h = absurd (omega arith)
 
-  pub open_counted : (IsReached s z → ⊥) → ranges_counted z (reverse s) ≡ []
-  open_counted g = less_counted g (cases_lt (length s) 2)
+-- step 6: the range between the places i - 1 and i comes after those between the first i
+pub left_next : (s : List ℕ) (i : ℕ) → 1 ≤ i → i < length s → ranges_left (reverse (take (i + 1) s)) ≡ ranges_left (reverse (take i s)) ++ (counted_range (get_or s (i - 1) 0) (get_or s i 0) 1 ∷ [])
+left_next s (suc j) h r =
+    let f : suc j ≡ j + 1 = omega arith in
+    let e : reverse (take (suc j) s) ≡ get_or s j 0 ∷ reverse (take j s) = ap (λ k. reverse (take k s)) f ∙ reverse-take_next s j (omega arith) in
+    let d : j ≡ suc j - 1 = omega arith in
+    ap ranges_left (reverse-take_next s (suc j) r ∙ ap (λ l. get_or s (suc j) 0 ∷ l) e) ∙ ap (λ l. ranges_left l ++ (counted_range (get_or s j 0) (get_or s (suc j) 0) 1 ∷ [])) (sym e)
+    ∙ ap (λ k. ranges_left (reverse (take (suc j) s)) ++ (counted_range (get_or s k 0) (get_or s (suc j) 0) 1 ∷ [])) d
+left_next s zero h r = absurd (omega arith)
 
-pub counted_one : (xs : List Range) (r : Range) {l : CountedRange} {j k m : List CountedRange} → counted_range_of r ≡ l → j ≡ k → l ∷ k ≡ m → counted_ranges (xs ++ (r ∷ [])) ++ j ≡ counted_ranges xs ++ m
-counted_one xs r {l} {j} {k} {m} e g f =
-    ap (λ t. t ++ j) (map-append counted_range_of xs (r ∷ [])) ∙ append_assoc (counted_ranges xs) (counted_range_of r ∷ []) j ∙ ap (λ t. counted_ranges xs ++ t) (ap (λ t. t ∷ j) e ∙ ap (λ t. l ∷ t) g ∙ f)
+pub left_few : (s : List ℕ) (n : ℕ) → n < 2 → ranges_left (reverse (take n s)) ≡ []
+left_few s n h = ranges_left_few (reverse (take n s)) (omega (arith, length-reverse (take n s), length-take n s))
 
-pub nothing_more : {a l m : List CountedRange} → l ≡ [] → a ++ l ≡ m → a ≡ m
-nothing_more {a} e f = sym (append-nil a) ∙ ap (λ k. a ++ k) (sym e) ∙ f
+module _ (k : ℕ) where
+  -- of the first n places, those before the m-th
+  pub All-first_few : (s : List ℕ) (m n : ℕ) → m ≤ n → n ≤ length s → All (λ x. x < k) (take n s) → All (λ x. x < k) (take m s)
+  All-first_few s m n h room a = λ i d g.
+      let within : i < m = omega (arith, g, length-take m s) in
+      let e = get_or-take m s i d within in
+      let f = get_or-take n s i d (omega arith) in
+      let b = a i d (omega (arith, length-take-le n s room)) in
+      omega arith
 
-ranges_left-few : (s : List ℕ) (n : ℕ) → n < 2 → ranges_left (reverse (take n s)) ≡ []
-ranges_left-few s n h = ranges_left_few (reverse (take n s)) (omega (arith, length-reverse (take n s), length-take n s))
-
-ranges_left-same : (s : List ℕ) (i : ℕ) → i ≤ max 1 (length s) → length s ≤ i → (length s < 2) ⊎ (2 ≤ length s) → ranges_left (reverse (take i s)) ≡ ranges_left (reverse s)
-ranges_left-same s i h g (inl f) = ranges_left-few s i (omega arith) ∙ sym (ranges_left_few (reverse s) (omega (arith, length-reverse s)))
-ranges_left-same s i h g (inr f) = ap (λ l. ranges_left (reverse l)) (take_all i s g)
-
--- out of data: what was counted, with the ranges between the first i live points, is the whole run
-pub out_of_data : {m r : List CountedRange} (a : List CountedRange) (s p : List ℕ) (i j : ℕ) → m ≡ a ++ ranges_left (reverse (take i s)) → i ≤ max 1 (length s) → length s ≤ i → length p ≤ j → a ++ run (reverse s) (drop j p) ≡ r → m ≡ r
-out_of_data a s p i j e h g f q = e ∙ ap (λ l. a ++ l) (ranges_left-same s i h g (cases_lt (length s) 2) ∙ sym (ap (run (reverse s)) (drop_all j p f))) ∙ q
+  pub All-start : (s : List ℕ) (y : ℕ) → y < k → All (λ x. x < k) (take 1 (set s 0 y))
+  All-start [] y h = All-nil (λ x. x < k)
+  All-start (x ∷ s) y h = All-cons (λ x. x < k) y [] h (All-nil (λ x. x < k))

@@ -3,4 +3,8 @@ pub mod Standard
 pub mod Bounds
 pub mod Sums
 pub mod RangeByRange
+pub mod Handed
+pub mod RunNext
+pub mod Falling
+pub mod Histories
 pub mod Buffer

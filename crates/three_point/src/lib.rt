@@ -1,20 +1,31 @@
 //! The three-point count of ASTM E1049-85, 5.4.4 (rainflow counting), over the points of a level history.
 //!
-//! `specs/Run.antt` has the standard's steps as they are read aloud: X, Y, the starting point S and the list of live points. `astm`
-//! gives the ranges exactly as these steps count them, in their order, and so also what tables do not tell: when each was counted.
+//! `specs/Run.antt` has the run as a recursion over the live points, and `specs/Standard.antt` the standard's numbered steps, with X, Y
+//! and the starting point S; `laws::standard` says that the two count the same ranges in the same order.
 //!
 //! The live points are a stack, the newest on top. Where Y contains the starting point there are two of them below the point that is
 //! read, so dropping the first moves one level; otherwise the two points of Y are on top. Each step of the standard thus takes
-//! constant time, and each point is read once and dropped once. Room for as many live points (2 bytes each) and ranges (6 bytes each)
-//! as there are points is reserved once; what is not used of it is not touched.
+//! constant time, and each point is read once and dropped once.
+//!
+//! `Run` takes points as they come, in constant memory: from the oldest live point to the newest the ranges fall, so there are at most
+//! `classes + 1` of them. It hands each range to a `RangeCounter` as it is counted; `HalfUnits` is one, with a place for each range.
+//! `astm` lists the ranges of a list of points, and so also what tables do not tell: when each was counted. It takes 6 bytes for each
+//! point and 2 for the live ones. Both take the same steps (`reading.rt`).
 #![tactic(auto)]
 
+mod counter;
+mod half_units;
 /// Laws over the definitions alone.
 pub mod laws;
+mod listing;
 mod ranges;
+mod reading;
 mod run;
 #[cfg(test)]
 mod tests;
 
+pub use counter::RangeCounter;
+pub use half_units::HalfUnits;
+pub use listing::astm;
 pub use ranges::{Range, Ranges};
-pub use run::astm;
+pub use run::Run;

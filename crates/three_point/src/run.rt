@@ -1,81 +1,105 @@
-ghost use Rattle.std.specs.Prelude.{◌≡◌, ℕ, ◌+◌, ◌<◌, ◌≤◌, ◌↔◌, ◌++◌, [], List, length, take, reverse, IsTrue, IfOk, vec_len, vec_capacity};
-ghost use Rattle.turning_points.specs.Points.{points as points_of};
-ghost use Rattle.three_point.specs.Run.{counted_range, live_after, ranges_counted, run};
-ghost use Rattle.three_point.specs.Ranges.{counted_range_of, counted_ranges, IsReached};
+ghost use Rattle.std.specs.Prelude.{◌≡◌, ℕ, ◌+◌, ◌<◌, ◌≤◌, ◌∷◌, ◌++◌, [], All, List, length, IfOk};
+ghost use Rattle.three_point.specs.Run.{CountedRange, live_after, ranges_counted, ranges_left, run};
 
-use crate::ranges::{Range, Ranges};
+use crate::counter::RangeCounter;
+use crate::reading::{count_left, read};
 use std::alloc::{AllocError, Global};
+use std::marker::Model;
 
-/// Counts the ranges of a list of points by the three-point count of ASTM E1049-85, 5.4.4, in the order of the standard's steps:
-/// those of step 6 come last, in order of the history.
+/// The three-point count of ASTM E1049-85, 5.4.4, over points that come one at a time. It keeps what is live, and hands each range to
+/// a counter as it is counted: those that the pushes handed over, and then those of `finish`, are the ranges of all points pushed.
 ///
-/// Takes memory twice: room for the answer and for the live points. Time is in proportion to the number of points.
-pub fn astm(alloc: Global, points: &[u16]) -> Result<Ranges, AllocError>
-    requires { points_of points.now ≡ points.now }
-    ensures { IfOk result (λ ranges. counted_ranges ranges ≡ run [] points.now) }
-{
-    let mut ranges = Vec::with_capacity(alloc, points.len())?;
-    let mut live = Vec::with_capacity(alloc, points.len())?;
-    for &point in points {
-        read(&mut live, point, &mut ranges);
-    }
-    for i in 1..live.len() {
-        ranges.push_reserved(counted(live[i - 1], live[i], 1));
-    }
-    Ok(Ranges::from_vec(ranges))
+/// From the oldest live point to the newest the ranges fall strictly, so no more than `classes + 1` points are live.
+#[derive(Debug, Drop)]
+pub struct Run {
+    classes: u16,
+    places: Vec<u16>,
+    len: usize,
 }
 
-/// Reads the next point: counts the ranges that it closes, and puts it behind those of the live points that are left.
-fn read(live: &mut Vec<u16>, point: u16, ranges: &mut Vec<Range>)
-    requires room { vec_len live.old < vec_capacity live.old }
-    requires reserved { vec_len live.old + vec_len ranges.old < vec_capacity ranges.old }
-    ensures live { reverse live.new.items ≡ live_after point (reverse live.old.items) }
-    ensures counted { counted_ranges ranges.new.items ≡ counted_ranges ranges.old.items ++ ranges_counted point (reverse live.old.items) }
-    ensures fewer { vec_len live.new + vec_len ranges.new ≤ vec_len live.old + 1 + vec_len ranges.old }
-    ensures room { vec_capacity live.new ≡ vec_capacity live.old }
-    ensures reserved { vec_capacity ranges.new ≡ vec_capacity ranges.old }
-{
-    while closes(live, point) {
-        let len = live.len();
-        let first = live[len - 2];
-        let second = live[len - 1];
-        if len == 2 {
-            // Y contains the starting point: it is a half cycle, and its second point is the start from now on.
-            ranges.push_reserved(counted(first, second, 1));
-            live[0] = second;
-            live.truncate(1);
-        } else {
-            ranges.push_reserved(counted(first, second, 2));
-            live.truncate(len - 2);
-        }
+// Clauses see the number of classes and the live points, the newest first.
+impl Model for Run {
+    ghost use Rattle.std.specs.Prelude.{reverse, take};
+    ghost use Rattle.three_point.specs.Live.{RunState, IsRunBuffer};
+
+    ghost Value = { RunState };
+
+    ghost view = { λ r. record { classes = r.classes; live = reverse (take r.len r.places.items) } };
+
+    ghost invariant = { λ r. IsRunBuffer r.classes r.places.items r.len };
+}
+
+impl Run {
+    ghost use Rattle.three_point.specs.Live.{HasCounted};
+
+    /// A run before its first point. Takes memory once, 2 bytes for each class, for as many points as can ever be live.
+    pub fn new(alloc: Global, classes: u16) -> Result<Run, AllocError>
+        ensures { IfOk result (λ run. run ≡ record { classes = classes; live = [] }) }
+    {
+        Ok(Run {
+            classes,
+            places: vec![in alloc; 0; classes as usize + 2]?,
+            len: 0,
+        })
     }
-    live.push_reserved(point);
-}
 
-/// Whether there are three points with the one that is read, and the range X, from the newest live point to it, is at least the range
-/// Y, between the two newest live points.
-fn closes(live: &[u16], point: u16) -> bool
-    ensures { IsTrue result ↔ IsReached live.now point }
-{
-    let len = live.len();
-    len >= 2 && live[len - 2].abs_diff(live[len - 1]) <= live[len - 1].abs_diff(point)
-}
+    /// Reads the next point, and hands over the ranges that it closes: steps 1 to 5. Takes no memory; a point is dropped once, so
+    /// this takes a constant number of steps on average.
+    #[inline]
+    pub fn push<C: RangeCounter>(&mut self, point: u16, counter: &mut C)
+        requires point { point < self.old.classes }
+        requires counter { self.old.classes ≤ C.classes counter.old }
+        requires room { length self.old.live ≤ C.room counter.old }
 
-/// So many half units of the range between two points.
-fn counted(x: u16, y: u16, halves: u8) -> Range
-    ensures { counted_range_of result ≡ counted_range x y halves }
-{
-    if x < y {
-        Range {
-            lo: x,
-            hi: y,
-            halves,
+        // What was handed over, with what is to come, is the run of one point more.
+        ensures counted { (points : List ℕ) → HasCounted points self.old.live (C.holds counter.old) →
+            HasCounted (points ++ point ∷ []) self.new.live (C.holds counter.new) }
+        ensures ranges { (given : List CountedRange) → C.holds counter.old given →
+            C.holds counter.new (given ++ ranges_counted point self.old.live) }
+        ensures live { self.new.live ≡ live_after point self.old.live }
+        ensures bound { length self.new.live ≤ self.new.classes + 1 }
+
+        // A half unit takes a live point away.
+        ensures room { C.room counter.old + length self.new.live
+            ≤ C.room counter.new + length self.old.live + 1 }
+        ensures classes { self.new.classes ≡ self.old.classes }
+        ensures counter_classes { C.classes counter.new ≡ C.classes counter.old }
+    {
+        self.len = read(&mut self.places, self.len, point, counter);
+    }
+
+    /// Reads points, one after the other.
+    #[inline]
+    pub fn push_all<C: RangeCounter>(&mut self, points: &[u16], counter: &mut C)
+        requires points { All (λ point. point < self.old.classes) points.now }
+        requires counter { self.old.classes ≤ C.classes counter.old }
+        requires room { length self.old.live + length points.now ≤ C.room counter.old }
+        ensures counted { (before : List ℕ) → HasCounted before self.old.live (C.holds counter.old) →
+            HasCounted (before ++ points.now) self.new.live (C.holds counter.new) }
+        ensures bound { length self.new.live ≤ self.new.classes + 1 }
+        ensures room { C.room counter.old + length self.new.live
+            ≤ C.room counter.new + length self.old.live + length points.now }
+        ensures classes { self.new.classes ≡ self.old.classes }
+        ensures counter_classes { C.classes counter.new ≡ C.classes counter.old }
+    {
+        let places = self.places.as_mut_slice();
+        let mut len = self.len;
+        for &point in points {
+            len = read(places, len, point, counter);
         }
-    } else {
-        Range {
-            lo: y,
-            hi: x,
-            halves,
-        }
+        self.len = len;
+    }
+
+    /// Hands over the ranges that are left when all points were read: step 6, in order of the history.
+    pub fn finish<C: RangeCounter>(self, counter: &mut C)
+        requires counter { self.classes ≤ C.classes counter.old }
+        requires room { length self.live ≤ C.room counter.old }
+        ensures counted { (points : List ℕ) → HasCounted points self.live (C.holds counter.old) →
+            C.holds counter.new (run [] points) }
+        ensures ranges { (given : List CountedRange) → C.holds counter.old given →
+            C.holds counter.new (given ++ ranges_left self.live) }
+        ensures classes { C.classes counter.new ≡ C.classes counter.old }
+    {
+        count_left(&self.places, self.len, counter);
     }
 }

@@ -1,4 +1,5 @@
 use super::*;
+use std::alloc::AllocError;
 use std::test::Fail;
 
 /// Points, and the ranges that the steps of the standard count, as (lo, hi, half units) in their order.
@@ -52,5 +53,20 @@ fn adds_half_units_by_range(rt: HostRuntime) -> Result<(), Fail> {
     let mut half_units = [7; 14];
     ranges.half_units(&mut half_units);
     assert_eq!(rt; half_units, [0, 0, 0, 1, 3, 0, 1, 0, 2, 1, 0, 0, 0, 0]);
+    Ok(())
+}
+
+#[test]
+fn counts_points_that_come_one_at_a_time(rt: HostRuntime) -> Result<(), AllocError> {
+    let mut half_units = HalfUnits::new(rt.alloc(), 14)?;
+    let mut run = Run::new(rt.alloc(), 14)?;
+    run.push(6, &mut half_units);
+    run.push(9, &mut half_units);
+    run.push(5, &mut half_units);
+    run.push_all(&[13, 7, 11], &mut half_units);
+    run.push_all(&[4, 12, 6], &mut half_units);
+    run.finish(&mut half_units);
+    let expected = [0, 0, 0, 1, 3, 0, 1, 0, 2, 1, 0, 0, 0, 0];
+    assert_eq!(rt; half_units.as_slice(), expected.as_slice());
     Ok(())
 }
