@@ -1,6 +1,7 @@
 -- Numbers as wholes and a part of one: whole + num / den.
 use Rattle.std.specs.Prelude.{ℕ, ◌+◌, ◌*◌, ◌≤◌}
 use Rattle.exact_frac.specs.declared.frac.Frac.{Frac}
+use Rattle.exact_frac.specs.declared.frac.TheConstants.{BILLION}
 
 -- how many times 1 / den the number is
 abbrev pub parts : Frac → ℕ
@@ -8,7 +9,7 @@ parts f = f.whole * f.den + f.num
 
 -- q billionths are at least the number
 abbrev pub CoversInBillionths : Frac → ℕ → Type 0
-CoversInBillionths f q = parts f * 1000000000 ≤ q * f.den
+CoversInBillionths f q = parts f * BILLION ≤ q * f.den
 
 -- q is the least number of billionths that is not below the number
 pub record IsCeilingInBillionths (f : Frac) (q : ℕ) : Type 0 where

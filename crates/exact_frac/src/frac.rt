@@ -1,16 +1,23 @@
 ghost use Rattle.std.specs.Prelude.{◌≡◌, ◌+◌, ◌-◌, ◌*◌, ◌<◌, ◌≤◌, ◌^◌};
+ghost use Rattle.exact_frac.specs.declared.frac.TheConstants.{MAX_DEN};
 
 /// How many billionths a whole has.
-const BILLION: u64 = 1_000_000_000;
+pub const BILLION: u64 = 1_000_000_000;
+
+/// The greatest denominator, 10^37.
+pub const MAX_DEN: u128 = 10_000_000_000_000_000_000_000_000_000_000_000_000;
 
 /// The number `whole + num / den`, exactly.
 #[derive(Clone, Copy, Debug, PartialEq, Eq)]
 pub struct Frac {
+    /// The wholes.
     pub whole: u64,
+    /// The rest, in parts of `1 / den`.
     pub num: u128,
+    /// The denominator.
     pub den: u128,
     ghost below_one: { num < den },
-    ghost fits: { den ≤ 10 ^ 37 },
+    ghost fits: { den ≤ MAX_DEN },
 }
 
 impl Frac {
@@ -19,7 +26,7 @@ impl Frac {
     /// Nothing, in parts of `1 / den`.
     pub fn zero(den: u128) -> Frac
         requires positive { 1 ≤ den }
-        requires fits { den ≤ 10 ^ 37 }
+        requires fits { den ≤ MAX_DEN }
         ensures whole { result.whole ≡ 0 }
         ensures num { result.num ≡ 0 }
         ensures den { result.den ≡ den }
@@ -52,8 +59,8 @@ impl Frac {
     /// wholes and billionths.
     pub fn ceil_decimals(&self) -> (u64, u32)
         requires { self.now.whole < 2 ^ 64 - 1 }
-        ensures least { IsCeilingInBillionths self.now (result.0 * 1000000000 + result.1) }
-        ensures billionths { result.1 < 1000000000 }
+        ensures least { IsCeilingInBillionths self.now (result.0 * BILLION + result.1) }
+        ensures billionths { result.1 < BILLION }
     {
         let mut billionths = Frac::zero(self.den);
         billionths.add_times(self.num, BILLION);
@@ -66,7 +73,7 @@ impl Frac {
     }
 
     // Adds `whole + num / den`. Both numbers are below one whole of `num`, so one carry is enough.
-    #[tactic(auto, using(crate::proofs::Wholes::wholes_fit, crate::proofs::Wholes::carry_fits))]
+    #[tactic(auto, using(lemmas::proofs::Naturals::wholes_fit, lemmas::proofs::Naturals::carry_fits))]
     fn add(&mut self, whole: u64, num: u128)
         requires below_one { num < self.old.den }
         requires fits { parts self.old + (whole * self.old.den + num) < 2 ^ 64 * self.old.den }
@@ -124,7 +131,7 @@ mod tests {
         ];
         for (den, num, n, whole, rest, decimals) in table {
             assert!(rt; num < den);
-            assert!(rt; den <= 10_000_000_000_000_000_000_000_000_000_000_000_000);
+            assert!(rt; den <= MAX_DEN);
             let mut sum = Frac::zero(den);
             sum.add_times(num, n);
             assert_eq!(rt; (sum.whole, sum.num, sum.den), (whole, rest, den));

@@ -13,4 +13,4 @@
 
 mod frac;
 
-pub use frac::Frac;
+pub use frac::{BILLION, Frac, MAX_DEN};

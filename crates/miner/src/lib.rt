@@ -2,26 +2,31 @@
 //!
 //! `specs/Damage.antt` has the sum over the ranges: the half cycles of each, times the damage of one. Its fraction
 //! is the exact one, since all shares of a detail have one denominator: the code adds numerators, and only a text
-//! that prints decimals rounds.
+//! that prints decimals rounds. `laws::one_damage` says that it is one number.
 //!
-//! The sum of all half cycles is at most 2^42, so that the wholes fit 64 bits with room to spare.
+//! The sum of all half cycles is at most `MAX_HALF_CYCLES`, 2^42, so that the wholes fit 64 bits with room to spare.
 //!
 //! Cost: for each range one share and 64 additions of 128 bits, about ten thousand steps for 128 classes.
 #![tactic(auto)]
 
-ghost use Rattle.std.specs.Prelude.{◌≡◌, ◌≤◌, ◌^◌, length, sum};
+ghost use Rattle.std.specs.Prelude.{◌≡◌, ◌≤◌, length, sum};
 ghost use Rattle.miner.specs.Damage.{IsDamage};
+
+pub mod laws;
 
 use calibration::Grid;
 use exact_frac::Frac;
 use sn_curve::{Detail, share};
 
+/// The most half cycles of a damage.
+pub const MAX_HALF_CYCLES: u64 = 1 << 42;
+
 /// The damage of a detail by half cycles: `half_counts[k]` of range `k`, where range 0 does none.
 pub fn damage(detail: &Detail, grid: &Grid, half_counts: &[u64]) -> Frac
     requires places { length half_counts.now ≡ grid.now.classes }
-    requires few { sum half_counts.now ≤ 2 ^ 42 }
+    requires few { sum half_counts.now ≤ MAX_HALF_CYCLES }
     ensures damage { IsDamage detail.now grid.now half_counts.now result }
-    ensures bound { result.whole ≤ 2 ^ 42 }
+    ensures bound { result.whole ≤ MAX_HALF_CYCLES }
 {
     let classes = grid.classes();
     let (_, denominator) = share(detail, grid, 1);

@@ -1,16 +1,16 @@
-ghost use Rattle.std.specs.Prelude.{◌≤◌, ◌^◌, IsTrue, sum};
+ghost use Rattle.std.specs.Prelude.{◌≤◌, IsTrue, sum};
 
 use super::*;
 use sn_curve::Kind;
 use std::test::Fail;
 
-// Whether the sum of the counts is at most 2^42.
+// Whether the sum of the counts is within its limit.
 fn is_few(half_counts: &[u64]) -> bool
-    ensures { IsTrue result → sum half_counts.now ≤ 2 ^ 42 }
+    ensures { IsTrue result → sum half_counts.now ≤ MAX_HALF_CYCLES }
 {
     let mut total: u64 = 0;
     for &count in half_counts {
-        if count > (1 << 42) - total {
+        if count > MAX_HALF_CYCLES - total {
             return false;
         }
         total += count;

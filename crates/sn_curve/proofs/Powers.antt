@@ -19,9 +19,6 @@ normal_bound c h = let all : 737 * (40 * c) ≤ 4716800 = omega arith in pow-le-
 pub shear_bound : (c : ℕ) → c ≤ 160 → (40 * c) ^ 5 ≤ 6400 ^ 5
 shear_bound c h = let all : 40 * c ≤ 6400 = omega arith in pow-le-pow_left all 5
 
-pub positive_power : (x k : ℕ) → 0 < x → 0 < x ^ k
-positive_power x k h = one-le-pow k x h
-
 -- slope 3: the numerator fits, is below the denominator, and meets the curve's equation
 pub slope_three_fits : (r c : ℕ) → r ≤ 54000 → c ≤ 160 → r ^ 3 * 217438998607457 * c ^ 2 ≤ 157464000000000 * 217438998607457 * 25600
 slope_three_fits r c h g =
@@ -39,7 +36,7 @@ normal_parts_three c =
 pub slope_three_below : (r c : ℕ) → r ≤ 54000 → 36 ≤ c → r ^ 3 * 217438998607457 * c ^ 2 < 2500 * (737 * (40 * c)) ^ 5
 slope_three_below r c h g =
     let cube : 46656 ≤ c ^ 3 = pow-le-pow_left g 3 in
-    let some : 0 < 217438998607457 * c ^ 2 = omega (arith, positive_power c 2 (omega arith)) in
+    let some : 0 < 217438998607457 * c ^ 2 = omega (arith, one-le-pow 2 c (omega arith)) in
     let less : r ^ 3 < 256000000000 * c ^ 3 = omega (arith, cube_bound r h) in
     let all : r ^ 3 * (217438998607457 * c ^ 2) < (256000000000 * c ^ 3) * (217438998607457 * c ^ 2) = mul-lt-mul_of_pos_right less some in
     omega (arith, normal_parts c)
@@ -51,10 +48,10 @@ slope_three_meets r c = omega (arith, ap (λ y. 2500 * y * r ^ 3) (normal_parts_
 pub slope_five_below : (r c : ℕ) → 36 ≤ c → 1000 * r < 737 * (40 * c) → r ^ 5 * 250000000000 < 2500 * (737 * (40 * c)) ^ 5
 slope_five_below r c g h =
     let fifth : (1000 * r) ^ 5 ≤ (737 * (40 * c)) ^ 5 = pow-le-pow_left (omega arith) 5 in
-    omega (arith, mul-pow 1000 r 5, positive_power (737 * (40 * c)) 5 (omega arith))
+    omega (arith, mul-pow 1000 r 5, one-le-pow 5 (737 * (40 * c)) (omega arith))
 
-pub slope_five_meets : (r c : ℕ) → r ^ 5 * 250000000000 * 737 ^ 5 * (40 * c) ^ 5 ≡ 2500 * (737 * (40 * c)) ^ 5 * 10 ^ 8 * r ^ 5
-slope_five_meets r c = omega (arith, ap (λ y. 2500 * y * 10 ^ 8 * r ^ 5) (mul-pow 737 (40 * c) 5))
+pub slope_five_meets : (r c : ℕ) → r ^ 5 * 250000000000 * (2 * (5 * 10 ^ 6)) * (737 * (40 * c)) ^ 5 ≡ 2500 * (737 * (40 * c)) ^ 5 * (1000 * r) ^ 5
+slope_five_meets r c = omega (arith, ap (λ y. 2500 * (737 * (40 * c)) ^ 5 * y) (mul-pow 1000 r 5))
 
 -- shear
 pub shear_below : (r c : ℕ) → r ≤ 54000 → 80 ≤ c → r ^ 5 < 4000000 * (40 * c) ^ 5
@@ -75,7 +72,7 @@ is_slope_three r c h = record {
   below_cut_off = λ g. absurd (omega arith);
 }
 
-pub is_slope_five : (r c : ℕ) → 1000 * r < 737 * (40 * c) → 404613 * (40 * c) ≤ 1000000 * r →
+pub is_slope_five : (r c : ℕ) → 1000 * r < 737 * (40 * c) → 549 * 737 * (40 * c) ≤ 1000 * 1000 * r →
     IsNormalShare r (40 * c) (r ^ 5 * 250000000000) (2500 * (737 * (40 * c)) ^ 5)
 is_slope_five r c h g = record {
   from_knee = λ f. absurd (omega arith);

@@ -1,5 +1,5 @@
 -- Weld details: the kind of stress, the detail category and the partial factor.
-use Rattle.std.specs.Prelude.{◌≡◌, ◌≤◌, ◌==◌, ℕ, Bool, List, [], ◌∷◌, Result, Ok, Err, if◌then◌else◌}
+use Rattle.std.specs.Prelude.{◌≡◌, ◌==◌, ℕ, Bool, List, [], ◌∷◌, Result, Ok, Err, if◌then◌else◌}
 use Rattle.std.specs.List.{list_any}
 use Rattle.sn_curve.specs.declared.detail.Kind.{Kind}
 use Rattle.sn_curve.specs.declared.detail.Kind.TheVariants.{Normal, Shear}
@@ -31,9 +31,6 @@ detail_of kind category gamma =
     then (if is_among gamma partial_factors then Ok (record { kind = kind; category = category; gamma = gamma }) else Err Gamma)
     else Err Category
 
-pub record IsDetail (d : DetailValue) : Type 0 where
-  pub category_from : 36 ≤ d.category
-  pub category_to : d.category ≤ 160
-  pub shear_from : d.kind ≡ Shear → 80 ≤ d.category
-  pub gamma_from : 100 ≤ d.gamma
-  pub gamma_to : d.gamma ≤ 135
+-- its three values are a detail
+abbrev pub IsDetail : DetailValue → Type 0
+IsDetail d = detail_of d.kind d.category d.gamma ≡ Ok d

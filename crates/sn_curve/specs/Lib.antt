@@ -1,2 +1,3 @@
 pub mod Detail
+pub mod DetailFault
 pub mod Curve

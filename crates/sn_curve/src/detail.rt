@@ -1,6 +1,8 @@
-ghost use Rattle.std.specs.Prelude.{◌≡◌};
+ghost use Rattle.std.specs.Prelude.{◌≡◌, Some};
 ghost use Rattle.sn_curve.specs.Detail.{categories, is_among, partial_factors};
 
+use std::error::Error;
+use std::fmt;
 use std::marker::Model;
 
 /// The stress whose ranges do the damage.
@@ -14,8 +16,24 @@ pub enum Kind {
 #[derive(Clone, Copy, Debug, PartialEq, Eq)]
 pub enum DetailFault {
     Category,
+    /// The partial factor.
     Gamma,
 }
+
+impl fmt::Display for DetailFault {
+    ghost use Rattle.sn_curve.specs.DetailFault.{detail_fault_text};
+
+    ghost output = { λ fault. Some (detail_fault_text fault) };
+
+    fn fmt<W: fmt::Write>(&self, f: &mut fmt::Formatter<W>) -> fmt::Result {
+        f.write_str(match self {
+            DetailFault::Category => "no detail category of this kind of stress",
+            DetailFault::Gamma => "no partial factor of table 3.1",
+        })
+    }
+}
+
+impl Error for DetailFault {}
 
 /// A weld detail.
 #[derive(Clone, Copy, Debug, PartialEq, Eq)]

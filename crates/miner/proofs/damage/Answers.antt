@@ -1,29 +1,36 @@
 -- Each turn adds one range, in the one denominator.
-use Rattle.std.proofs.Common.{◌≡◌, ◌-◌, ◌∙◌, refl, sym, subst, take, drop, arith}
+use Rattle.std.proofs.Common.{◌≡◌, ◌*◌, ◌∙◌, ◌∷◌, ◌++◌, [], sym, ap, subst, arith}
 use Rattle.sn_curve.specs.Curve.{IsShare, denominator_of}
 use Rattle.exact_frac.specs.Frac.{parts}
-use Rattle.miner.specs.Damage.{DamageFrom}
-use Rattle.miner.proofs.Sum.{with_none, with_range, wholes_within}
+use Rattle.miner.specs.Damage.{AreShares}
+use Rattle.miner.proofs.Sum.{no_shares, more_shares, sum_more, wholes_within}
 use Rattle.miner.proofs.damage.Goals as goal
 
 pub loop-k-init : goal.loop-k-init
 loop-k-init c = record {
   den = c.zero-total.ensures.den ∙ c.share-denominator.ensures.denominator;
-  so_far = with_none _ _ _ _ _ _ _ c.zero-total.ensures.whole c.zero-total.ensures.num;
+  shares = [];
+  are_shares = no_shares c.args.detail.now c.args.grid.now c.zero-total.result.den;
+  so_far = omega (arith, ap (λ w. w * c.zero-total.result.den) c.zero-total.ensures.whole, c.zero-total.ensures.num);
   few = omega arith;
 }
 
 pub loop-k-preserved : goal.loop-k-preserved
 loop-k-preserved c =
-    let den : c.add_times.new.self.den ≡ denominator_of c.args.detail.now = c.add_times.ensures.den ∙ c.loop-k.invariant.den in
-    let one : c.share-numerator.result.1 ≡ c.add_times.new.self.den = c.share-numerator.ensures.denominator ∙ sym den in
+    let detail = c.args.detail.now in
+    let grid = c.args.grid.now in
+    let now = c.add_times.new.self in
+    let k = c.loop-k.k in
+    let n = c.share-numerator.result.0 in
+    let den : now.den ≡ denominator_of detail = c.add_times.ensures.den ∙ c.loop-k.invariant.den in
+    let one : c.share-numerator.result.1 ≡ now.den = c.share-numerator.ensures.denominator ∙ sym den in
     record {
       den = den;
-      so_far = with_range c.args.detail.now c.args.grid.now c.add_times.new.self.den c.loop-k.k _ c.share-numerator.result.0 (parts c.loop-k.total) _ c.args.half_counts.now
-          c.loop-k.auto.k (omega arith) refl
-          (subst (λ d. DamageFrom c.args.detail.now c.args.grid.now d 1 (take (c.loop-k.k - 1) (drop 1 c.args.half_counts.now)) (parts c.loop-k.total)) (sym c.add_times.ensures.den) c.loop-k.invariant.so_far)
-          (subst (λ d. IsShare c.args.detail.now c.args.grid.now c.loop-k.k c.share-numerator.result.0 d) one c.share-numerator.ensures.share)
-          c.add_times.ensures.sum;
-      few = wholes_within c.loop-k.total.whole c.loop-k.total.num c.add_times.new.self.whole c.add_times.new.self.num c.share-numerator.result.0 c.loop-k.total.den c.add_times.new.self.den c.loop-k.k c.args.half_counts.now
+      shares = c.loop-k.invariant.shares ++ n ∷ [];
+      are_shares = more_shares detail grid now.den k n c.loop-k.invariant.shares (omega arith)
+          (subst (λ d. AreShares detail grid d k c.loop-k.invariant.shares) (sym c.add_times.ensures.den) c.loop-k.invariant.are_shares)
+          (subst (λ d. IsShare detail grid k n d) one c.share-numerator.ensures.share);
+      so_far = sum_more k n (parts c.loop-k.total) _ c.args.half_counts.now c.loop-k.invariant.shares (omega arith) (omega arith) c.loop-k.invariant.are_shares.one_each c.loop-k.invariant.so_far c.add_times.ensures.sum;
+      few = wholes_within c.loop-k.total.whole c.loop-k.total.num now.whole now.num n c.loop-k.total.den now.den k c.args.half_counts.now
           (omega arith) c.add_times.ensures.den c.add_times.ensures.sum c.loop-k.total.below_one (omega arith) c.loop-k.invariant.few;
     }

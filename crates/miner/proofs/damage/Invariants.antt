@@ -1,14 +1,16 @@
 -- The ranges below k are in the total.
-use Rattle.std.proofs.Common.{◌≡◌, ◌-◌, ◌≤◌, take, drop}
+use Rattle.std.proofs.Common.{◌≡◌, ◌-◌, ◌≤◌, ℕ, List, take, drop}
 use Rattle.std.specs.Prelude.{sum}
 use Rattle.sn_curve.specs.Curve.{denominator_of}
 use Rattle.exact_frac.specs.Frac.{parts}
-use Rattle.miner.specs.Damage.{DamageFrom}
+use Rattle.miner.specs.Damage.{AreShares, damage_sum}
 use Rattle.miner.proofs.damage.Given as goal
 
 abbrev pub invariant-loop-k : goal.invariant-loop-k
 invariant-loop-k l = record {
   den : l.total.den ≡ denominator_of l.detail;
-  so_far : DamageFrom l.detail l.grid l.total.den 1 (take (l.k - 1) (drop 1 l.half_counts)) (parts l.total);
+  shares : List ℕ;
+  are_shares : AreShares l.detail l.grid l.total.den l.k shares;
+  so_far : parts l.total ≡ damage_sum (take (l.k - 1) (drop 1 l.half_counts)) shares;
   few : l.total.whole ≤ sum (take l.k l.half_counts);
 }

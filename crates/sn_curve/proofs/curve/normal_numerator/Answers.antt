@@ -1,7 +1,8 @@
 -- Each branch has its bound and its equation.
 use Rattle.std.proofs.Common.{◌*◌, ◌^◌, sym, ap, subst, arith}
 use Rattle.sn_curve.specs.Curve.{IsNormalShare}
-use Rattle.sn_curve.proofs.Powers.{cube_bound, fifth_bound, slope_three_fits, slope_three_below, slope_five_below, product_is, is_slope_three, is_slope_five, positive_power}
+use Rattle.std.proofs.Math.Nat.{one-le-pow}
+use Rattle.sn_curve.proofs.Powers.{cube_bound, fifth_bound, slope_three_fits, slope_three_below, slope_five_below, product_is, is_slope_three, is_slope_five}
 use Rattle.sn_curve.proofs.curve.normal_numerator.Goals as goal
 
 pub pow-requires : goal.pow-requires
@@ -51,4 +52,4 @@ returns-then-range-strength-2-clause-below_one c =
     omega (arith, slope_five_below c.args.range c.args.category c.requires.category_from c.if-range-strength.false)
 
 pub returns-clause-below_one : goal.returns-clause-below_one
-returns-clause-below_one c = omega (arith, positive_power (737 * (40 * c.args.category)) 5 (omega arith))
+returns-clause-below_one c = omega (arith, one-le-pow 5 (737 * (40 * c.args.category)) (omega arith))

@@ -6,8 +6,8 @@ use Rattle.sn_curve.proofs.curve.shear_denominator.Goals as goal
 pub pow-requires : goal.pow-requires
 pow-requires c = omega (arith, shear_bound c.args.category c.requires)
 
-pub overflow_mul-result : goal.overflow_mul-result
-overflow_mul-result c = omega (arith, shear_bound c.args.category c.requires)
+pub overflow_mul-result-2 : goal.overflow_mul-result-2
+overflow_mul-result-2 c = omega (arith, shear_bound c.args.category c.requires)
 
 pub returns-clause-fits : goal.returns-clause-fits
 returns-clause-fits c = omega (arith, shear_bound c.args.category c.requires)

@@ -1,6 +1,7 @@
 -- The factored range is at most 54000 fortieths, the category at least 80.
 use Rattle.std.proofs.Common.{◌*◌, arith}
-use Rattle.sn_curve.proofs.Powers.{fifth_bound, shear_below, positive_power}
+use Rattle.std.proofs.Math.Nat.{one-le-pow}
+use Rattle.sn_curve.proofs.Powers.{fifth_bound, shear_below}
 use Rattle.sn_curve.proofs.curve.shear_numerator.Goals as goal
 
 pub pow-requires : goal.pow-requires
@@ -11,4 +12,4 @@ returns-then-range-category-clause-below_one c =
     omega (arith, shear_below c.args.range c.args.category c.requires.range c.requires.category_from)
 
 pub returns-clause-below_one : goal.returns-clause-below_one
-returns-clause-below_one c = omega (arith, positive_power (40 * c.args.category) 5 (omega arith))
+returns-clause-below_one c = omega (arith, one-le-pow 5 (40 * c.args.category) (omega arith))

@@ -1,7 +1,7 @@
 -- After each bit the multiple is by one more of the first bits of n, whose number is at most n.
 use Rattle.std.proofs.Common.{◌≡◌, ℕ, ◌+◌, ◌*◌, ◌-◌, ◌/◌, ◌%◌, ◌^◌, ◌<◌, ◌≤◌, ◌∙◌, div-one, sym, ap, rules, arith}
 use Rattle.std.proofs.lemmas.Nat.{shr_le}
-use Rattle.exact_frac.proofs.Wholes.{multiple_fits, sum_fits, halves}
+use Rattle.lemmas.proofs.Naturals.{multiple_fits, sum_fits, first_bits}
 use Rattle.exact_frac.proofs.frac.Frac.add_times.Goals as goal
 
 -- m is the first bits of n with the next bit b, h those before: twice the multiple by h fits
@@ -20,7 +20,7 @@ stepped r q p h b m x d i k e f = omega (arith, ap (λ y. y * x) f)
 
 next_bit : (n bit : ℕ) → bit < 64 → n / 2 ^ (64 - (bit + 1)) ≡ 2 * (n / 2 ^ (64 - bit)) + n / 2 ^ (63 - bit) % 2
 next_bit n bit h =
-    let next : 64 - (bit + 1) ≡ 63 - bit = omega arith in ap (λ k. n / 2 ^ k) next ∙ halves n bit h
+    let next : 64 - (bit + 1) ≡ 63 - bit = omega arith in ap (λ k. n / 2 ^ k) next ∙ first_bits n bit h
 
 -- after all 64 bits the multiple is by n itself, and fits beside the number
 finished : (w r v m d n bit x e top : ℕ) → r < e → x < e → w + n < top → 64 ≤ bit → bit ≤ 64 →
@@ -34,12 +34,12 @@ finished w r v m d n bit x e top g h f a b i j =
 pub add-requires-clause-fits : goal.add-requires-clause-fits
 add-requires-clause-fits c =
     doubled _ _ _ _ _ _ _ _ c.loop-bit.invariant.multiple
-    (halves c.args.n c.loop-bit.bit c.loop-bit-test.true) (shr_le c.args.n (63 - c.loop-bit.bit)) (omega arith) (omega arith)
+    (first_bits c.args.n c.loop-bit.bit c.loop-bit-test.true) (shr_le c.args.n (63 - c.loop-bit.bit)) (omega arith) (omega arith)
 
 pub add-requires-in-loop-bit-clause-fits : goal.add-requires-in-loop-bit-clause-fits
 add-requires-in-loop-bit-clause-fits c =
     extended _ _ _ _ _ _ _ _ _ c.add.ensures.sum c.loop-bit.invariant.multiple
-    (halves c.args.n c.loop-bit.bit c.loop-bit-test.true) (shr_le c.args.n (63 - c.loop-bit.bit)) (omega arith) (omega arith)
+    (first_bits c.args.n c.loop-bit.bit c.loop-bit-test.true) (shr_le c.args.n (63 - c.loop-bit.bit)) (omega arith) (omega arith)
 
 pub add-requires-2-clause-fits : goal.add-requires-2-clause-fits
 add-requires-2-clause-fits c =
