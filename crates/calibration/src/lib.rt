@@ -18,6 +18,7 @@ mod classifier;
 mod gain;
 mod grid;
 mod reading;
+mod setup;
 #[cfg(test)]
 mod tests;
 
@@ -25,3 +26,4 @@ pub use classifier::{Classifier, level};
 pub use gain::{Gain, GainFault, MAX_DEN, MAX_NUM, MAX_OFFSET};
 pub use grid::{Grid, GridFault, MAX_CLASSES, MAX_LOW_KPA, MAX_SPAN, MIN_CLASSES, STEP_KPA};
 pub use reading::Reading;
+pub use setup::{Gains, Setup};

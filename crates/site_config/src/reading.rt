@@ -1,0 +1,60 @@
+ghost use Rattle.std.specs.Prelude.{◌≡◌, ◌≤◌, length};
+ghost use Rattle.toml.specs.View.{table_view};
+ghost use Rattle.site_config.specs.Fields.{Gives};
+ghost use Rattle.site_config.specs.Configuration.{config_in, config_of_bytes, document};
+
+use crate::limits::MAX_BYTES;
+use crate::sections::{count_of, details_in, gauges_in, grid_of};
+use crate::{Config, ConfigFault, Details, GaugeNames};
+use calibration::{Gains, Setup};
+use std::alloc::Global;
+use toml::Table;
+
+/// What the bytes of a configuration mean, or the first fault in them.
+#[tactic(auto, unfolding(crate::specs::Configuration::config_of_bytes))]
+pub fn read(alloc: Global, bytes: &[u8]) -> Result<Config, ConfigFault>
+    ensures { Gives (λ c. c) result (config_of_bytes bytes.now) }
+{
+    if bytes.len() > MAX_BYTES {
+        return Err(ConfigFault::TooLong);
+    }
+    let table = document_of(alloc, bytes)?;
+    config_of(alloc, &table)
+}
+
+// The table that the bytes spell.
+fn document_of(alloc: Global, bytes: &[u8]) -> Result<Table, ConfigFault>
+    ensures { Gives (λ t. table_view t) result (document bytes.now) }
+{
+    match toml::table_from_slice(alloc, bytes) {
+        Ok(table) => Ok(table),
+        Err(error) => {
+            if error.is_memory() {
+                Err(ConfigFault::OutOfMemory)
+            } else {
+                Err(ConfigFault::NotToml)
+            }
+        }
+    }
+}
+
+// The configuration of a table.
+#[tactic(auto, unfolding(crate::specs::Configuration::config_in))]
+fn config_of(alloc: Global, root: &Table) -> Result<Config, ConfigFault>
+    ensures { Gives (λ c. c) result (config_in (table_view root.now)) }
+{
+    let grid = grid_of(root)?;
+    let (block, workers) = count_of(root)?;
+    let gauges = gauges_in(alloc, root)?;
+    let details = details_in(alloc, &gauges.names, root)?;
+    Ok(Config {
+        setup: Setup {
+            grid,
+            gains: Gains::from_vec(gauges.gains),
+        },
+        gauges: GaugeNames::from_vec(gauges.names),
+        details: Details::from_vec(details),
+        block,
+        workers,
+    })
+}
