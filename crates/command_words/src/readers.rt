@@ -1,0 +1,161 @@
+ghost use Rattle.std.specs.Prelude.{◌≡◌, ◌≤◌, IfOk, IfSome, map, option_map, string_bytes};
+ghost use Rattle.command_words.specs.Line.{Init, Report, Audit, init_app, report_app, audit_app, command_of, table_line, line_without_arguments, count_line, demo_line, number_at, count_with, demo_with};
+ghost use Rattle.command_words.specs.Commands.{IsWithinRanges, meaning_of};
+
+use crate::command::{MAX_DEMO_SAMPLES, MAX_SEED, MAX_WORKERS};
+use crate::number::number_in;
+use crate::parse::read_by;
+use crate::{Command, options};
+use std::alloc::{AllocError, Global};
+
+/// The command that the words name, or `None` where they are no command.
+pub fn read_words<'a>(alloc: Global, words: &'a [String]) -> Result<Option<Command<'a>>, AllocError>
+    ensures line { IfOk result (λ read. meaning_of read ≡ command_of (map string_bytes words.entry.now)) }
+    ensures ranges { IfOk result (λ read. IfSome read IsWithinRanges) }
+{
+    let [first, ..] = words else {
+        return Ok(None);
+    };
+    if first.as_str() == "table" {
+        return read_table(alloc, words);
+    }
+    if first.as_str() == "init" {
+        return read_init(alloc, words);
+    }
+    if first.as_str() == "count" {
+        return read_count(alloc, words);
+    }
+    if first.as_str() == "report" {
+        return read_report(alloc, words);
+    }
+    if first.as_str() == "audit" {
+        return read_audit(alloc, words);
+    }
+    if first.as_str() == "demo" {
+        return read_demo(alloc, words);
+    }
+    Ok(None)
+}
+
+fn read_table<'a>(alloc: Global, words: &'a [String]) -> Result<Option<Command<'a>>, AllocError>
+    ensures line { IfOk result (λ read. meaning_of read ≡ table_line (map string_bytes words.entry.now)) }
+    ensures ranges { IfOk result (λ read. IfSome read IsWithinRanges) }
+{
+    let Some(matches) = read_by(options::table_app(alloc)?, words)? else {
+        return Ok(None);
+    };
+    match matches.get_str("file") {
+        None => Ok(None),
+        Some(file) => Ok(Some(Command::Table { file })),
+    }
+}
+
+fn read_init<'a>(alloc: Global, words: &'a [String]) -> Result<Option<Command<'a>>, AllocError>
+    ensures line { IfOk result (λ read. meaning_of read ≡
+        line_without_arguments init_app Init (map string_bytes words.entry.now)) }
+    ensures ranges { IfOk result (λ read. IfSome read IsWithinRanges) }
+{
+    match read_by(options::init_app(alloc), words)? {
+        None => Ok(None),
+        Some(_) => Ok(Some(Command::Init)),
+    }
+}
+
+fn read_report<'a>(alloc: Global, words: &'a [String]) -> Result<Option<Command<'a>>, AllocError>
+    ensures line { IfOk result (λ read. meaning_of read ≡
+        line_without_arguments report_app Report (map string_bytes words.entry.now)) }
+    ensures ranges { IfOk result (λ read. IfSome read IsWithinRanges) }
+{
+    match read_by(options::report_app(alloc), words)? {
+        None => Ok(None),
+        Some(_) => Ok(Some(Command::Report)),
+    }
+}
+
+fn read_audit<'a>(alloc: Global, words: &'a [String]) -> Result<Option<Command<'a>>, AllocError>
+    ensures line { IfOk result (λ read. meaning_of read ≡
+        line_without_arguments audit_app Audit (map string_bytes words.entry.now)) }
+    ensures ranges { IfOk result (λ read. IfSome read IsWithinRanges) }
+{
+    match read_by(options::audit_app(alloc), words)? {
+        None => Ok(None),
+        Some(_) => Ok(Some(Command::Audit)),
+    }
+}
+
+fn read_count<'a>(alloc: Global, words: &'a [String]) -> Result<Option<Command<'a>>, AllocError>
+    ensures line { IfOk result (λ read. meaning_of read ≡ count_line (map string_bytes words.entry.now)) }
+    ensures ranges { IfOk result (λ read. IfSome read IsWithinRanges) }
+{
+    let Some(matches) = read_by(options::count_app(alloc)?, words)? else {
+        return Ok(None);
+    };
+    Ok(count_with(matches.get_str("workers")))
+}
+
+// `count` with the workers' number, where it is given.
+fn count_with<'a>(workers: Option<&str>) -> Option<Command<'a>>
+    ensures line { meaning_of result ≡ count_with (option_map (λ s. s.now) workers.entry) }
+    ensures ranges { IfSome result IsWithinRanges }
+{
+    let Some(text) = workers else {
+        return Some(Command::Count { workers: None });
+    };
+    let Some(n) = number_in(1, MAX_WORKERS as u64, text) else {
+        return None;
+    };
+    Some(Command::Count {
+        workers: Some(n as u8),
+    })
+}
+
+fn read_demo<'a>(alloc: Global, words: &'a [String]) -> Result<Option<Command<'a>>, AllocError>
+    ensures line { IfOk result (λ read. meaning_of read ≡ demo_line (map string_bytes words.entry.now)) }
+    ensures ranges { IfOk result (λ read. IfSome read IsWithinRanges) }
+{
+    let Some(matches) = read_by(options::demo_app(alloc)?, words)? else {
+        return Ok(None);
+    };
+    Ok(demo_with(
+        matches.get_str("seed"),
+        matches.get_str("samples"),
+        matches.get_str("workers"),
+    ))
+}
+
+// `demo` with the texts of its options.
+fn demo_with<'a>(
+    seed: Option<&str>,
+    samples: Option<&str>,
+    workers: Option<&str>,
+) -> Option<Command<'a>>
+    ensures line { meaning_of result ≡ demo_with (option_map (λ s. s.now) seed.entry) (option_map (λ s. s.now) samples.entry) (option_map (λ s. s.now) workers.entry) }
+    ensures ranges { IfSome result IsWithinRanges }
+{
+    let Some(seed) = number_of(seed, 0, MAX_SEED) else {
+        return None;
+    };
+    let Some(samples) = number_of(samples, 1, MAX_DEMO_SAMPLES) else {
+        return None;
+    };
+    let Some(workers) = number_of(workers, 1, MAX_WORKERS as u64) else {
+        return None;
+    };
+    Some(Command::Demo {
+        seed,
+        samples,
+        workers: workers as u8,
+    })
+}
+
+// The number of an option, where it is given.
+fn number_of(text: Option<&str>, low: u64, high: u64) -> Option<u64>
+    ensures value { result ≡ number_at low high (option_map (λ s. s.now) text.entry) }
+    ensures from { IfSome result (λ n. low ≤ n) }
+    ensures to { IfSome result (λ n. n ≤ high) }
+{
+    match text {
+        None => None,
+        Some(text) => number_in(low, high, text),
+    }
+}
