@@ -5,3 +5,4 @@ pub mod Push
 pub mod Extended
 pub mod TurnedSteps
 pub mod InPlace
+pub mod Pieces

@@ -1,3 +1,4 @@
 pub mod Points
 pub mod Pairs
 pub mod Turned
+pub mod Pieces

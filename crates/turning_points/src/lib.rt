@@ -3,12 +3,14 @@
 //! Each level that equals the one before it is dropped. Of what remains the first, each level greater than both neighbours or less
 //! than both, and the last are the points (`specs/Points.antt`, a filter of the whole history).
 //!
-//! Two forms find them. `Turner` takes one level at a time and gives each point as soon as it is decided: its state is the last two
-//! points, and a plateau costs one comparison. `keep_points` does it for a list of levels in place, in two passes with no branch on
-//! the levels, which is several times faster where turns cannot be predicted. Neither takes memory.
+//! `Turner` finds them in levels that come one at a time, and gives each point as soon as it is decided: its state is the last two
+//! points, and a plateau costs one comparison. It also takes levels in pieces, and leaves the points of a piece in its place, in two
+//! passes with no branch on the levels: several times faster where turns can't be predicted. `keep_points` does so for a whole
+//! history. None takes memory.
 //!
 //! The lemmas that the counting crates stand on are in `proofs/`: `Zigzag` (one level before a list of points), `Over` (points of a
-//! concatenation), `Push` (one level behind a list of points) and `Extended` (the same in a buffer).
+//! concatenation), `Push` (one level behind a list of points), `Extended` (the same in a buffer), `Levels` (what points keep
+//! of their levels) and `Pieces`.
 #![tactic(auto)]
 
 mod direction;
