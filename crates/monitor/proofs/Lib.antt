@@ -1,8 +1,8 @@
-mod RangeLines
-mod RunWithin
-mod RangeSums
-mod PointsAgain
-mod ReadingPieces
-mod HistoryBelow
-mod TableText
-mod Refusals
+pub mod SampleKinds
+pub mod ReadingsTaken
+pub mod BodyState
+pub mod RecordingRead
+pub mod Refusals
+pub mod RangeLines
+pub mod TableText
+pub mod TableRun

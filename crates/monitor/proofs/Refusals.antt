@@ -1,21 +1,60 @@
--- What a refusal is answered with.
-use Rattle.std.proofs.Common.{◌≡◌, refl}
+-- Where a recording is refused or can't be read.
+use Rattle.std.proofs.Common.{◌≡◌, ◌≢◌, ℕ, List, drop, sym, ap, subst, refl}
+use Rattle.std.specs.Prelude.{Result, Ok, Err, MatchResult, IsErrAnd}
+use Rattle.recording.specs.Head.{recording_head}
+use Rattle.recording.specs.declared.head.Head.{Head}
+use Rattle.recording.specs.declared.head.HeadFault.{HeadFault}
+use Rattle.recording.specs.declared.head.HeadFault.TheVariants as head
+use Rattle.monitor.specs.FileState.{FileState, Sound, BadHead, body_state, state_behind, state_of}
+use Rattle.monitor.specs.Answer.{MayAnswer, answer_for, status_of, refusal_of}
 use Rattle.monitor.specs.declared.refusal.Refusal.{Refusal}
-use Rattle.monitor.specs.declared.refusal.Refusal.TheVariants as refusal
-use Rattle.monitor.specs.declared.status.Status.TheVariants.{Done, ReadFault}
-use Rattle.monitor.specs.Answer.{status_of}
+use Rattle.monitor.specs.declared.refusal.Refusal.TheVariants.{ReadFault, OutOfMemory}
+use Rattle.monitor.proofs.BodyState.{some_file}
 
-pub not_done : (e : Refusal) → status_of e ≡ Done → ⊥
-not_done (refusal.Head fault) is = cc
-not_done (refusal.Odd bytes) is = cc
-not_done refusal.TooLong is = cc
-not_done refusal.Fault is = cc
-not_done refusal.Memory is = cc
+-- what the reader of a recording may give, of a file in this state
+abbrev pub MayGive : {T : Type 0} → Result T Refusal → FileState → Type 0
+MayGive result state = MatchResult result (λ made. state ≡ Sound) (λ refusal. MayAnswer (status_of 0 refusal) state)
 
--- only a fault of the source is a read fault
-pub read_fault : (e : Refusal) → status_of e ≡ ReadFault → e ≡ refusal.Fault
-read_fault (refusal.Head fault) is = cc
-read_fault (refusal.Odd bytes) is = cc
-read_fault refusal.TooLong is = cc
-read_fault refusal.Fault is = refl
-read_fault refusal.Memory is = cc
+pub state_with_head : (file : List ℕ) (head : Head) → Ok head ≡ recording_head file → state_of file ≡ body_state (drop 32 file)
+state_with_head file head is = ap (λ (h : Result Head HeadFault). state_behind h (drop 32 file)) (sym is)
+
+state_with_fault : (file : List ℕ) (fault : HeadFault) → Err fault ≡ recording_head file → state_of file ≡ BadHead fault
+state_with_fault file fault is = ap (λ (h : Result Head HeadFault). state_behind h (drop 32 file)) (sym is)
+
+-- the answer for a head with a fault, but for one that could not be read
+fault_answer : (fault : HeadFault) (state : FileState) → (fault ≢ head.ReadFault → state ≡ BadHead fault) → MayAnswer (status_of 0 (refusal_of fault)) state
+fault_answer head.Short state is = sym (ap answer_for (is (λ e. cc)))
+fault_answer head.Magic state is = sym (ap answer_for (is (λ e. cc)))
+fault_answer (head.Version version) state is = sym (ap answer_for (is (λ e. cc)))
+fault_answer head.NotZero state is = sym (ap answer_for (is (λ e. cc)))
+fault_answer head.ReadFault state is = tt
+
+pub err_is : {T E : Type 0} {a b : E} → ◌≡◌ {A = Result T E} (Err a) (Err b) → a ≡ b
+err_is is = cc
+
+pub head_cause : {T : Type 0} (r : Result T Refusal) (fault : HeadFault) (file : List ℕ) → IsErrAnd r (λ refusal. refusal ≡ refusal_of fault) → (fault ≢ head.ReadFault → Err fault ≡ recording_head file) → MayGive r (state_of file)
+head_cause (Ok x) fault file is known = absurd is
+head_cause (Err refusal) fault file is known =
+    subst (λ (e : Refusal). MayAnswer (status_of 0 e) (state_of file)) (sym is) (fault_answer fault (state_of file) (λ other. state_with_fault file fault (known other)))
+
+read_fault : (fault : HeadFault) → refusal_of fault ≡ ReadFault → fault ≡ head.ReadFault
+read_fault head.Short is = absurd (cc)
+read_fault head.Magic is = absurd (cc)
+read_fault (head.Version version) is = absurd (cc)
+read_fault head.NotZero is = absurd (cc)
+read_fault head.ReadFault is = refl
+
+-- a read fault comes of a head that could not be read
+pub head_fault : {T : Type 0} (r : Result T Refusal) (fault : HeadFault) → IsErrAnd r (λ refusal. refusal ≡ refusal_of fault) → r ≡ Err ReadFault → fault ≡ head.ReadFault
+head_fault (Ok x) fault given is = absurd given
+head_fault (Err refusal) fault given is = read_fault fault (cc)
+
+-- want of memory
+pub memory_cause : {T : Type 0} (r : Result T Refusal) (file : List ℕ) → IsErrAnd r (λ refusal. refusal ≡ OutOfMemory) → MayGive r (state_of file)
+memory_cause (Ok x) file is = absurd is
+memory_cause (Err refusal) file is = subst (λ (e : Refusal). MayAnswer (status_of 0 e) (state_of file)) (sym is) (some_file file)
+
+-- it is no read fault
+pub memory_fault : {T : Type 0} (r : Result T Refusal) → IsErrAnd r (λ refusal. refusal ≡ OutOfMemory) → r ≢ Err ReadFault
+memory_fault (Ok x) given is = given
+memory_fault (Err refusal) given is = cc

@@ -1,30 +1,30 @@
 -- The text that the code makes is the table of the recording.
-use Rattle.std.proofs.Common.{◌≡◌, ℕ, pred, ◌<◌, ◌≤◌, List, ◌++◌, length, drop, slice_index, ◌∙◌, ap, arith}
+use Rattle.std.proofs.Common.{◌≡◌, ℕ, pred, ◌<◌, ◌≤◌, List, [], ◌++◌, drop, sym, ◌∙◌, ap, subst}
+use Rattle.std.specs.Prelude.{All}
+use Rattle.std.proofs.lemmas.List.Elements.{All-nil}
 use Rattle.recording.specs.Samples.{samples}
-use Rattle.three_point.specs.Run.{half_units}
-use Rattle.monitor.specs.declared.table.SampleCounts.{SampleCounts}
-use Rattle.monitor.specs.declared.readings.Readings.{Readings}
-use Rattle.monitor.specs.Counts.{figures_of, figures_in}
-use Rattle.monitor.specs.Table.{Figures, table_text, table_head, range_lines}
-use Rattle.monitor.specs.Printed.{table_grid, table_gain, figures, text_of}
+use Rattle.turning_points.specs.Points.{points}
+use Rattle.turning_points.proofs.Levels.{All-points}
+use Rattle.three_point.specs.Run.{CountedRange, half_units, run}
+use Rattle.three_point.specs.Bounds.{IsWithin}
+use Rattle.three_point.proofs.Bounds.{run_within}
+use Rattle.monitor.specs.Counts.{counts_of}
+use Rattle.monitor.specs.Text.{table_text, table_head}
+use Rattle.monitor.specs.Printed.{table_grid, table_gain, text_of}
 use Rattle.monitor.specs.Readings.{AreReadings}
+use Rattle.monitor.specs.declared.grid.TheConstants.{CLASSES, WIDTH}
+use Rattle.monitor.specs.declared.counts.SampleCounts.{SampleCounts}
+use Rattle.monitor.specs.declared.readings.Readings.{Readings}
 use Rattle.monitor.proofs.RangeLines.{range_lines-same}
 
-head_same : (f g : Figures) → f.samples ≡ g.samples → f.used ≡ g.used → f.missing ≡ g.missing → f.refused ≡ g.refused → table_head f ≡ table_head g
-head_same f g a b c d = cc
+-- it depends on the half units at the ranges that there are
+pub table_text-same : (classes width : ℕ) (counts : SampleCounts) (f g : ℕ → ℕ) → ((k : ℕ) → k ≤ pred classes → f k ≡ g k) → table_text classes width counts f ≡ table_text classes width counts g
+table_text-same classes width counts f g same = ap (λ (lines : List ℕ). table_head counts ++ lines) (range_lines-same width f g (pred classes) same)
 
-text_same : (classes width : ℕ) (f g : Figures) → f.samples ≡ g.samples → f.used ≡ g.used → f.missing ≡ g.missing → f.refused ≡ g.refused → ((k : ℕ) → k ≤ pred classes → f.half_units k ≡ g.half_units k) → table_text classes width f ≡ table_text classes width g
-text_same classes width f g a b c d same =
-    ap (λ (lines : List ℕ). lines ++ range_lines width f.half_units (pred classes)) (head_same f g a b c d)
-    ∙ ap (λ (lines : List ℕ). table_head g ++ lines) (range_lines-same width f.half_units g.half_units (pred classes) same)
+-- the ranges of a level history lie within its classes
+pub ranges_within : (n : ℕ) (h : List ℕ) (ranges : List CountedRange) → All (λ level. level < n) h → ranges ≡ run [] (points h) → All (IsWithin n) ranges
+ranges_within n h ranges below are = subst (λ (l : List CountedRange). All (IsWithin n) l) (sym are) (run_within n (points h) [] (All-points (λ level. level < n) h below) (All-nil (λ level. level < n)))
 
--- the arguments of the text are the figures of the samples
-pub text_counted : (readings : Readings) (counts : SampleCounts) (halves : List ℕ) → counts.samples ≡ readings.samples → counts.used ≡ length readings.levels.items → counts.missing ≡ readings.missing → counts.refused ≡ readings.refused → length halves ≡ 64 → ((k : ℕ) → k < 64 → slice_index halves k ≡ half_units readings.levels.items k) → table_text (length halves) 2 (figures_of counts halves) ≡ table_text 64 2 (figures_in readings)
-text_counted readings counts halves a b c d long same =
-    ap (λ (n : ℕ). table_text n 2 (figures_of counts halves)) long
-    ∙ text_same 64 2 (figures_of counts halves) (figures_in readings) a b c d (λ k h. same k (omega arith))
-
--- the figures of the samples are those of the file
-pub text_of_readings : (readings : Readings) (file : List ℕ) → AreReadings readings (samples (drop 32 file)) → table_text 64 2 (figures_in readings) ≡ text_of file
-text_of_readings readings file s =
-    text_same 64 2 (figures_in readings) (figures table_grid table_gain (samples (drop 32 file))) s.samples (ap (λ (l : List ℕ). length l) s.levels) s.missing s.refused (λ k h. ap (λ (l : List ℕ). half_units l k) s.levels)
+-- the table of the readings of a file is the file's
+pub text_of_readings : (r : Readings) (file : List ℕ) → AreReadings table_grid table_gain r (samples (drop 32 file)) → table_text CLASSES WIDTH r.counts (half_units r.levels.items) ≡ text_of file
+text_of_readings r file are = ap (λ (c : SampleCounts). table_text CLASSES WIDTH c (half_units r.levels.items)) are.counts ∙ ap (λ (l : List ℕ). table_text CLASSES WIDTH (counts_of table_grid table_gain (samples (drop 32 file))) (half_units l)) are.levels

@@ -1,66 +1,57 @@
--- Which answer the file of a name has.
---   answer_of     the answer that a verdict asks for
---   Answers       every answer has its cause in the file
---   IsAnswerOf    where nothing outside fails
---   Judges        of the reader of a recording
-use Rattle.std.specs.Prelude.{◌≡◌, ◌⊎◌, ℕ, List, Option, Some, None, Result, Ok, Err}
+-- What may be answered for a file.
+--   refusal_of   why a recording is refused whose head has this fault
+--   status_of    what a refused recording is answered with
+--   answer_for   the answer where nothing outside fails and memory lasts
+--   MayAnswer    what may be answered, whatever fails
+--   IsAnswer     what may be answered where nothing outside fails
+use Rattle.std.specs.Prelude.{◌≡◌, ◌≢◌, ◌⊎◌, ℕ, ⊤}
 use Rattle.recording.specs.declared.head.HeadFault.{HeadFault}
 use Rattle.recording.specs.declared.head.HeadFault.TheVariants as head
 use Rattle.monitor.specs.declared.refusal.Refusal.{Refusal}
 use Rattle.monitor.specs.declared.refusal.Refusal.TheVariants as refusal
-use Rattle.monitor.specs.Verdict.{Verdict, Sound, BadHead, Odd, Long, verdict}
+use Rattle.monitor.specs.FileState.{FileState, NoFile, Sound, BadHead, TornEnd, TooManySamples}
 use Rattle.monitor.specs.declared.status.Status.{Status}
 use Rattle.monitor.specs.declared.status.Status.TheVariants.{Done, Usage, Recording, Torn, ReadFault, WriteFault, OutOfMemory, TooLong}
 use Rattle.monitor.specs.declared.status.RecordingFault.TheVariants.{Short, Magic, Version, NotZero}
 
+abbrev pub refusal_of : HeadFault → Refusal
+refusal_of head.Short = refusal.Head Short
+refusal_of head.Magic = refusal.Head Magic
+refusal_of (head.Version version) = refusal.Head (Version version)
+refusal_of head.NotZero = refusal.Head NotZero
+refusal_of head.ReadFault = refusal.ReadFault
+
+-- of the gauge of this number
+abbrev pub status_of : ℕ → Refusal → Status
+status_of gauge (refusal.Head fault) = Recording gauge fault
+status_of gauge (refusal.Torn bytes) = Torn gauge bytes
+status_of gauge refusal.TooLong = TooLong gauge
+status_of gauge refusal.ReadFault = ReadFault
+status_of gauge refusal.OutOfMemory = OutOfMemory
+
 -- The gauge of a single file is 0.
-abbrev pub of_head : HeadFault → Status
-of_head head.Short = Recording 0 Short
-of_head head.Magic = Recording 0 Magic
-of_head (head.Version version) = Recording 0 (Version version)
-of_head head.NotZero = Recording 0 NotZero
-of_head head.ReadFault = ReadFault
+abbrev pub answer_for : FileState → Status
+answer_for NoFile = ReadFault
+answer_for Sound = Done
+answer_for (BadHead fault) = status_of 0 (refusal_of fault)
+answer_for (TornEnd bytes) = Torn 0 bytes
+answer_for TooManySamples = TooLong 0
 
-abbrev pub answer_of : Verdict → Status
-answer_of Sound = Done
-answer_of (BadHead fault) = of_head fault
-answer_of (Odd bytes) = Torn 0 bytes
-answer_of Long = TooLong 0
+-- A fault of the outside may come at any time, memory may run out over each file, and only a sound one is printed.
+abbrev pub MayAnswer : Status → FileState → Type 0
+MayAnswer Usage state = ⊥
+MayAnswer ReadFault state = ⊤
+MayAnswer OutOfMemory state = state ≢ NoFile
+MayAnswer WriteFault state = state ≡ Sound
+MayAnswer answer state = answer ≡ answer_for state
 
--- A fault of the outside has its own cause, and want of memory none.
-abbrev pub Answers : Status → Verdict → Type 0
-Answers Usage v = ⊥
-Answers ReadFault v = Unit {0}
-Answers OutOfMemory v = Unit {0}
-Answers WriteFault v = v ≡ Sound
-Answers answer v = answer ≡ answer_of v
+-- there is such a file, and unless memory runs out the answer is its own
+abbrev pub IsAnswer : Status → FileState → Type 0
+IsAnswer answer state = (state ≢ NoFile) × ((answer ≡ answer_for state) ⊎ (answer ≡ OutOfMemory))
 
--- the same of the file of a name; without such a file it can't be read
-abbrev pub AnswersFor : Option (List ℕ) → Status → Type 0
-AnswersFor (Some file) answer = Answers answer (verdict file)
-AnswersFor None answer = answer ≡ ReadFault
-
--- where nothing outside fails, the answer is the verdict's, unless memory runs out
-abbrev pub IsAnswerOf : Option (List ℕ) → Status → Type 0
-IsAnswerOf (Some file) answer = (answer ≡ answer_of (verdict file)) ⊎ (answer ≡ OutOfMemory)
-IsAnswerOf None answer = ⊥
-
--- where a recording wasn't read to a sound end
-abbrev pub status_of : Refusal → Status
-status_of (refusal.Head fault) = Recording 0 fault
-status_of (refusal.Odd bytes) = Torn 0 bytes
-status_of refusal.TooLong = TooLong 0
-status_of refusal.Fault = ReadFault
-status_of refusal.Memory = OutOfMemory
-
--- where it was
+-- what printing a sound recording ends with
 abbrev pub IsPrinting : Status → Type 0
-IsPrinting Done = Unit {0}
-IsPrinting WriteFault = Unit {0}
-IsPrinting OutOfMemory = Unit {0}
+IsPrinting Done = ⊤
+IsPrinting WriteFault = ⊤
+IsPrinting OutOfMemory = ⊤
 IsPrinting answer = ⊥
-
--- what the reader of a recording answers: the verdict, or a fault of the source, or that memory ran out
-abbrev pub Judges : {T : Type 0} → Result T Refusal → Verdict → Type 0
-Judges (Ok made) v = v ≡ Sound
-Judges (Err e) v = Answers (status_of e) v

@@ -1,26 +1,25 @@
--- The figures in the code, as the definition of the table has them.
-use Rattle.std.specs.Prelude.{ℕ, List, length, slice_index}
-use Rattle.three_point.specs.Run.{half_units}
-use Rattle.monitor.specs.declared.table.SampleCounts.{SampleCounts}
-use Rattle.monitor.specs.declared.readings.Readings.{Readings}
-use Rattle.monitor.specs.Table.{Figures}
+-- How many samples there are of each kind.
+--   counts_of      of a list of samples
+--   sum_of         of two lists together
+--   AreReadings    what is kept of the samples that were read
+use Rattle.std.specs.Prelude.{◌+◌, ℤ, List, length}
+use Rattle.calibration.specs.Gain.{GainValue}
+use Rattle.calibration.specs.Grid.{GridValue}
+use Rattle.calibration.specs.History.{history, missing_count, refused_count}
+use Rattle.monitor.specs.declared.counts.SampleCounts.{SampleCounts}
 
--- of the text's arguments
-abbrev pub figures_of : SampleCounts → List ℕ → Figures
-figures_of counts halves = record {
-  samples = counts.samples;
-  used = counts.used;
-  missing = counts.missing;
-  refused = counts.refused;
-  half_units = λ k. slice_index halves k;
+abbrev pub counts_of : GridValue → GainValue → List ℤ → SampleCounts
+counts_of grid gain w = record {
+  samples = length w;
+  used = length (history grid gain w);
+  missing = missing_count grid gain w;
+  refused = refused_count grid gain w;
 }
 
--- of the samples that were read
-abbrev pub figures_in : Readings → Figures
-figures_in s = record {
-  samples = s.samples;
-  used = length s.levels.items;
-  missing = s.missing;
-  refused = s.refused;
-  half_units = half_units s.levels.items;
+abbrev pub sum_of : SampleCounts → SampleCounts → SampleCounts
+sum_of a b = record {
+  samples = a.samples + b.samples;
+  used = a.used + b.used;
+  missing = a.missing + b.missing;
+  refused = a.refused + b.refused;
 }

@@ -1,17 +1,16 @@
-ghost use Rattle.std.specs.Prelude.{◌≡◌, ◌≢◌, ◌≤◌, ◌<◌, ◌++◌, List, ℕ, Some, IfOk, string_bytes};
+ghost use Rattle.std.specs.Prelude.{◌≡◌, ◌≢◌, ◌<◌, ◌++◌, All};
 ghost use Rattle.outside.specs.Fault.{Rose};
 ghost use Rattle.outside.specs.Sink.{AppendsPrefix};
-ghost use Rattle.monitor.specs.Table.{table_text};
-ghost use Rattle.monitor.specs.Counts.{figures_in};
-ghost use Rattle.monitor.specs.Within.{Below};
-ghost use Rattle.monitor.specs.Printed.{Prints, PrintsPrefix};
-ghost use Rattle.monitor.specs.Answer.{AnswersFor, IsAnswerOf, IsPrinting, status_of};
+ghost use Rattle.three_point.specs.Run.{half_units};
+ghost use Rattle.monitor.specs.Text.{table_text};
+ghost use Rattle.monitor.specs.Run.{Runs, table_task, outside};
+ghost use Rattle.monitor.specs.Answer.{IsPrinting};
+ghost use Rattle.monitor.specs.declared.grid.TheConstants.{CLASSES, WIDTH};
 
 use crate::Status;
-use crate::counting::table_of_samples;
+use crate::counting::table_of;
 use crate::read::read_recording;
 use crate::readings::Readings;
-use crate::refusal::Refusal;
 use outside::{Sink, Site};
 use std::alloc::Global;
 
@@ -25,27 +24,10 @@ pub fn table_command<T: Site, O: Sink>(
     out: &mut O,
 ) -> Status
     requires home { T.out site.old ≡ 0 }
-
-    // What is printed.
-    ensures done { T.tells → O.tells → result ≡ Status.Done →
-        Prints (T.files site.old file.now) (O.written out.old) (O.written out.new) }
-    ensures front { T.tells → O.tells → result ≡ Status.WriteFault →
-        PrintsPrefix (T.files site.old file.now) (O.written out.old) (O.written out.new) }
-    ensures nothing { O.tells → result ≢ Status.Done → result ≢ Status.WriteFault →
-        O.written out.new ≡ O.written out.old }
-
-    // Which answer it is.
-    ensures answer { T.tells → AnswersFor (T.files site.old file.now) result }
-    ensures complete { T.tells → ¬ Rose (T.faults site.old) (T.faults site.new) →
-        ¬ Rose (O.faults out.old) (O.faults out.new) →
-        IsAnswerOf (T.files site.old file.now) result }
-    ensures read { result ≡ Status.ReadFault → Rose (T.faults site.old) (T.faults site.new) }
-    ensures write { result ≡ Status.WriteFault → Rose (O.faults out.old) (O.faults out.new) }
+    ensures run { Runs (table_task file.now (T.files site.old))
+        (outside ⟦<T as Site>⟧ ⟦<O as Sink>⟧ site.old out.old)
+        (outside ⟦<T as Site>⟧ ⟦<O as Sink>⟧ site.new out.new) result }
     ensures named { result ≢ Status.Usage }
-
-    // What stays.
-    ensures back { T.out site.new ≡ 0 }
-    ensures files { T.tells → T.files site.new ≡ T.files site.old }
 {
     let Ok(mut src) = site.fetch(file) else {
         return Status::ReadFault;
@@ -54,40 +36,28 @@ pub fn table_command<T: Site, O: Sink>(
     site.give_back(src);
     match read {
         Ok(readings) => print_table(alloc, readings, out),
-        Err(refusal) => status_after(refusal),
+        Err(refusal) => refusal.status(0),
     }
 }
 
 // Prints the table of a recording's samples.
 fn print_table<O: Sink>(alloc: Global, readings: Readings, out: &mut O) -> Status
-    requires below { Below 64 readings.levels.items }
-    ensures done { O.tells → result ≡ Status.Done →
-        O.written out.new ≡ O.written out.old ++ table_text 64 2 (figures_in readings) }
+    requires below { All (λ level. level < CLASSES) readings.levels.items }
+    ensures done { O.tells → result ≡ Status.Done → O.written out.new ≡ O.written out.old ++
+        table_text CLASSES WIDTH readings.counts (half_units readings.levels.items) }
     ensures front { O.tells → result ≡ Status.WriteFault →
-        AppendsPrefix (O.written out.old) (O.written out.new) (table_text 64 2 (figures_in readings)) }
+        AppendsPrefix (O.written out.old) (O.written out.new)
+        (table_text CLASSES WIDTH readings.counts (half_units readings.levels.items)) }
     ensures nothing { O.tells → result ≢ Status.Done → result ≢ Status.WriteFault →
         O.written out.new ≡ O.written out.old }
     ensures write { result ≡ Status.WriteFault → Rose (O.faults out.old) (O.faults out.new) }
     ensures printing { IsPrinting result }
 {
-    let Ok(text) = table_of_samples(alloc, readings) else {
+    let Ok(text) = table_of(alloc, readings) else {
         return Status::OutOfMemory;
     };
     match out.put(text.as_bytes()) {
         Ok(()) => Status::Done,
         Err(_) => Status::WriteFault,
-    }
-}
-
-// The answer where a recording wasn't read to a sound end. The gauge of a single file is 0.
-fn status_after(refusal: Refusal) -> Status
-    ensures { result ≡ status_of refusal }
-{
-    match refusal {
-        Refusal::Head(fault) => Status::Recording { gauge: 0, fault },
-        Refusal::Odd(bytes) => Status::Torn { gauge: 0, bytes },
-        Refusal::TooLong => Status::TooLong { gauge: 0 },
-        Refusal::Fault => Status::ReadFault,
-        Refusal::Memory => Status::OutOfMemory,
     }
 }

@@ -1,9 +1,10 @@
 //! The commands of the program, over a site of recordings and a sink for texts.
 //!
 //! `monitor` reads the words of the command line, and calls the command that they name. Its contract is the theorem of the
-//! program: what is printed is the three-point count of ASTM E1049-85, 5.4.4, over the whole level history of the file, each refusal
-//! has its cause in the file (`specs/Verdict.antt`, `specs/Answer.antt`), and all sources are back at the site. The text of a table is
-//! `specs/Table.antt`, and what `table` prints of a file `specs/Printed.antt`.
+//! program, `specs/Run.antt`: what is printed is the three-point count of ASTM E1049-85, 5.4.4, over the whole level history of
+//! the file, each answer has its cause in what the file is (`specs/FileState.antt`, `specs/Answer.antt`), the named file alone
+//! is asked for, and all sources are back at the site. The text of a table is `specs/Text.antt`, and what `table` prints of a
+//! file `specs/Printed.antt`.
 //!
 //! A recording is read in pieces of 64 KiB into one list of levels, 2 bytes each. Its points are found in place, and counted by one
 //! run, which reserves 8 bytes for each point: a live point and a range. Nothing is done twice, and nothing is quadratic.
@@ -11,12 +12,13 @@
 
 mod command;
 mod counting;
+mod counts;
 mod grid;
 mod read;
 mod readings;
 mod refusal;
 mod status;
-mod table;
+mod text;
 mod top;
 mod words;
 

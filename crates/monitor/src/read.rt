@@ -1,66 +1,71 @@
-ghost use Rattle.std.specs.Prelude.{◌≡◌, ◌≤◌, IfOk, Err, drop};
+ghost use Rattle.std.specs.Prelude.{◌≡◌, ◌≤◌, ◌<◌, IfOk, MatchResult, Err, All, drop, length};
 ghost use Rattle.outside.specs.Fault.{Rose};
 ghost use Rattle.recording.specs.Samples.{samples};
-ghost use Rattle.monitor.specs.Verdict.{ended, verdict};
-ghost use Rattle.monitor.specs.Within.{Below};
-ghost use Rattle.monitor.specs.Answer.{Judges};
+ghost use Rattle.monitor.specs.FileState.{Sound, state_of};
+ghost use Rattle.monitor.specs.Answer.{MayAnswer, status_of};
+ghost use Rattle.monitor.specs.Printed.{table_grid, table_gain};
 ghost use Rattle.monitor.specs.Readings.{AreReadings};
-ghost use Rattle.monitor.specs.declared.refusal.Refusal.TheVariants.{Fault};
+ghost use Rattle.monitor.specs.declared.grid.TheConstants.{CLASSES};
+ghost use Rattle.monitor.specs.declared.read.TheConstants.{PIECE};
+ghost use Rattle.monitor.specs.declared.refusal.Refusal.TheVariants.{ReadFault};
 
-use crate::RecordingFault;
 use crate::grid::table_classifier;
 use crate::readings::Readings;
 use crate::refusal::Refusal;
 use outside::Source;
-use recording::{FillEnd, HeadFault, fill, read_head};
-use std::alloc::Global;
-
-/// The most samples that a recording may have.
-const MAX_SAMPLES: u64 = (1 << 40) - 1;
+use recording::{FillEnd, MAX_SAMPLES, fill, read_head};
+use std::alloc::{AllocError, Global};
 
 // Samples that are read at once: 64 KiB. Larger pieces read no faster.
 const PIECE: usize = 16384;
 
-/// Reads a recording to its end, and puts its samples into the classes of `table`.
-pub fn read_recording<S: Source>(alloc: Global, src: &mut S) -> Result<Readings, Refusal>
-    ensures readings { S.tells → IfOk result (λ s. AreReadings s (samples (drop 32 (S.left src.old)))) }
-    ensures below { IfOk result (λ s. Below 64 s.levels.items) }
-    ensures judged { S.tells → Judges result (verdict (S.left src.old)) }
-    ensures fault { result ≡ Err Fault → Rose (S.faults src.old) (S.faults src.new) }
-    ensures later { S.faults src.old ≤ S.faults src.new }
-{
-    match read_head(src) {
-        Ok(_) => read_samples(alloc, src),
-        Err(HeadFault::ReadFault) => Err(Refusal::Fault),
-        Err(HeadFault::Short) => Err(Refusal::Head(RecordingFault::Short)),
-        Err(HeadFault::Magic) => Err(Refusal::Head(RecordingFault::Magic)),
-        Err(HeadFault::Version(version)) => Err(Refusal::Head(RecordingFault::Version(version))),
-        Err(HeadFault::NotZero) => Err(Refusal::Head(RecordingFault::NotZero)),
+/// Room for the samples of a piece and for their levels.
+#[derive(Drop)]
+struct Piece {
+    raws: Vec<i32>,
+    levels: Vec<u16>,
+}
+
+impl Piece {
+    fn new(alloc: Global) -> Result<Piece, AllocError>
+        ensures raws { IfOk result (λ piece. length piece.raws.items ≡ PIECE) }
+        ensures levels { IfOk result (λ piece. length piece.levels.items ≡ PIECE) }
+    {
+        Ok(Piece {
+            raws: vec![in alloc; 0; PIECE]?,
+            levels: vec![in alloc; 0; PIECE]?,
+        })
     }
 }
 
-// The readings of all samples that are left.
-fn read_samples<S: Source>(alloc: Global, src: &mut S) -> Result<Readings, Refusal>
-    ensures readings { S.tells → IfOk result (λ s. AreReadings s (samples (S.left src.old))) }
-    ensures below { IfOk result (λ s. Below 64 s.levels.items) }
-    ensures judged { S.tells → Judges result (ended (S.left src.old)) }
-    ensures fault { result ≡ Err Fault → Rose (S.faults src.old) (S.faults src.new) }
+/// Reads a recording to its end, and puts its samples into the classes of `table`.
+pub fn read_recording<S: Source>(alloc: Global, src: &mut S) -> Result<Readings, Refusal>
+    ensures readings { S.tells → IfOk result (λ readings.
+        AreReadings table_grid table_gain readings (samples (drop 32 (S.left src.old)))) }
+    ensures below { IfOk result (λ readings. All (λ level. level < CLASSES) readings.levels.items) }
+    ensures cause { S.tells → MatchResult result
+        (λ _. state_of (S.left src.old) ≡ Sound)
+        (λ refusal. MayAnswer (status_of 0 refusal) (state_of (S.left src.old))) }
+    ensures fault { result ≡ Err ReadFault → Rose (S.faults src.old) (S.faults src.new) }
     ensures later { S.faults src.old ≤ S.faults src.new }
 {
+    read_head(src)?;
     let classifier = table_classifier();
     let mut readings = Readings::new(alloc);
-    let mut piece = [0; PIECE];
+    let mut piece = Piece::new(alloc)?;
+    let raws = piece.raws.as_mut_slice();
+    let levels = piece.levels.as_mut_slice();
     for _ in 0..u64::MAX {
-        let filled = fill(src, &mut piece);
-        readings.take(&classifier, &piece[..filled.n])?;
-        if readings.samples > MAX_SAMPLES {
+        let filled = fill(src, raws);
+        readings.take(&classifier, &raws[..filled.n], levels)?;
+        if readings.counts.samples > MAX_SAMPLES {
             return Err(Refusal::TooLong);
         }
         match filled.end {
             FillEnd::More => {}
             FillEnd::Ended => return Ok(readings),
-            FillEnd::Torn(bytes) => return Err(Refusal::Odd(bytes)),
-            FillEnd::Failed => return Err(Refusal::Fault),
+            FillEnd::Torn(bytes) => return Err(Refusal::Torn(bytes)),
+            FillEnd::Failed => return Err(Refusal::ReadFault),
         }
     }
     unreachable!()

@@ -1,58 +1,82 @@
-ghost use Rattle.std.specs.Prelude.{◌≡◌, ◌≤◌, ◌<◌, ◌+◌, ◌^◌, [], length, vec_len, OnOk};
-ghost use Rattle.monitor.specs.Printed.{table_grid, table_gain};
+ghost use Rattle.std.specs.Prelude.{◌≡◌, ◌≤◌, ◌<◌, ◌+◌, ◌^◌, ℤ, List, [], ◌++◌, length, take, OnOk};
+ghost use Rattle.calibration.specs.History.{history};
+ghost use Rattle.monitor.specs.Counts.{counts_of};
 
+use crate::counts::SampleCounts;
 use calibration::{Classifier, Reading};
 use std::alloc::{AllocError, Global};
 
-/// The samples of a recording: the levels of those that have one, and the numbers of the others.
+/// The samples of a recording that were read: the levels of those that have one, and how many there are of each kind.
 #[derive(Drop)]
 pub struct Readings {
     pub levels: Vec<u16>,
-    pub samples: u64,
-    pub missing: u64,
-    pub refused: u64,
+    pub counts: SampleCounts,
+    ghost all: { counts.used + counts.missing + counts.refused ≡ counts.samples },
 }
 
 impl Readings {
-    ghost use Rattle.monitor.specs.Readings.{Adds};
+    ghost use Rattle.monitor.specs.Readings.{AreReadings};
 
+    /// Of no samples.
     pub fn new(alloc: Global) -> Readings
         ensures levels { result.levels.items ≡ [] }
-        ensures samples { result.samples ≡ 0 }
-        ensures missing { result.missing ≡ 0 }
-        ensures refused { result.refused ≡ 0 }
+        ensures counts { result.counts ≡ record { samples = 0; used = 0; missing = 0; refused = 0 } }
     {
         Readings {
             levels: Vec::new(alloc),
-            samples: 0,
-            missing: 0,
-            refused: 0,
+            counts: SampleCounts::new(),
         }
     }
 
-    /// Takes the next samples.
-    pub fn take(&mut self, classifier: &Classifier, raws: &[i32]) -> Result<(), AllocError>
-        requires gain { classifier.now.gain ≡ table_gain }
-        requires grid { classifier.now.grid ≡ table_grid }
-        requires samples { self.old.samples < 2 ^ 41 }
-        requires missing { self.old.missing ≤ self.old.samples }
-        requires refused { self.old.refused ≤ self.old.samples }
-        requires few { length raws.now ≤ 2 ^ 20 }
-        ensures added { OnOk result (Adds self.old self.new raws.now) }
-        ensures missing { OnOk result (self.new.missing ≤ self.new.samples) }
-        ensures refused { OnOk result (self.new.refused ≤ self.new.samples) }
+    /// Takes the next samples, by way of `room`, which has a place for each of them.
+    pub fn take(
+        &mut self,
+        classifier: &Classifier,
+        raws: &[i32],
+        room: &mut [u16],
+    ) -> Result<(), AllocError>
+        requires few { self.old.counts.samples + length raws.now < 2 ^ 62 }
+        requires room { length raws.now ≤ length room.old }
+        ensures ok { OnOk result ((w : List ℤ) →
+            AreReadings classifier.now.grid classifier.now.gain self.old w →
+            AreReadings classifier.now.grid classifier.now.gain self.new (w ++ raws.now)) }
+        ensures samples { OnOk result (self.new.counts.samples ≡
+            self.old.counts.samples + length raws.now) }
+        ensures room { length room.new ≡ length room.old }
     {
-        self.levels.reserve(raws.len())?;
-        self.samples += raws.len() as u64;
-        let mut rest = raws;
-        while let [raw, after @ ..] = rest {
-            match classifier.level(*raw) {
-                Reading::Level(level) => self.levels.push_reserved(level),
-                Reading::Missing => self.missing += 1,
-                Reading::Refused => self.refused += 1,
-            }
-            rest = after;
-        }
+        let counts = classify(classifier, raws, room);
+        self.levels
+            .extend_from_slice(&room[..counts.used as usize])?;
+        self.counts = self.counts.plus(&counts);
         Ok(())
+    }
+}
+
+// Puts the levels of these samples at the front of `levels`, in order, and counts the samples.
+fn classify(classifier: &Classifier, raws: &[i32], levels: &mut [u16]) -> SampleCounts
+    requires room { length raws.now ≤ length levels.old }
+    ensures levels { take result.used levels.new ≡ history classifier.now.grid classifier.now.gain raws.now }
+    ensures counts { result ≡ counts_of classifier.now.grid classifier.now.gain raws.now }
+    ensures length { length levels.new ≡ length levels.old }
+    ensures all { result.used + result.missing + result.refused ≡ result.samples }
+{
+    let mut used = 0;
+    let mut missing = 0;
+    let mut refused = 0;
+    for raw in raws {
+        match classifier.level(*raw) {
+            Reading::Level(level) => {
+                levels[used] = level;
+                used += 1;
+            }
+            Reading::Missing => missing += 1,
+            Reading::Refused => refused += 1,
+        }
+    }
+    SampleCounts {
+        samples: raws.len() as u64,
+        used: used as u64,
+        missing,
+        refused,
     }
 }

@@ -1,26 +1,61 @@
 ghost use Rattle.std.specs.Prelude.{◌≡◌};
-ghost use Rattle.monitor.specs.declared.refusal.Refusal.TheVariants.{Memory};
+ghost use Rattle.monitor.specs.declared.refusal.Refusal.TheVariants.{OutOfMemory};
 
-use crate::RecordingFault;
+use crate::{RecordingFault, Status};
+use recording::HeadFault;
 use std::alloc::AllocError;
 
 /// Why a recording is refused, or can't be read.
 #[derive(Clone, Copy, Debug, PartialEq, Eq)]
 pub enum Refusal {
-    /// Its head.
+    /// Its head has a fault.
     Head(RecordingFault),
-    /// So many bytes behind the last whole sample.
-    Odd(u8),
+    /// So many bytes stand behind its last whole sample: 1, 2 or 3.
+    Torn(u8),
+    /// It has more than 2^40 - 1 samples.
     TooLong,
     /// The source failed.
-    Fault,
-    Memory,
+    ReadFault,
+    OutOfMemory,
+}
+
+impl Refusal {
+    ghost use Rattle.monitor.specs.Answer.{status_of};
+
+    /// What is answered, where the recording is that of this gauge.
+    pub fn status(self, gauge: u16) -> Status
+        ensures { result ≡ status_of gauge self }
+    {
+        match self {
+            Refusal::Head(fault) => Status::Recording { gauge, fault },
+            Refusal::Torn(bytes) => Status::Torn { gauge, bytes },
+            Refusal::TooLong => Status::TooLong { gauge },
+            Refusal::ReadFault => Status::ReadFault,
+            Refusal::OutOfMemory => Status::OutOfMemory,
+        }
+    }
+}
+
+impl From<HeadFault> for Refusal {
+    ghost use Rattle.monitor.specs.Answer.{refusal_of};
+
+    ghost from_gives = { λ fault refusal. refusal ≡ refusal_of fault };
+
+    fn from(fault: HeadFault) -> Refusal {
+        match fault {
+            HeadFault::Short => Refusal::Head(RecordingFault::Short),
+            HeadFault::Magic => Refusal::Head(RecordingFault::Magic),
+            HeadFault::Version(version) => Refusal::Head(RecordingFault::Version(version)),
+            HeadFault::NotZero => Refusal::Head(RecordingFault::NotZero),
+            HeadFault::ReadFault => Refusal::ReadFault,
+        }
+    }
 }
 
 impl From<AllocError> for Refusal {
-    ghost from_gives = { λ _ e. e ≡ Memory };
+    ghost from_gives = { λ _ refusal. refusal ≡ OutOfMemory };
 
     fn from(_: AllocError) -> Refusal {
-        Refusal::Memory
+        Refusal::OutOfMemory
     }
 }

@@ -1,5 +1,8 @@
-ghost use Rattle.std.specs.Prelude.{◌≡◌};
+ghost use Rattle.std.specs.Prelude.{◌≡◌, Some};
 ghost use Rattle.monitor.specs.Status.{code_of};
+
+use std::error::Error;
+use std::fmt;
 
 /// What is wrong with a recording.
 #[derive(Clone, Copy, Debug, PartialEq, Eq)]
@@ -49,6 +52,44 @@ impl Status {
             Status::WriteFault => 7,
             Status::OutOfMemory => 9,
             Status::TooLong { .. } => 10,
+        }
+    }
+}
+
+impl fmt::Display for RecordingFault {
+    ghost use Rattle.monitor.specs.StatusText.{recording_fault_text};
+
+    ghost output = { λ fault. Some (recording_fault_text fault) };
+
+    fn fmt<W: fmt::Write>(&self, f: &mut fmt::Formatter<W>) -> fmt::Result {
+        match self {
+            RecordingFault::Short => f.write_str("short"),
+            RecordingFault::Magic => f.write_str("no SGRC"),
+            RecordingFault::Version(version) => write!(f, "version {version}"),
+            RecordingFault::NotZero => f.write_str("not zero"),
+        }
+    }
+}
+
+impl Error for RecordingFault {}
+
+impl fmt::Display for Status {
+    ghost use Rattle.monitor.specs.StatusText.{status_text};
+
+    ghost output = { λ status. Some (status_text status) };
+
+    fn fmt<W: fmt::Write>(&self, f: &mut fmt::Formatter<W>) -> fmt::Result {
+        match self {
+            Status::Done => f.write_str("done"),
+            Status::Usage => f.write_str("no command"),
+            Status::Recording { gauge, fault } => write!(f, "recording {gauge}: {fault}"),
+            Status::Torn { gauge, bytes } => {
+                write!(f, "recording {gauge}: ends in {bytes} odd bytes")
+            }
+            Status::ReadFault => f.write_str("read fault"),
+            Status::WriteFault => f.write_str("write fault"),
+            Status::OutOfMemory => f.write_str("out of memory"),
+            Status::TooLong { gauge } => write!(f, "recording {gauge}: too long"),
         }
     }
 }

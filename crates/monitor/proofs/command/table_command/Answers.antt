@@ -1,30 +1,63 @@
-use Rattle.std.proofs.Common.{ℕ, ◌<◌, List, ◌++◌, Option, Err, sym, ◌∙◌, ap, subst, arith}
+use Rattle.std.proofs.Common.{◌≡◌, ℕ, ◌<◌, List, [], ◌∷◌, ◌++◌, Option, Err, refl, sym, ◌∙◌, ap, subst, arith}
 use Rattle.outside.specs.Sink.{AppendsPrefix}
-use Rattle.monitor.specs.Printed.{Prints, PrintsPrefix}
-use Rattle.monitor.proofs.Refusals.{not_done, read_fault}
+use Rattle.outside.specs.Fault.{Rose}
+use Rattle.monitor.specs.Answer.{MayAnswer}
+use Rattle.monitor.specs.FileState.{state_of, file_state}
+use Rattle.monitor.specs.declared.status.Status.{Status}
+use Rattle.monitor.specs.declared.status.Status.TheVariants.{Done, ReadFault, WriteFault}
 use Rattle.monitor.proofs.TableText.{text_of_readings}
+use Rattle.monitor.proofs.TableRun.{complete, text_for, printing_may, printing_no_read, refusal_no_done, refusal_no_write, refusal_read}
 use Rattle.monitor.proofs.command.table_command.Goals as goal
 
-pub returns-in-Ok-read-clause-done : goal.returns-in-Ok-read-clause-done
-returns-in-Ok-read-clause-done g c = λ tells told is.
+pub returns-in-Ok-read-clause-run : goal.returns-in-Ok-read-clause-run
+returns-in-Ok-read-clause-run g c =
+    let held = g.T.Site.files c.args.site.now c.args.file.now in
+    let left = g.T.Src.Source.left c.in-Ok.src in
     let before = g.O.Sink.written c.args.out.now in
-    let text = text_of_readings c.in-Ok-read.readings (g.T.Src.Source.left c.in-Ok.src) (c.in-Ok-read.ensures.readings (c.in-Ok.ensures.source_tells tells)) in
-    subst (λ (file : Option (List ℕ)). Prints file before (g.O.Sink.written c.print_table.new.out)) (sym (c.in-Ok.ensures.file tells))
-    (c.print_table.ensures.done told is ∙ ap (λ (t : List ℕ). before ++ t) text)
+    let after = g.O.Sink.written c.print_table.new.out in
+    let answer = c.print_table.result in
+    let fetched = c.in-Ok.ensures in
+    let read = c.in-Ok-read.ensures in
+    let printed = c.print_table.ensures in
+    let no_read = printing_no_read answer printed.printing in
+    let may = λ (tells : g.T.Site.tells). subst (λ (h : Option (List ℕ)). MayAnswer answer (file_state h)) (sym (fetched.file tells)) (printing_may answer (state_of left) printed.printing (read.cause (fetched.source_tells tells))) in
+    record {
+      done = λ tells told is. text_for held left (λ (text : List ℕ). after ≡ before ++ text) (fetched.file tells) (printed.done told is ∙ ap (λ (text : List ℕ). before ++ text) (text_of_readings c.in-Ok-read.readings left (read.readings (fetched.source_tells tells))));
+      front = λ tells told is. text_for held left (λ (text : List ℕ). AppendsPrefix before after text) (fetched.file tells) (subst (λ (text : List ℕ). AppendsPrefix before after text) (text_of_readings c.in-Ok-read.readings left (read.readings (fetched.source_tells tells))) (printed.front told is));
+      nothing = printed.nothing;
+      answer_may = may;
+      complete = λ tells sound whole. complete answer (file_state held) (may tells) no_read (λ is. whole (printed.write is));
+      read = λ is. absurd (no_read is);
+      write = printed.write;
+      asked = λ names was. c.give_back.ensures.asked (names ++ c.args.file.now ∷ []) (fetched.asked names was);
+      back = omega (arith, c.give_back.ensures.one_less, fetched.one_more, c.requires.home);
+      files = λ tells. c.give_back.ensures.files tells ∙ fetched.files tells;
+    }
 
-pub returns-in-Ok-read-clause-front : goal.returns-in-Ok-read-clause-front
-returns-in-Ok-read-clause-front g c = λ tells told is.
-    let before = g.O.Sink.written c.args.out.now in
-    let now = g.O.Sink.written c.print_table.new.out in
-    let text = text_of_readings c.in-Ok-read.readings (g.T.Src.Source.left c.in-Ok.src) (c.in-Ok-read.ensures.readings (c.in-Ok.ensures.source_tells tells)) in
-    subst (λ (file : Option (List ℕ)). PrintsPrefix file before now) (sym (c.in-Ok.ensures.file tells))
-    (subst (λ (t : List ℕ). AppendsPrefix before now t) text (c.print_table.ensures.front told is))
-
-pub returns-in-Err-clause-done : goal.returns-in-Err-clause-done
-returns-in-Err-clause-done g c = λ tells told is. absurd (not_done c.in-Err.refusal (sym c.status_after.ensures ∙ is))
-
-pub returns-in-Err-clause-read : goal.returns-in-Err-clause-read
-returns-in-Err-clause-read g c = λ is.
-    let fault = c.read_recording-read.ensures.fault (c.in-Err.is ∙ ap Err (read_fault c.in-Err.refusal (sym c.status_after.ensures ∙ is))) in
-    let some : 0 < g.T.Src.Source.faults c.read_recording-read.new.src = omega (arith, fault, c.in-Ok.ensures.fresh) in
-    omega (arith, c.give_back.ensures.cause some, c.in-Ok.ensures.cause.later)
+pub returns-in-Err-clause-run : goal.returns-in-Err-clause-run
+returns-in-Err-clause-run g c =
+    let held = g.T.Site.files c.args.site.now c.args.file.now in
+    let left = g.T.Src.Source.left c.in-Ok.src in
+    let answer = c.status.result in
+    let fetched = c.in-Ok.ensures in
+    let read = c.in-Err.ensures in
+    let no_done = λ (is : answer ≡ Done). refusal_no_done c.in-Err.refusal (sym c.status.ensures ∙ is) in
+    let no_write = λ (is : answer ≡ WriteFault). refusal_no_write c.in-Err.refusal (sym c.status.ensures ∙ is) in
+    let rose = λ (is : answer ≡ ReadFault).
+    let fault = read.fault (ap Err (refusal_read c.in-Err.refusal (sym c.status.ensures ∙ is))) in
+    let some : 0 < g.T.Src.Source.faults c.read_recording-read.new.src = omega (arith, fault, fetched.fresh) in
+    let rises : Rose (g.T.Site.faults c.args.site.now) (g.T.Site.faults c.give_back.new.self) = omega (arith, c.give_back.ensures.cause some, fetched.cause.later) in
+    rises in
+    let may = λ (tells : g.T.Site.tells). subst (λ (h : Option (List ℕ)). MayAnswer answer (file_state h)) (sym (fetched.file tells)) (subst (λ (a : Status). MayAnswer a (state_of left)) (sym c.status.ensures) (read.cause (fetched.source_tells tells))) in
+    record {
+      done = λ tells told is. absurd (no_done is);
+      front = λ tells told is. absurd (no_write is);
+      nothing = λ told d w. refl;
+      answer_may = may;
+      complete = λ tells sound whole. complete answer (file_state held) (may tells) (λ is. sound (rose is)) no_write;
+      read = rose;
+      write = λ is. absurd (no_write is);
+      asked = λ names was. c.give_back.ensures.asked (names ++ c.args.file.now ∷ []) (fetched.asked names was);
+      back = omega (arith, c.give_back.ensures.one_less, fetched.one_more, c.requires.home);
+      files = λ tells. c.give_back.ensures.files tells ∙ fetched.files tells;
+    }

@@ -1,0 +1,58 @@
+-- The readings of a body, one piece after the other, and what the body is at its end.
+use Rattle.std.proofs.Common.{◌≡◌, ℕ, ℤ, ◌+◌, ◌<◌, ◌≤◌, List, ◌++◌, length, take, sym, ◌∙◌, ap, subst, append_assoc, length-append, arith}
+use Rattle.std.specs.Prelude.{All}
+use Rattle.recording.specs.Samples.{samples}
+use Rattle.recording.specs.Filling.{SameFirst, Takes}
+use Rattle.recording.specs.declared.ends.FillEnd.{FillEnd}
+use Rattle.recording.specs.declared.ends.FillEnd.TheVariants.{More, Ended, Torn}
+use Rattle.calibration.specs.Gain.{GainValue}
+use Rattle.calibration.specs.Grid.{GridValue}
+use Rattle.calibration.proofs.HistoryBelow.{history_below}
+use Rattle.monitor.specs.FileState.{Sound, TornEnd, TooManySamples, body_state}
+use Rattle.monitor.specs.Readings.{AreReadings}
+use Rattle.recording.specs.declared.TheConstants.{MAX_SAMPLES}
+use Rattle.monitor.specs.declared.readings.Readings.{Readings}
+use Rattle.monitor.proofs.BodyState.{sound_body, torn_body, long_body}
+use Rattle.recording.proofs.Reading.{Splits, splits_more, last_ended, last_torn, read_at_most}
+
+pub levels_below : (grid : GridValue) (gain : GainValue) (r : Readings) (w : List ℤ) → AreReadings grid gain r w → All (λ level. level < grid.classes) r.levels.items
+levels_below grid gain r w are = subst (λ (l : List ℕ). All (λ level. level < grid.classes) l) (sym are.levels) (history_below grid gain w)
+
+-- by the gain and the grid of a classifier
+pub by_classifier : (grid table_grid : GridValue) (gain table_gain : GainValue) (old new : Readings) (raws : List ℤ) → grid ≡ table_grid → gain ≡ table_gain → ((w : List ℤ) → AreReadings grid gain old w → AreReadings grid gain new (w ++ raws)) → (w : List ℤ) → AreReadings table_grid table_gain old w → AreReadings table_grid table_gain new (w ++ raws)
+by_classifier grid table_grid gain table_gain old new raws a b step = rw (a, b) at step
+
+-- The body was split after the samples w, and a piece was read, with the end that it had.
+module _ (grid : GridValue) (gain : GainValue) (r : Readings) (w : List ℤ) (body before after : List ℕ) (room n : ℕ) (end : FillEnd) (buf : List ℤ) (split : Splits body w before) (same : SameFirst n buf (samples before)) (t : Takes room before n end after) (are : AreReadings grid gain r (w ++ take n buf)) where
+  as_ended : (e : FillEnd) → end ≡ e → Takes room before n e after
+  as_ended e is = subst (λ (x : FillEnd). Takes room before n x after) is t
+
+  pub more_read : end ≡ More → Splits body (w ++ take n buf) after
+  more_read is =
+      let piece = splits_more room n buf before after same (as_ended More is) in
+      (split.0 ∙ ap (λ (l : List ℤ). w ++ l) piece.0 ∙ sym (append_assoc w (take n buf) (samples after)), piece.1 ∙ split.1)
+
+  whole : take n buf ≡ samples before → w ++ take n buf ≡ samples body
+  whole is = ap (λ (l : List ℤ). w ++ l) is ∙ sym split.0
+
+  count : take n buf ≡ samples before → r.counts.samples ≡ length (samples body)
+  count is = ap (λ c. c.samples) are.counts ∙ ap (λ (l : List ℤ). length l) (whole is)
+
+  pub all_read : end ≡ Ended → AreReadings grid gain r (samples body)
+  all_read is = subst (λ (l : List ℤ). AreReadings grid gain r l) (whole (last_ended room n buf before after same (as_ended Ended is)).all) are
+
+  pub sound_end : end ≡ Ended → r.counts.samples ≤ MAX_SAMPLES → body_state body ≡ Sound
+  sound_end is few =
+      let last = last_ended room n buf before after same (as_ended Ended is) in
+      sound_body body r.counts.samples (count last.all) few (sym split.1 ∙ last.torn)
+
+  pub torn_end : (bytes : ℕ) → end ≡ Torn bytes → r.counts.samples ≤ MAX_SAMPLES → body_state body ≡ TornEnd bytes
+  torn_end bytes is few =
+      let last = last_torn room n buf before after same bytes (as_ended (Torn bytes) is) in
+      torn_body body r.counts.samples bytes (count last.0.all) few (sym split.1 ∙ last.0.torn) last.1
+
+  pub too_many : MAX_SAMPLES < r.counts.samples → body_state body ≡ TooManySamples
+  too_many many =
+      let held : r.counts.samples ≡ length w + length (take n buf) = ap (λ c. c.samples) are.counts ∙ length-append w (take n buf) in
+      let all : length (samples body) ≡ length w + length (samples before) = ap (λ (l : List ℤ). length l) split.0 ∙ length-append w (samples before) in
+      long_body body r.counts.samples (omega (arith, held, all, read_at_most room n buf before after same)) many
