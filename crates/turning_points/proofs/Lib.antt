@@ -4,5 +4,6 @@ pub mod Levels
 pub mod Push
 pub mod Extended
 pub mod TurnedSteps
+pub mod Given
 pub mod InPlace
 pub mod Pieces
