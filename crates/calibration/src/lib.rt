@@ -8,10 +8,11 @@
 //! 64 bits. The dividend is first compared with the width of all classes, which refuses both sides at once, and
 //! is then below `MAX_CLASSES` times the divisor. So two multiplications and a shift by a fixed number give the exact
 //! quotient: the first makes the divisor one of nearly 49 bits, the second is by 2^112 over that. A `Classifier`
-//! keeps the numbers that a gain and a grid determine: make one for a block of samples. `level` is the same for
-//! one raw value.
+//! keeps the numbers that a gain and a grid determine: make one for a block of samples. `Classifier::levels` puts the
+//! levels of a slice of raw values to the front of a buffer; `level` is for one raw value.
 //!
-//! Cost: `Classifier::new` two divisions, `Classifier::level` three multiplications and no division.
+//! Cost: `Classifier::new` two divisions; `Classifier::level`, and `levels` for each value, three multiplications, no
+//! division and, in `levels`, no branch that depends on a value.
 #![tactic(auto)]
 
 mod classifier;
@@ -25,5 +26,5 @@ mod tests;
 pub use classifier::{Classifier, level};
 pub use gain::{Gain, GainFault, MAX_DEN, MAX_NUM, MAX_OFFSET};
 pub use grid::{Grid, GridFault, MAX_CLASSES, MAX_LOW_KPA, MAX_SPAN, MIN_CLASSES, STEP_KPA};
-pub use reading::Reading;
+pub use reading::{LevelCounts, Reading};
 pub use setup::{Gains, Setup};
