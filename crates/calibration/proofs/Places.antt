@@ -3,8 +3,8 @@
 --   levels_more     a value's level behind those before it
 --   missing_more    a value more among the missing ones
 --   counts_add      each value has a level, is missing or is refused
-use Rattle.std.proofs.Common.{◌≡◌, ℕ, ◌+◌, ◌-◌, ◌*◌, ◌/◌, ◌%◌, ◌^◌, ◌<◌, ◌≤◌, ◌⊎◌, inl, inr, ◌∙◌, refl, sym, ap, subst, true, false, Bool, List, [], ◌∷◌, ◌++◌, length, take, get_or, length-append, append-nil, arith}
-use Rattle.std.specs.Prelude.{ℤ, pos, negsuc, ◌+ℤ◌, unsigned_abs, FitsSigned, Some, None, not, ◌&&◌, nat_lt, if◌then◌else◌, set}
+use Rattle.std.proofs.Common.{◌≡◌, ℕ, ◌+◌, ◌*◌, ◌/◌, ◌%◌, ◌^◌, ◌<◌, ◌≤◌, ◌∙◌, refl, sym, ap, true, false, Bool, List, [], ◌∷◌, ◌++◌, length, take, get_or, length-append, append-nil, arith}
+use Rattle.std.specs.Prelude.{ℤ, pos, negsuc, ◌+ℤ◌, FitsSigned, Some, None, not, ◌&&◌, nat_lt, if◌then◌else◌, set}
 use Rattle.std.specs.Int.{w32, w64}
 use Rattle.std.specs.List.{cons_option}
 use Rattle.std.proofs.Math.IntN.{◌*ℤ◌, ◌-ℤ◌}

@@ -1,10 +1,10 @@
 -- The value at each place is put behind those before it.
-use Rattle.std.proofs.Common.{◌≡◌, ◌≤◌, ◌<◌, ◌+◌, ◌-◌, ◌∙◌, sym, ap, length, take, get_or, rules, arith, length-take}
+use Rattle.std.proofs.Common.{◌≡◌, ◌<◌, ◌+◌, ◌∙◌, ap, length, take, get_or, rules, arith, length-take}
 use Rattle.std.specs.Prelude.{pos}
 use Rattle.std.specs.Int.{w32}
 use Rattle.std.proofs.lemmas.Int.{to_z-of_z}
 use Rattle.std.proofs.lemmas.List.{take_all}
-use Rattle.calibration.specs.History.{history, missing_count, refused_count}
+use Rattle.calibration.specs.History.{history, missing_count}
 use Rattle.calibration.proofs.Places.{levels_more, used_more, missing_more, counts_add}
 use mir.Val.{bool_byte}
 use Rattle.calibration.proofs.classifier.Classifier.levels.Goals as goal

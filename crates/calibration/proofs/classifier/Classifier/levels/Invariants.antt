@@ -1,5 +1,5 @@
 -- The values so far have their levels at the front, and those without a reading are counted.
-use Rattle.std.proofs.Common.{◌≡◌, ◌≤◌, ◌+◌, length, take}
+use Rattle.std.proofs.Common.{◌≡◌, length, take}
 use Rattle.calibration.specs.History.{history, missing_count}
 use Rattle.calibration.proofs.classifier.Classifier.levels.Given as goal
 

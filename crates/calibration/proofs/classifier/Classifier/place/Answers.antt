@@ -1,5 +1,5 @@
 -- The steps give the level where both tests say that there is one.
-use Rattle.std.proofs.Common.{◌≡◌, subst, rules, ap, ◌∙◌, ◌*◌, ◌/◌, ◌%◌, ◌^◌}
+use Rattle.std.proofs.Common.{◌≡◌, subst, rules, ap, ◌∙◌, ◌%◌}
 use Rattle.std.specs.Prelude.{Some, None, not, ◌&&◌, nat_lt, if◌then◌else◌}
 use Rattle.std.specs.Int.{w32}
 use Rattle.std.proofs.lemmas.Int.{to_z-of_z}
