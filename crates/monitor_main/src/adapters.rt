@@ -6,7 +6,7 @@ mod tests;
 use outside::{Failed, Sink, Site, Source};
 use std::fs::File;
 use std::io;
-use std::io::{Read, Write};
+use std::io::{ErrorKind, Read, Write};
 use std::rt::Files;
 
 /// An open file, read from its start.
@@ -25,14 +25,17 @@ impl Source for FileSource {
 
     ghost failed_last = { λ _. Unit {0} };
 
+    // A read that was interrupted is tried again.
     fn take(&mut self, buf: &mut [u8]) -> Result<usize, Failed> {
-        match self.file.read(buf) {
-            Ok(n) => Ok(n),
-            Err(_) => {
-                self.faults = self.faults.saturating_add(1);
-                Err(Failed)
+        for _ in 0..u64::MAX {
+            match self.file.read(buf) {
+                Ok(n) => return Ok(n),
+                Err(fault) if fault.kind() == ErrorKind::Interrupted => {}
+                Err(_) => break,
             }
         }
+        self.faults = self.faults.saturating_add(1);
+        Err(Failed)
     }
 }
 

@@ -5,49 +5,37 @@
 #![tactic(auto)]
 
 mod adapters;
+mod words;
+
+ghost use Rattle.std.specs.Prelude.{◌≡◌};
+ghost use Rattle.std.specs.Process.{exit_status};
+ghost use Rattle.monitor.specs.Status.{code_of};
 
 use adapters::{FolderSite, OutputSink};
 use monitor::{Status, monitor};
-use std::alloc::{AllocError, Global};
-use std::env;
 use std::process::ExitCode;
-use std::rt::Env;
+use words::{WordFault, words_of};
 
 fn main(rt: HostRuntime) -> ExitCode {
-    let status = match words_of(&rt, rt.alloc()) {
-        Words::Given(words) => {
-            let mut site = FolderSite::new(&rt);
-            let mut out = OutputSink::new(&rt);
-            monitor(&rt, words.as_slice(), &mut site, &mut out)
+    exit_code(run(&rt))
+}
+
+// Does what the words behind the program's name say.
+fn run(rt: &HostRuntime) -> Status {
+    match words_of(rt, rt.alloc()) {
+        Ok(words) => {
+            let mut site = FolderSite::new(rt);
+            let mut out = OutputSink::new(rt);
+            monitor(rt, words.as_slice(), &mut site, &mut out)
         }
-        Words::NotText => Status::Usage,
-        Words::NoMemory => Status::OutOfMemory,
-    };
+        Err(WordFault::NotText) => Status::Usage,
+        Err(WordFault::OutOfMemory) => Status::OutOfMemory,
+    }
+}
+
+// What the process ends with.
+fn exit_code(status: Status) -> ExitCode
+    ensures { exit_status result ≡ code_of status }
+{
     ExitCode::from(status.code())
-}
-
-// The words behind the program's name.
-#[derive(Drop)]
-enum Words {
-    Given(Vec<String>),
-    NotText,
-    NoMemory,
-}
-
-fn words_of<R: Env + AllocGlobal>(rt: &R, alloc: Global) -> Words {
-    let Ok(args) = env::args(rt) else {
-        return Words::NotText;
-    };
-    match collected(alloc, args) {
-        Ok(words) => Words::Given(words),
-        Err(_) => Words::NoMemory,
-    }
-}
-
-fn collected(alloc: Global, args: env::Args) -> Result<Vec<String>, AllocError> {
-    let mut words = Vec::new(alloc);
-    for word in args.skip(1) {
-        words.push(word)?;
-    }
-    Ok(words)
 }
