@@ -7,3 +7,9 @@ pub mod TurnedSteps
 pub mod Given
 pub mod InPlace
 pub mod Pieces
+pub mod Joining
+pub mod Put
+pub mod PutEnds
+pub mod MeetEnds
+pub mod PushEnds
+pub mod EndPlaces

@@ -8,17 +8,22 @@
 //! passes with no branch on the levels: several times faster where turns can't be predicted. `keep_points` does so for a whole
 //! history. None takes memory.
 //!
+//! `Ends` are the number of points, the first two and the last two: what joins two histories without their levels. `join_ends` puts
+//! the last two points of the left before the right, one by one.
+//!
 //! The lemmas that the counting crates stand on are in `proofs/`: `Zigzag` (one level before a list of points), `Over` (points of a
 //! concatenation), `Push` (one level behind a list of points), `Extended` (the same in a buffer), `Levels` (what points keep
-//! of their levels) and `Pieces`.
+//! of their levels), `Pieces`, and `Joining`, `Put`, `MeetEnds`, `PushEnds` (ends).
 #![tactic(auto)]
 
 mod direction;
+mod ends;
 mod in_place;
 #[cfg(test)]
 mod tests;
 mod turner;
 
 pub use direction::is_between;
+pub use ends::{Ends, ends_of, join_ends, no_ends, put_before, put_behind};
 pub use in_place::keep_points;
 pub use turner::Turner;
