@@ -6,7 +6,7 @@ ghost use Rattle.four_point.specs.Reduction.{IsFourPointResult};
 use crate::stack::{is_residue, push, put_first};
 use std::alloc::{AllocError, Global};
 use std::marker::Model;
-use tally::Tally;
+use tally::{MAX_TOTAL, Tally};
 
 /// The residue of a history of levels. Its cycles are counted in a tally of the caller.
 #[derive(Debug, Drop)]
@@ -64,7 +64,7 @@ impl Reducer {
     pub fn push(&mut self, level: u16, tally: &mut Tally)
         requires level { level < self.old.classes }
         requires classes { self.old.classes ≡ tally.old.classes }
-        requires total { total_of tally.old.cells + length self.old.residue ≤ 2 ^ 63 }
+        requires total { total_of tally.old.cells + length self.old.residue ≤ MAX_TOTAL }
         requires room { HasGreatestRoom tally.old
             ⊎ (2 * length tally.old.cells + length self.old.residue ≤ 2 * tally.old.room) }
 

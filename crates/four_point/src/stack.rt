@@ -4,7 +4,7 @@ ghost use Rattle.turning_points.specs.Pairs.{range};
 ghost use Rattle.tally.specs.Counts.{count_of, total_of, HasGreatestRoom};
 ghost use Rattle.four_point.specs.Residue.{AddsCycles, HasNoCycleBelow, IsResidue, IsResidueBelow};
 
-use tally::Tally;
+use tally::{MAX_TOTAL, Tally};
 use turning_points::is_between;
 
 /// Whether the inner two of four points are one full cycle.
@@ -49,15 +49,15 @@ fn delete_cycles(levels: &mut [u16], mut len: usize, tally: &mut Tally) -> usize
     requires within { len ≤ length levels.old }
     requires below { All (λ level. level < tally.old.classes) (take len levels.old) }
     requires points { points (take len levels.old) ≡ take len levels.old }
-    requires calm { HasNoCycleBelow levels.old (len - 1) }
-    requires total { total_of tally.old.cells + len ≤ 2 ^ 63 + 1 }
+    requires no_cycle { HasNoCycleBelow levels.old (len - 1) }
+    requires total { total_of tally.old.cells + len ≤ MAX_TOTAL + 1 }
     requires room { HasGreatestRoom tally.old ⊎ (2 * length tally.old.cells + len ≤ 2 * tally.old.room + 1) }
     ensures within { result ≤ len }
     ensures cycles { AddsCycles (take len levels.old) (count_of tally.old.cells)
         (take result levels.new) (count_of tally.new.cells) }
     ensures below { All (λ level. level < tally.old.classes) (take result levels.new) }
     ensures points { points (take result levels.new) ≡ take result levels.new }
-    ensures calm { HasNoCycleBelow levels.new result }
+    ensures no_cycle { HasNoCycleBelow levels.new result }
     ensures lengths { 2 * total_of tally.new.cells + result ≡ 2 * total_of tally.old.cells + len }
     ensures cells { 2 * length tally.new.cells + result ≤ 2 * length tally.old.cells + len }
     ensures classes { tally.new.classes ≡ tally.old.classes }
@@ -87,7 +87,7 @@ pub fn push(levels: &mut [u16], len: usize, level: u16, tally: &mut Tally) -> us
     requires within { len < length levels.old }
     requires residue { IsResidue tally.old.classes (take len levels.old) }
     requires level { level < tally.old.classes }
-    requires total { total_of tally.old.cells + len ≤ 2 ^ 63 }
+    requires total { total_of tally.old.cells + len ≤ MAX_TOTAL }
     requires room { HasGreatestRoom tally.old ⊎ (2 * length tally.old.cells + len ≤ 2 * tally.old.room) }
     ensures within { result ≤ length levels.new }
     ensures step { AddsCycles (points (take len levels.old ++ level ∷ [])) (count_of tally.old.cells)

@@ -1,7 +1,9 @@
-use Rattle.std.proofs.Common.{◌≡◌, ◌-◌, ◌+◌, ◌*◌, ◌<◌, ◌≤◌, ◌⊎◌, ◌∙◌, inl, inr, ℕ, refl, sym, ap, length, arith, length-set}
+use Rattle.std.proofs.Common.{◌≡◌, ◌-◌, ◌+◌, ◌*◌, ◌≤◌, ◌⊎◌, ◌∙◌, inl, inr, ℕ, refl, sym, ap, length, arith, length-set}
 use Rattle.tally.specs.Counts.{Counts, HasGreatestRoom, HasPlace, most_cells}
 use Rattle.turning_points.proofs.Over.{own, zig_own}
-use Rattle.four_point.proofs.Stacked.{closes_none, closes_added, zig_more, last_turns, turn_test, turn_parts, below_at, below_set, calm_set}
+use Rattle.turning_points.proofs.Zigzag.{turn_test}
+use Rattle.lemmas.proofs.Lists.{below_at, below_set_third}
+use Rattle.four_point.proofs.Stacked.{AddsCycles-none, AddsCycles-added, zig_more, last_turns, turn_parts, HasNoCycleBelow-set}
 use Rattle.four_point.proofs.stack.delete_cycles.Goals as goal
 
 pub loop-len-init : goal.loop-len-init
@@ -10,8 +12,8 @@ loop-len-init c = record {
   fits = c.requires.within;
   below = c.requires.below;
   zig = zig_own _ c.requires.points;
-  cycles = closes_none _ _;
-  calm = c.requires.calm;
+  cycles = AddsCycles-none _ _;
+  no_cycle = c.requires.no_cycle;
   lengths = refl;
   cells = omega arith;
   room = refl;
@@ -57,10 +59,10 @@ loop-len-preserved c =
     record {
       within = omega arith;
       fits = omega (arith, length-set {A = ℕ});
-      below = below_set _ n _ c.loop-len.levels v.below v.fits (omega arith) (below_at _ n (n - 1) c.loop-len.levels v.below v.fits (omega arith));
+      below = below_set_third _ n _ c.loop-len.levels v.below v.fits (omega arith) (below_at _ n (n - 1) c.loop-len.levels v.below v.fits (omega arith));
       zig = zig_more c.loop-len.levels n c.loop-len-test.true v.fits v.zig t.0 t.1;
-      cycles = closes_added _ c.loop-len.levels n _ _ _ c.min.result c.max.result c.loop-len-test.true v.fits v.cycles t.0 t.1 c.min.ensures c.max.ensures c.add.ensures.added;
-      calm = calm_set c.loop-len.levels n _ v.calm;
+      cycles = AddsCycles-added _ c.loop-len.levels n _ _ _ c.min.result c.max.result c.loop-len-test.true v.fits v.cycles t.0 t.1 c.min.ensures c.max.ensures c.add.ensures.added;
+      no_cycle = HasNoCycleBelow-set c.loop-len.levels n _ v.no_cycle;
       lengths = omega arith;
       cells = omega (arith, c.add.ensures.cells, v.cells);
       room = c.add.ensures.room ∙ v.room;

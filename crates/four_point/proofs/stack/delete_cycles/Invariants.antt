@@ -12,7 +12,7 @@ invariant-loop-len l = record {
   below : All (λ level. level < l.initial.tally.classes) (take l.len l.levels);
   zig : IsZigzag (take l.len l.levels);
   cycles : AddsCycles (take l.initial.len l.initial.levels) (count_of l.initial.tally.cells) (take l.len l.levels) (count_of l.tally.cells);
-  calm : HasNoCycleBelow l.levels (l.len - 1);
+  no_cycle : HasNoCycleBelow l.levels (l.len - 1);
   lengths : 2 * total_of l.tally.cells + l.len ≡ 2 * total_of l.initial.tally.cells + l.initial.len;
   cells : 2 * length l.tally.cells + l.len ≤ 2 * length l.initial.tally.cells + l.initial.len;
   room : l.tally.room ≡ l.initial.tally.room;

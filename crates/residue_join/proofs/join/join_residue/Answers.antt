@@ -4,14 +4,14 @@ use Rattle.turning_points.specs.Points.{points}
 use Rattle.tally.specs.Counts.{Counts, HasGreatestRoom, most_cells, count_of}
 use Rattle.four_point.specs.Residue.{AddsCycles}
 use Rattle.four_point.proofs.Index.{residue_bound}
-use Rattle.residue_join.proofs.Joined.{closes_none, length_none, closes_one_more, length_one_more, joined_results}
+use Rattle.residue_join.proofs.Joined.{AddsCycles-nothing_pushed, length_none, AddsCycles-one_more, length_one_more, joined_results}
 use Rattle.residue_join.proofs.join.join_residue.Goals as goal
 
 pub loop-level-init : goal.loop-level-init
 loop-level-init c =
     let own = c.residue-left.ensures.shape.own in
     record {
-      step = closes_none _ _ own;
+      step = AddsCycles-nothing_pushed _ _ own;
       shape = c.residue-left.ensures.shape;
       lengths = omega (arith, length_none _ own);
       room = omega arith;
@@ -37,7 +37,7 @@ loop-level-preserved c =
     let i = c.loop-level.level-index in
     let v = c.loop-level.invariant in
     record {
-      step = closes_one_more l c.args.right.now i _ c.loop-level-test.true refl _ _ _ _ _ v.step c.push.ensures.step;
+      step = AddsCycles-one_more l c.args.right.now i _ c.loop-level-test.true refl _ _ _ _ _ v.step c.push.ensures.step;
       shape = c.push.ensures.shape;
       lengths = omega (arith, v.lengths, c.push.ensures.lengths, length_one_more l c.args.right.now i _ c.loop-level-test.true refl _ _ _ v.step);
       room = omega (arith, v.room, c.push.ensures.room);
