@@ -8,11 +8,11 @@ use Rattle.std.proofs.lemmas.List.Sums.{sum_by-append, sum_by-cons, sum_by_more,
 use Rattle.tally.specs.declared.cells.TheConstants.{MAX_TOTAL}
 use Rattle.tally.specs.declared.cells.Cell.{Cell}
 use Rattle.tally.specs.Counts.{Counts, IsCounts, IsCell, IsAscending, Before, HasGreatestRoom, HasPlace, most_cells, count_of, total_of, is_from}
-use Rattle.tally.specs.Log.{with_cell, cells_of, amount}
-use Rattle.tally.proofs.Places.{UpTo}
+use Rattle.tally.specs.Log.{with_cell, cells_of, amount, IsLog}
+use Rattle.tally.proofs.Places.{UpTo, places_is}
 use Rattle.tally.proofs.Tables.{one_of}
-use Rattle.tally.proofs.Ascending.{Stands, find_at, find_end}
-use Rattle.tally.proofs.LogCells.{amount_in, cells_of-same, cells_of-ascending, count_of-cells_of, total_of-cells_of, with_cell-from_counts, length_absent, length_parts, length_part}
+use Rattle.tally.proofs.Ascending.{Stands, find_at, find_end, cells_fit}
+use Rattle.tally.proofs.LogCells.{amount_in, each-cells_of, ascending-cells_of, cells_of-same, cells_of-ascending, count_of-cells_of, total_of-cells_of, with_cell-from_counts, length_absent, length_parts, length_part}
 
 -- s is t with the first i entries
 pub record HasEntries (t s : Counts) (entries : List Cell) (i : ℕ) : Type 0 where
@@ -105,6 +105,41 @@ module _ (t s : Counts) (entries : List Cell) (i : ℕ) (first : IsCounts t) (al
   pub entries-length : length s.cells ≤ length t.cells + length (cells_of entries)
   entries-length =
       omega (arith, ap length whole, length_parts t.classes entries t.cells all, ap length (cells_of-ascending t.cells first.ascending))
+
+-- two logs, one behind the other
+module _ {k r j t u cap more : ℕ} {old others : List Cell} (g : IsLog k r t old cap) (o : IsLog k j u others more) where
+  pub append_counts : (a b : ℕ) → count_of (cells_of (old ++ others)) a b ≡ count_of (cells_of old) a b + count_of (cells_of others) a b
+  append_counts a b =
+      omega (arith, count_of-cells_of (old ++ others) a b, sum_by-append (amount_in a b) old others, count_of-cells_of old a b, count_of-cells_of others a b)
+
+  pub append_total : total_of (cells_of (old ++ others)) ≡ total_of (cells_of old) + total_of (cells_of others)
+  append_total =
+      omega (arith, total_of-cells_of (old ++ others), sum_by-append (λ c. c.n) old others, total_of-cells_of old, total_of-cells_of others)
+
+  pub append_length : length (cells_of (old ++ others)) ≤ length (cells_of old) + length (cells_of others)
+  append_length = length_parts k old others g.each
+
+  all_most : length (cells_of (old ++ others)) ≤ most_cells k
+  all_most =
+      let e = each-cells_of k (old ++ others) (All-append (IsCell k) old others g.each o.each) in
+      omega (arith, cells_fit k (cells_of (old ++ others)) 0 (ascending-cells_of (old ++ others)) e (omega arith) (λ i d h. omega arith), places_is k (omega (arith, g.few)))
+
+  held_by : (r ≡ most_cells k) ⊎ (length (cells_of old) + length (cells_of others) ≤ r) → length (cells_of (old ++ others)) ≤ r
+  held_by (inl e) = omega (arith, all_most)
+  held_by (inr h) = omega (arith, append_length)
+
+  pub append_log : (cap' : ℕ) → cap ≤ cap' → (r ≡ most_cells k) ⊎ (length (cells_of old) + length (cells_of others) ≤ r) → t + u ≤ MAX_TOTAL →
+      IsLog k r (t + u) (old ++ others) cap'
+  append_log cap' c h b = record {
+    few = g.few;
+    many = g.many;
+    most = g.most;
+    reserved = omega (arith, g.reserved, c);
+    held = held_by h;
+    each = All-append (IsCell k) old others g.each o.each;
+    summed = omega (arith, g.summed, o.summed, sum_by-append (λ c. c.n) old others);
+    limit = b;
+  }
 
 anywhere : (a b : ℕ) → UpTo 0 0 a b
 anywhere a b = grind arith

@@ -9,7 +9,7 @@ use Rattle.tally.specs.Layout.{row_start, place_of}
 use Rattle.tally.proofs.Places.{UpTo, Order, same, before, behind, order, place_within, places_ascend, places_is}
 use Rattle.tally.proofs.Walk.{count_here, count_other, from_here, from_later}
 use Rattle.tally.proofs.Tables.{one_of, one_same, one_other}
-use Rattle.tally.proofs.Equal.{ascending_head, ascending_tail}
+use Rattle.tally.proofs.Equal.{ascending_head, ascending_tail, cell_of}
 
 -- the cell is not that of the pair
 abbrev pub Differs : ℕ → ℕ → Cell → Type 0
@@ -44,9 +44,6 @@ find_end lo hi (c ∷ cells) (suc at) d s h =
 pub count_none : (lo hi : ℕ) (cells : List Cell) → All (Differs lo hi) cells → count_of cells lo hi ≡ 0
 count_none lo hi [] a = refl
 count_none lo hi (c ∷ cells) a = count_other c cells lo hi (All-head (Differs lo hi) c cells a) ∙ count_none lo hi cells (All-tail (Differs lo hi) c cells a)
-
-abbrev pub cell_of : ℕ → ℕ → ℕ → Cell
-cell_of lo hi n = record { lo = lo; hi = hi; n = n }
 
 module _ (lo hi n a b : ℕ) where
   pub put_first : (cells : List Cell) → All (Differs lo hi) cells → ((lo ≡ a) × (hi ≡ b)) ⊎ ((lo ≡ a) × (hi ≡ b) → ⊥) → count_of (cell_of lo hi n ∷ cells) a b ≡ count_of cells a b + one_of a b lo hi n

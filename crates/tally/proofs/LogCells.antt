@@ -14,10 +14,10 @@ use Rattle.tally.specs.declared.cells.Cell.{Cell}
 use Rattle.tally.specs.Counts.{is_from, count_of, total_of, Before, IsAscending, IsCell, IsCounts}
 use Rattle.tally.specs.Log.{with_more, with_cell, cells_of, amount, first_of, first_with, IsLog}
 use Rattle.tally.proofs.Places.{UpTo, Order, same, before, behind, order}
-use Rattle.tally.proofs.Walk.{count_here, count_other, behind_differs, from_here, from_later}
+use Rattle.tally.proofs.Walk.{count_here, count_other, before_differs, behind_differs, from_here, from_later}
 use Rattle.lemmas.proofs.Naturals.{same_or_not}
 use Rattle.tally.proofs.Tables.{one_of}
-use Rattle.tally.proofs.Equal.{ascending_head, ascending_tail, after_differs, before_all, count_before, same_cells}
+use Rattle.tally.proofs.Equal.{ascending_head, ascending_tail, before_all, count_before, same_cells}
 use Rattle.tally.proofs.Ascending.{Differs, put_first, put_later, raise_first}
 
 -- where a cell goes in
@@ -37,7 +37,7 @@ all_after : (x c : Cell) (cells : List Cell) → After x c → IsAscending (c �
 all_after x c cells h a = All-cons (After x) c cells h (before_all h cells (ascending_head c cells a))
 
 all_differ : (x : Cell) (cells : List Cell) → All (After x) cells → All (Differs x.lo x.hi) cells
-all_differ x cells a = λ k d h. after_differs (a k d h)
+all_differ x cells a = λ k d h. before_differs (a k d h)
 
 -- a predicate on all cells, with one with_cell in
 module _ (P : Cell → Type 0) (x : Cell) (p : P x) (up : (c : Cell) → P c → P (with_more c x.n)) where

@@ -1,5 +1,6 @@
 ghost use Rattle.std.specs.Prelude.{◌≡◌, ℕ, ◌+◌, ◌*◌, ◌^◌, ◌<◌, ◌≤◌, ◌⊎◌, ◌==◌, ◌&&◌, if◌then◌else◌, [], All, IfOk, find, take, length, vec_capacity, vec_len};
-ghost use Rattle.tally.specs.Counts.{IsCell, IsCounts, count_of, total_of, is_from, most_cells, HasPlace};
+ghost use Rattle.std.specs.Bool.{OnTrue, OnFalse};
+ghost use Rattle.tally.specs.Counts.{IsCell, IsCounts, count_of, total_of, is_from, most_cells, HasPlace, HasGreatestRoom};
 ghost use Rattle.tally.specs.Log.{cells_of};
 
 use crate::cells::{Cell, MAX_CLASSES, MAX_TOTAL, MIN_CLASSES};
@@ -130,6 +131,30 @@ impl Log {
             make_place(&mut self.entries);
             self.entries.push_reserved(Cell { lo, hi, n });
         }
+    }
+
+    /// Adds all entries of another log at once where there are places for them, and says whether there are.
+    pub fn append(&mut self, other: &Log) -> bool
+        requires classes { self.old.classes ≡ other.now.classes }
+        requires total { total_of self.old.cells + total_of other.now.cells ≤ MAX_TOTAL }
+        requires room { HasGreatestRoom self.old
+            ⊎ (length self.old.cells + length other.now.cells ≤ self.old.room) }
+        ensures merged { OnTrue result ((a b : ℕ) → count_of self.new.cells a b ≡
+            count_of self.old.cells a b + count_of other.now.cells a b) }
+        ensures total { OnTrue result (total_of self.new.cells ≡ total_of self.old.cells + total_of other.now.cells) }
+        ensures cells { OnTrue result (length self.new.cells ≤ length self.old.cells + length other.now.cells) }
+        ensures classes { self.new.classes ≡ self.old.classes }
+        ensures room { self.new.room ≡ self.old.room }
+        ensures counts { IsCounts self.new }
+        ensures unchanged { OnFalse result (self.new ≡ self.old) }
+    {
+        if self.entries.capacity() - self.entries.len() < other.entries.len() {
+            return false;
+        }
+        // There are places, so that no memory is taken.
+        let _ = self.entries.extend_from_slice(&other.entries);
+        self.total += other.total;
+        true
     }
 
     pub fn get(&self, lo: u16, hi: u16) -> u64

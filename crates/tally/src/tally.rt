@@ -152,12 +152,23 @@ impl Tally {
         ensures room { self.new.room ≡ self.old.room }
         ensures counts { IsCounts self.new }
     {
-        let _counts = self.classes();
         match &other.storage {
-            Storage::Log(others) => add_entries(self, others.entries()),
+            Storage::Log(others) => {
+                let is_added = match &mut self.storage {
+                    Storage::Dense(_) => false,
+                    Storage::Log(log) => log.append(others),
+                };
+                if !is_added {
+                    let _counts = self.classes();
+                    add_entries(self, others.entries());
+                }
+            }
             Storage::Dense(others) => match &mut self.storage {
                 Storage::Dense(dense) => dense.merge(others),
-                Storage::Log(log) => add_table(log, others),
+                Storage::Log(log) => {
+                    let _counts = log.classes();
+                    add_table(log, others);
+                }
             },
         }
     }

@@ -1,6 +1,6 @@
 use Rattle.std.proofs.Common.{arith}
 use Rattle.std.proofs.lemmas.List.Sums.{sum_by_more_le}
-use Rattle.tally.proofs.Ascending.{cell_of}
+use Rattle.tally.proofs.Equal.{cell_of}
 use Rattle.tally.proofs.LogCells.{amount_in, amount_le}
 use Rattle.tally.proofs.entries.amount_in.Goals as goal
 

@@ -3,7 +3,7 @@ use Rattle.std.specs.Prelude.{find}
 use Rattle.std.proofs.lemmas.List.Sums.{sum_by_more_le}
 use Rattle.tally.specs.Counts.{is_from}
 use Rattle.tally.specs.Log.{first_with, cells_of}
-use Rattle.tally.proofs.Ascending.{cell_of}
+use Rattle.tally.proofs.Equal.{cell_of}
 use Rattle.tally.proofs.LogCells.{found_le, find-with_cell, cells_of-more, total_of-cells_of}
 use Rattle.tally.proofs.entries.first_in.Goals as goal
 

@@ -5,7 +5,7 @@ use Rattle.tally.specs.declared.cells.TheConstants.{MAX_CLASSES}
 use Rattle.tally.specs.declared.cells.Cell.{Cell}
 use Rattle.tally.specs.Counts.{IsCell}
 use Rattle.tally.specs.Log.{cells_of}
-use Rattle.tally.proofs.Ascending.{cell_of}
+use Rattle.tally.proofs.Equal.{cell_of}
 use Rattle.tally.proofs.LogCells.{each-cells_of, ascending-cells_of, length-cells_of, find_none}
 use Rattle.tally.proofs.AddEntries.{found_first, found_next, found_last, same_some}
 use Rattle.tally.proofs.entries.pairs_in.Goals as goal

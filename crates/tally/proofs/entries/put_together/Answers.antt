@@ -1,6 +1,6 @@
 use Rattle.std.proofs.Common.{◌+◌, ◌-◌, ◌<◌, ◌∙◌, length, refl, sym, subst, get_or, set, arith}
 use Rattle.tally.specs.Log.{with_more}
-use Rattle.tally.proofs.Ascending.{cell_of}
+use Rattle.tally.proofs.Equal.{cell_of}
 use Rattle.tally.proofs.PutTogether.{IsPutTogether, at_of, not_at_of, put_together-none, put_together-same, put_together-other_pair, put_together-first, put_together-fits}
 use Rattle.tally.proofs.entries.put_together.Goals as goal
 use Rattle.tally.proofs.entries.put_together.Goals.{then-kept-gt0+then-has_pair, else-kept-gt0, else-kept-gt0-via-then-kept-gt0+else-has_pair, else-kept-gt0-via-else-kept-gt0}

@@ -1,4 +1,5 @@
-use Rattle.std.proofs.Common.{◌∙◌, refl, get_or, arith, length-set}
+use Rattle.std.proofs.Common.{◌+◌, ◌-◌, ◌∙◌, refl, get_or, arith, length-set}
+use Rattle.tally.proofs.Equal.{cell_of}
 use Rattle.tally.proofs.Ordered.{cell_in_row, row_within, rows_later, written_more, written_cells}
 use Rattle.lemmas.proofs.Lists.{positive_within}
 use Rattle.tally.proofs.layout.write_cells.Goals as goal
@@ -17,11 +18,12 @@ loop-i-preserved c =
     let k = c.args.classes in
     let t = c.args.counts.now in
     let l = c.args.touched.now in
-    let h = cell_in_row k c.row_of-lo.result (get_or l i 0) _ _ t e.start e.end (omega (arith, c.row.ensures.start)) refl in
+    let hi = c.row_of-lo.result + 1 + (get_or l i 0 - c.row.result) in
+    let h = cell_in_row k c.row_of-lo.result (get_or l i 0) hi (get_or t (get_or l i 0) 0) t e.start e.end (omega (arith, c.row.ensures.start)) refl in
     record {
-      length_kept = length-set c.loop-i.out i _ ∙ v.length_kept;
+      length_kept = length-set c.loop-i.out i (cell_of c.row_of-lo.result hi (get_or t (get_or l i 0) 0)) ∙ v.length_kept;
       row = rows_later k c.row_of-lo.result i c.args.used l c.requires.ordered (omega (arith, c.requires.listing.within)) c.loop-i-test.true e.start;
-      written = written_more k t l i c.loop-i.out _ v.written (omega (arith, v.length_kept, c.requires.room)) h;
+      written = written_more k t l i c.loop-i.out (cell_of c.row_of-lo.result hi (get_or t (get_or l i 0) 0)) v.written (omega (arith, v.length_kept, c.requires.room)) h;
     }
 
 pub returns : goal.returns

@@ -1,7 +1,7 @@
 use Rattle.std.proofs.Common.{◌≡◌, ◌<◌, ℕ, List, length, get_or}
 use Rattle.std.proofs.lemmas.List.{get_or_default}
 use Rattle.tally.specs.declared.cells.Cell.{Cell}
-use Rattle.tally.proofs.Ascending.{cell_of}
+use Rattle.tally.proofs.Equal.{cell_of}
 use Rattle.tally.proofs.AddEntries.{entries-none, entries-more, entries-total, entries-cell, entries-room, entries-counts, entries-sum, entries-length}
 use Rattle.tally.proofs.tally.add_entries.Goals as goal
 

@@ -2,7 +2,7 @@ use Rattle.std.proofs.Common.{ℕ, ◌≡◌, ◌<◌, ◌≤◌, ◌+◌, ◌�
 use Rattle.std.specs.Prelude.{All}
 use Rattle.tally.specs.Counts.{IsCell, HasGreatestRoom, count_of, total_of}
 use Rattle.tally.specs.Log.{cells_of}
-use Rattle.tally.proofs.Ascending.{cell_of}
+use Rattle.tally.proofs.Equal.{cell_of}
 use Rattle.tally.proofs.LogCells.{cells_of-ascending}
 use Rattle.tally.proofs.AddEntries.{HasEntries, entries-none, entries-more, entries-total, entries-cell, entries-room, entries-counts, entries-sum, entries-length, found_first, found_next, same_some}
 use Rattle.tally.proofs.tally.add_table.Goals as goal
