@@ -1,0 +1,9 @@
+pub mod Crossed
+pub mod OfPoints
+pub mod Halves
+pub mod Settled
+pub mod Steps
+pub mod Counted
+pub mod Filled
+pub mod Loaded
+pub mod Once

@@ -1,0 +1,3 @@
+pub mod Crossings
+pub mod Halves
+pub mod Loading

@@ -1,0 +1,115 @@
+ghost use Rattle.std.specs.Prelude.{◌≡◌, ◌≤◌, ◌^◌, ℕ, IfOk, length};
+ghost use Rattle.level_crossing.specs.Crossings.{count_at};
+
+use super::*;
+use calibration::Grid;
+use std::alloc::{AllocError, Global};
+use std::test::Fail;
+use tally::Bin;
+use turning_points::ends_of;
+
+// The standard's own example, on 16 classes of 1 N/mm² from -8 N/mm², with the reference at 0.
+const LEVELS: [u16; 9] = [6, 9, 5, 13, 7, 11, 4, 12, 6];
+
+// Its counts at each boundary: from 8 on upwards, below 8 downwards.
+const COUNTS: [u64; 16] = [0, 0, 0, 0, 0, 1, 2, 3, 4, 4, 3, 3, 2, 1, 0, 0];
+
+// The crossings of levels that come one at a time; a level that the grid doesn't have is left out.
+fn counted(alloc: Global, grid: &Grid, levels: &[u16]) -> Result<Crossings, AllocError>
+    requires { length levels.now ≤ 2 ^ 20 }
+    ensures few { IfOk result (λ s. (l : ℕ) → count_at s l ≤ 2 ^ 20) }
+    ensures grid { IfOk result (λ s.
+        (s.classes ≡ grid.now.classes) × (s.reference ≡ grid.now.reference)) }
+{
+    let mut crossings = Crossings::new(alloc, grid)?;
+    for &level in levels {
+        if level < grid.classes() {
+            crossings.push(level);
+        }
+    }
+    Ok(crossings)
+}
+
+#[test]
+fn the_standards_example(rt: HostRuntime) -> Result<(), Fail> {
+    let grid = Grid::new(16, 2, -8000, 8)?;
+    let crossings = counted(rt.alloc(), &grid, &LEVELS)?;
+    for boundary in 0..grid.classes() {
+        assert!(rt; boundary < 16);
+        assert_eq!(rt;
+            crossings.at(boundary),
+            COUNTS[usize::from(boundary)],
+            "at {boundary}"
+        );
+    }
+    Ok(())
+}
+
+// Histories and all their cuts in two, on 1024 classes.
+#[test]
+fn joined_at_any_cut(rt: HostRuntime) -> Result<(), Fail> {
+    let grid = Grid::new(1024, 1, 0, 8)?;
+    let histories = [
+        LEVELS.as_slice(),
+        [8, 13, 13, 13, 8].as_slice(),
+        [8, 13, 11, 9, 14].as_slice(),
+        [0, 1023, 1023, 0].as_slice(),
+        [7, 7, 7].as_slice(),
+    ];
+    for levels in histories {
+        assert!(rt; levels.len() <= 16);
+        let whole = counted(rt.alloc(), &grid, levels)?;
+        for cut in 0..=levels.len() {
+            let mut joined = counted(rt.alloc(), &grid, &levels[..cut])?;
+            let right = counted(rt.alloc(), &grid, &levels[cut..])?;
+            joined.join(&right);
+            for boundary in 0..grid.classes() {
+                assert_eq!(rt;
+                    joined.at(boundary),
+                    whole.at(boundary),
+                    "at {boundary}, cut at {cut}"
+                );
+            }
+        }
+    }
+    Ok(())
+}
+
+// By bins: what is loaded is told again, whatever was counted before.
+#[test]
+fn loaded_from_bins(rt: HostRuntime) -> Result<(), Fail> {
+    let grid = Grid::new(16, 2, -8000, 8)?;
+    let mut crossings = counted(rt.alloc(), &grid, &[0, 15, 3])?;
+    let bins = [
+        Bin { key: 5, n: 1 },
+        Bin { key: 8, n: 4 },
+        Bin { key: 15, n: 7 },
+    ];
+    crossings.load(&ends_of(&[6, 9]), &bins);
+    for (boundary, count) in [(1, 0), (5, 1), (7, 0), (8, 4), (14, 0), (15, 7)] {
+        assert!(rt; boundary < grid.classes());
+        assert_eq!(rt; crossings.at(boundary), count, "at {boundary}");
+    }
+    Ok(())
+}
+
+// The points of a history at once, and after `clear` again.
+#[test]
+fn taken_from_points(rt: HostRuntime) -> Result<(), Fail> {
+    let grid = Grid::new(16, 2, -8000, 8)?;
+    let mut crossings = Crossings::new(rt.alloc(), &grid)?;
+    crossings.take_points(&LEVELS);
+    for boundary in 0..grid.classes() {
+        assert!(rt; boundary < 16);
+        assert_eq!(rt;
+            crossings.at(boundary),
+            COUNTS[usize::from(boundary)],
+            "at {boundary}"
+        );
+    }
+    crossings.clear();
+    for boundary in 0..grid.classes() {
+        assert_eq!(rt; crossings.at(boundary), 0, "at {boundary}");
+    }
+    Ok(())
+}
