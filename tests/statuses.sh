@@ -1,6 +1,6 @@
 #!/bin/sh
 # Runs the program into each exit status of docs/FORMATS.md that a shell can cause, and compares status and standard output.
-# Status 10 would need a file of four terabytes.
+# Status 10 would need a file of four terabytes. A program may be given: statuses.sh [PROGRAM]
 # Last line: statuses: N passed, M failed
 set -u
 unset CDPATH
@@ -21,14 +21,21 @@ check() {
     fi
 }
 
-# Builds the program where it isn't built.
-"$top/monitor" >/dev/null 2>"$room/told"
-[ "$?" = 1 ] || {
-    cat "$room/told"
-    echo "statuses: the program wasn't built"
-    exit 1
-}
-program=$top/crates/monitor_main/out/monitor_main
+# The program that is given, as `rt ci` leaves it, or the one that the script `monitor` builds.
+program=${1:-}
+case $program in
+/* | '') ;;
+*) program=$PWD/$program ;;
+esac
+if ! [ -x "$program" ]; then
+    "$top/monitor" >/dev/null 2>"$room/told"
+    [ "$?" = 1 ] || {
+        cat "$room/told"
+        echo "statuses: the program wasn't built"
+        exit 1
+    }
+    program=$top/crates/monitor_main/out/monitor_main
+fi
 
 # status NAME WANTED WORDS..: that status, and nothing is printed
 status() {
