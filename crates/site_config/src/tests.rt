@@ -4,7 +4,7 @@ use std::test::Fail;
 
 /// A whole configuration.
 const WHOLE: &str =
-    "[grid]\nclasses = 16\nwidth = 2\nlow = -8000\nreference = 8\n[count]\nblock = 4\nworkers = 2\n[[gauge]]\nname = \"G1\"\nfile = \"g1.sgrc\"\nnum = 1000\n[[detail]]\nname = \"W1\"\ngauge = \"G1\"\nkind = \"normal\"\ncategory = 71\ngamma = 100\n";
+    "[grid]\nclasses = 16\nwidth = 2\nlow = -8000\nreference = 8\n[count]\nblock = 4\nworkers = 2\n[[gauge]]\nname = \"G1\"\nfile = \"g1.sgrc\"\nnum = 1000\n[[detail]]\nname = \"weld\"\ngauge = \"G1\"\nkind = \"normal\"\ncategory = 71\ngamma = 100\n";
 
 /// Its parts.
 const GRID: &str = "[grid]\nclasses = 16\nwidth = 2\nlow = -8000\nreference = 8\n";
@@ -14,7 +14,7 @@ const COUNT: &str = "[count]\nblock = 4\nworkers = 2\n";
 const GAUGE: &str = "[[gauge]]\nname = \"G1\"\nfile = \"g1.sgrc\"\nnum = 1000\n";
 
 const DETAIL: &str =
-    "[[detail]]\nname = \"W1\"\ngauge = \"G1\"\nkind = \"normal\"\ncategory = 71\ngamma = 100\n";
+    "[[detail]]\nname = \"weld\"\ngauge = \"G1\"\nkind = \"normal\"\ncategory = 71\ngamma = 100\n";
 
 /// 33 letters.
 const LONG_NAME: &str = "name = \"abcdefghijklmnopqrstuvwxyzabcdefg\"";
@@ -69,7 +69,7 @@ fn whole_configuration(rt: HostRuntime) -> Result<(), Fail> {
     assert_eq!(rt; (gain.num(), gain.den(), gain.offset()), (1000, 1, 0));
     assert_eq!(rt; config.details.as_slice().len(), 1);
     let named = &config.details.as_slice()[0];
-    assert_eq!(rt; (named.name.as_str(), named.gauge), ("W1", 0));
+    assert_eq!(rt; (named.name.as_str(), named.gauge), ("weld", 0));
     assert_eq!(rt; (named.detail.category(), named.detail.gamma()), (71, 100));
     Ok(())
 }
@@ -288,10 +288,10 @@ fn faults_of_the_details(rt: HostRuntime) -> Result<(), Fail> {
         &rt,
         &[
             ("[[detail]]", "[detail]", Kind(detail(KeyName::Itself))),
-            ("name = \"W1\"\n", "", Missing(detail(KeyName::Name))),
-            ("name = \"W1\"", "name = []", Kind(detail(KeyName::Name))),
+            ("name = \"weld\"\n", "", Missing(detail(KeyName::Name))),
+            ("name = \"weld\"", "name = []", Kind(detail(KeyName::Name))),
             (
-                "name = \"W1\"",
+                "name = \"weld\"",
                 "name = \"W*\"",
                 Limit(detail(KeyName::Name)),
             ),
@@ -347,7 +347,7 @@ fn faults_of_the_details(rt: HostRuntime) -> Result<(), Fail> {
             ),
             (
                 "gamma = 100\n",
-                "gamma = 100\n[[detail]]\nname = \"W1\"\ngauge = \"G1\"\nkind = \"normal\"\ncategory = 36\ngamma = 135\n",
+                "gamma = 100\n[[detail]]\nname = \"weld\"\ngauge = \"G1\"\nkind = \"normal\"\ncategory = 36\ngamma = 135\n",
                 Double {
                     part: Part::Detail,
                     first: 0,
@@ -356,7 +356,7 @@ fn faults_of_the_details(rt: HostRuntime) -> Result<(), Fail> {
             ),
             (
                 "gamma = 100\n",
-                "gamma = 100\n[[detail]]\nname = \"W1\"\ngauge = \"G2\"\nkind = \"normal\"\ncategory = 36\ngamma = 135\n",
+                "gamma = 100\n[[detail]]\nname = \"weld\"\ngauge = \"G2\"\nkind = \"normal\"\ncategory = 36\ngamma = 135\n",
                 NoSuchGauge { detail: 1 },
             ),
         ],
