@@ -1,0 +1,97 @@
+ghost use Rattle.std.specs.Prelude.{◌≤◌};
+
+use std::alloc::{AllocError, Global};
+use std::fmt;
+
+/// What the history looks like: every level as likely as another, or steps of less than one class.
+#[derive(Clone, Copy, Debug, PartialEq, Eq)]
+pub enum History {
+    Noise,
+    Walk,
+}
+
+/// A unit's tally: with room for each pair, or for half of a block's samples.
+#[derive(Clone, Copy, Debug, PartialEq, Eq)]
+pub enum Form {
+    Table,
+    Log,
+}
+
+/// What is counted, and how.
+#[derive(Clone, Copy, Debug)]
+pub struct Plan {
+    pub history: History,
+    pub classes: u16,
+    pub units: u32,
+    pub block: u32,
+    pub form: Form,
+    ghost some: { 64 ≤ classes },
+    ghost limit: { classes ≤ 1024 },
+    ghost full: { 1 ≤ block },
+    ghost longest: { block ≤ 4096 },
+}
+
+impl Plan {
+    /// All plans. A table for each unit has no place for 1024 classes, and up to 64 classes a block of 4096
+    /// samples has room for each pair.
+    pub fn all(alloc: Global) -> Result<Vec<Plan>, AllocError> {
+        let mut plans = Vec::new(alloc);
+        for history in [History::Noise, History::Walk] {
+            for units in [1, 512] {
+                for block in [1024, 4096] {
+                    plans.push(plan_of(history, 64, units, block, Form::Table))?;
+                    if block == 1024 {
+                        plans.push(plan_of(history, 64, units, block, Form::Log))?;
+                    }
+                    plans.push(plan_of(history, 128, units, block, Form::Table))?;
+                    plans.push(plan_of(history, 128, units, block, Form::Log))?;
+                    plans.push(plan_of(history, 1024, units, block, Form::Log))?;
+                }
+            }
+        }
+        Ok(plans)
+    }
+}
+
+fn plan_of(history: History, classes: u16, units: u32, block: u32, form: Form) -> Plan
+    requires some { 64 ≤ classes }
+    requires limit { classes ≤ 1024 }
+    requires full { 1 ≤ block }
+    requires longest { block ≤ 4096 }
+{
+    Plan {
+        history,
+        classes,
+        units,
+        block,
+        form,
+    }
+}
+
+impl fmt::Display for History {
+    fn fmt<W: fmt::Write>(&self, f: &mut fmt::Formatter<W>) -> fmt::Result {
+        f.write_str(match self {
+            History::Noise => "noise",
+            History::Walk => "walk",
+        })
+    }
+}
+
+impl fmt::Display for Form {
+    fn fmt<W: fmt::Write>(&self, f: &mut fmt::Formatter<W>) -> fmt::Result {
+        f.write_str(match self {
+            Form::Table => "table",
+            Form::Log => "log",
+        })
+    }
+}
+
+impl fmt::Display for Plan {
+    fn fmt<W: fmt::Write>(&self, f: &mut fmt::Formatter<W>) -> fmt::Result {
+        write!(
+            f,
+            "{} classes {} units {} block {} {}",
+            self.history, self.classes, self.units, self.block, self.form
+        )
+    }
+}
