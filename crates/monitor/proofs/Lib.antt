@@ -1,8 +1,7 @@
-pub mod SampleKinds
-pub mod ReadingsTaken
 pub mod BodyState
-pub mod RecordingRead
 pub mod Refusals
 pub mod RangeLines
-pub mod TableText
 pub mod TableRun
+pub mod FiguresTaken
+pub mod TableText
+pub mod RecordingRead

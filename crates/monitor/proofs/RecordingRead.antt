@@ -1,29 +1,27 @@
--- The readings of a body, one piece after the other, and what the body is at its end.
+-- The figures of a body, one piece after the other, and what the body is at its end.
 use Rattle.std.proofs.Common.{◌≡◌, ℕ, ℤ, ◌+◌, ◌<◌, ◌≤◌, List, ◌++◌, length, take, sym, ◌∙◌, ap, subst, append_assoc, length-append, arith}
-use Rattle.std.specs.Prelude.{All}
+use Rattle.recording.specs.declared.TheConstants.{MAX_SAMPLES}
 use Rattle.recording.specs.Samples.{samples}
 use Rattle.recording.specs.Filling.{SameFirst, Takes}
 use Rattle.recording.specs.declared.ends.FillEnd.{FillEnd}
 use Rattle.recording.specs.declared.ends.FillEnd.TheVariants.{More, Ended, Torn}
+use Rattle.recording.proofs.Reading.{Splits, splits_more, last_ended, last_torn, read_at_most}
 use Rattle.calibration.specs.Gain.{GainValue}
 use Rattle.calibration.specs.Grid.{GridValue}
-use Rattle.calibration.proofs.HistoryBelow.{history_below}
 use Rattle.monitor.specs.FileState.{Sound, TornEnd, TooManySamples, body_state}
-use Rattle.monitor.specs.Readings.{AreReadings}
-use Rattle.recording.specs.declared.TheConstants.{MAX_SAMPLES}
-use Rattle.monitor.specs.declared.readings.Readings.{Readings}
+use Rattle.monitor.specs.Figures.{AreFigures}
+use Rattle.monitor.specs.declared.figures.Figures.{Figures}
 use Rattle.monitor.proofs.BodyState.{sound_body, torn_body, long_body}
-use Rattle.recording.proofs.Reading.{Splits, splits_more, last_ended, last_torn, read_at_most}
-
-pub levels_below : (grid : GridValue) (gain : GainValue) (r : Readings) (w : List ℤ) → AreReadings grid gain r w → All (λ level. level < grid.classes) r.levels.items
-levels_below grid gain r w are = subst (λ (l : List ℕ). All (λ level. level < grid.classes) l) (sym are.levels) (history_below grid gain w)
 
 -- by the gain and the grid of a classifier
-pub by_classifier : (grid table_grid : GridValue) (gain table_gain : GainValue) (old new : Readings) (raws : List ℤ) → grid ≡ table_grid → gain ≡ table_gain → ((w : List ℤ) → AreReadings grid gain old w → AreReadings grid gain new (w ++ raws)) → (w : List ℤ) → AreReadings table_grid table_gain old w → AreReadings table_grid table_gain new (w ++ raws)
+pub by_classifier : (grid table_grid : GridValue) (gain table_gain : GainValue) (old new : Figures) (raws : List ℤ) → grid ≡ table_grid → gain ≡ table_gain → ((w : List ℤ) → AreFigures grid gain old w → AreFigures grid gain new (w ++ raws)) → (w : List ℤ) → AreFigures table_grid table_gain old w → AreFigures table_grid table_gain new (w ++ raws)
 by_classifier grid table_grid gain table_gain old new raws a b step = rw (a, b) at step
 
+pub of_classifier : (grid table_grid : GridValue) (gain table_gain : GainValue) (f : Figures) (w : List ℤ) → grid ≡ table_grid → gain ≡ table_gain → AreFigures table_grid table_gain f w → AreFigures grid gain f w
+of_classifier grid table_grid gain table_gain f w a b are = rw (a, b) are
+
 -- The body was split after the samples w, and a piece was read, with the end that it had.
-module _ (grid : GridValue) (gain : GainValue) (r : Readings) (w : List ℤ) (body before after : List ℕ) (room n : ℕ) (end : FillEnd) (buf : List ℤ) (split : Splits body w before) (same : SameFirst n buf (samples before)) (t : Takes room before n end after) (are : AreReadings grid gain r (w ++ take n buf)) where
+module _ (grid : GridValue) (gain : GainValue) (r : Figures) (w : List ℤ) (body before after : List ℕ) (room n : ℕ) (end : FillEnd) (buf : List ℤ) (split : Splits body w before) (same : SameFirst n buf (samples before)) (t : Takes room before n end after) (are : AreFigures grid gain r (w ++ take n buf)) where
   as_ended : (e : FillEnd) → end ≡ e → Takes room before n e after
   as_ended e is = subst (λ (x : FillEnd). Takes room before n x after) is t
 
@@ -38,8 +36,8 @@ module _ (grid : GridValue) (gain : GainValue) (r : Readings) (w : List ℤ) (bo
   count : take n buf ≡ samples before → r.counts.samples ≡ length (samples body)
   count is = ap (λ c. c.samples) are.counts ∙ ap (λ (l : List ℤ). length l) (whole is)
 
-  pub all_read : end ≡ Ended → AreReadings grid gain r (samples body)
-  all_read is = subst (λ (l : List ℤ). AreReadings grid gain r l) (whole (last_ended room n buf before after same (as_ended Ended is)).all) are
+  pub all_read : end ≡ Ended → w ++ take n buf ≡ samples body
+  all_read is = whole (last_ended room n buf before after same (as_ended Ended is)).all
 
   pub sound_end : end ≡ Ended → r.counts.samples ≤ MAX_SAMPLES → body_state body ≡ Sound
   sound_end is few =

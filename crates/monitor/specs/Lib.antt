@@ -5,7 +5,7 @@ pub mod StatusText
 pub mod FileState
 pub mod Answer
 pub mod Counts
-pub mod Readings
+pub mod Figures
 pub mod Text
 pub mod Printed
 pub mod Run

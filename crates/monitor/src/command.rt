@@ -1,22 +1,22 @@
-ghost use Rattle.std.specs.Prelude.{◌≡◌, ◌≢◌, ◌<◌, ◌++◌, All};
+ghost use Rattle.std.specs.Prelude.{◌≡◌, ◌≢◌, ◌≤◌, ◌++◌, ℤ, List};
 ghost use Rattle.outside.specs.Fault.{Rose};
 ghost use Rattle.outside.specs.Sink.{AppendsPrefix};
-ghost use Rattle.three_point.specs.Run.{half_units};
-ghost use Rattle.monitor.specs.Text.{table_text};
+ghost use Rattle.recording.specs.declared.TheConstants.{MAX_SAMPLES};
+ghost use Rattle.monitor.specs.Figures.{AreFigures};
+ghost use Rattle.monitor.specs.Printed.{table_grid, table_gain, text_of_samples};
 ghost use Rattle.monitor.specs.Run.{Runs, table_task, outside};
 ghost use Rattle.monitor.specs.Answer.{IsPrinting};
-ghost use Rattle.monitor.specs.declared.grid.TheConstants.{CLASSES, WIDTH};
 
 use crate::Status;
 use crate::counting::table_of;
+use crate::figures::Figures;
 use crate::read::read_recording;
-use crate::readings::Readings;
 use outside::{Sink, Site};
 use std::alloc::Global;
 
 /// Prints the rainflow table of a recording (ASTM E1049-85, 5.4.4).
 ///
-/// The file is read whole. All its sources are back at the site when the call returns, and no file is changed.
+/// The file is read to its end, in pieces. All its sources are back at the site when the call returns, and no file is changed.
 pub fn table_command<T: Site, O: Sink>(
     alloc: Global,
     file: &str,
@@ -35,25 +35,27 @@ pub fn table_command<T: Site, O: Sink>(
     let read = read_recording(alloc, &mut src);
     site.give_back(src);
     match read {
-        Ok(readings) => print_table(alloc, readings, out),
+        Ok(figures) => print_table(alloc, figures, out),
         Err(refusal) => refusal.status(0),
     }
 }
 
 // Prints the table of a recording's samples.
-fn print_table<O: Sink>(alloc: Global, readings: Readings, out: &mut O) -> Status
-    requires below { All (λ level. level < CLASSES) readings.levels.items }
-    ensures done { O.tells → result ≡ Status.Done → O.written out.new ≡ O.written out.old ++
-        table_text CLASSES WIDTH readings.counts (half_units readings.levels.items) }
-    ensures front { O.tells → result ≡ Status.WriteFault →
-        AppendsPrefix (O.written out.old) (O.written out.new)
-        (table_text CLASSES WIDTH readings.counts (half_units readings.levels.items)) }
+fn print_table<O: Sink>(alloc: Global, figures: Figures, out: &mut O) -> Status
+    requires few { figures.counts.samples ≤ MAX_SAMPLES }
+    requires figures { (w : List ℤ) × AreFigures table_grid table_gain figures w }
+    ensures done { O.tells → result ≡ Status.Done → (w : List ℤ) →
+        AreFigures table_grid table_gain figures w →
+        O.written out.new ≡ O.written out.old ++ text_of_samples w }
+    ensures front { O.tells → result ≡ Status.WriteFault → (w : List ℤ) →
+        AreFigures table_grid table_gain figures w →
+        AppendsPrefix (O.written out.old) (O.written out.new) (text_of_samples w) }
     ensures nothing { O.tells → result ≢ Status.Done → result ≢ Status.WriteFault →
         O.written out.new ≡ O.written out.old }
     ensures write { result ≡ Status.WriteFault → Rose (O.faults out.old) (O.faults out.new) }
     ensures printing { IsPrinting result }
 {
-    let Ok(text) = table_of(alloc, readings) else {
+    let Ok(text) = table_of(alloc, figures) else {
         return Status::OutOfMemory;
     };
     match out.put(text.as_bytes()) {

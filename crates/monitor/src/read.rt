@@ -1,16 +1,16 @@
-ghost use Rattle.std.specs.Prelude.{◌≡◌, ◌≤◌, ◌<◌, IfOk, MatchResult, Err, All, drop, length};
+ghost use Rattle.std.specs.Prelude.{◌≡◌, ◌≤◌, ◌<◌, ℤ, List, IfOk, MatchResult, Err, drop, length};
 ghost use Rattle.outside.specs.Fault.{Rose};
 ghost use Rattle.recording.specs.Samples.{samples};
 ghost use Rattle.monitor.specs.FileState.{Sound, state_of};
 ghost use Rattle.monitor.specs.Answer.{MayAnswer, status_of};
 ghost use Rattle.monitor.specs.Printed.{table_grid, table_gain};
-ghost use Rattle.monitor.specs.Readings.{AreReadings};
-ghost use Rattle.monitor.specs.declared.grid.TheConstants.{CLASSES};
+ghost use Rattle.recording.specs.declared.TheConstants.{MAX_SAMPLES};
+ghost use Rattle.monitor.specs.Figures.{AreFigures};
 ghost use Rattle.monitor.specs.declared.read.TheConstants.{PIECE};
 ghost use Rattle.monitor.specs.declared.refusal.Refusal.TheVariants.{ReadFault};
 
-use crate::grid::table_classifier;
-use crate::readings::Readings;
+use crate::figures::Figures;
+use crate::grid::{CLASSES, table_classifier};
 use crate::refusal::Refusal;
 use outside::Source;
 use recording::{FillEnd, MAX_SAMPLES, fill, read_head};
@@ -38,11 +38,13 @@ impl Piece {
     }
 }
 
-/// Reads a recording to its end, and puts its samples into the classes of `table`.
-pub fn read_recording<S: Source>(alloc: Global, src: &mut S) -> Result<Readings, Refusal>
-    ensures readings { S.tells → IfOk result (λ readings.
-        AreReadings table_grid table_gain readings (samples (drop 32 (S.left src.old)))) }
-    ensures below { IfOk result (λ readings. All (λ level. level < CLASSES) readings.levels.items) }
+/// Reads a recording to its end, piece by piece, and counts its samples in the classes of `table`.
+pub fn read_recording<S: Source>(alloc: Global, src: &mut S) -> Result<Figures, Refusal>
+    // The figures are those of some samples, and where the source tells, of the file's.
+    ensures figures { IfOk result (λ figures. (w : List ℤ) ×
+        AreFigures table_grid table_gain figures w ×
+        (S.tells → w ≡ samples (drop 32 (S.left src.old)))) }
+    ensures few { IfOk result (λ figures. figures.counts.samples ≤ MAX_SAMPLES) }
     ensures cause { S.tells → MatchResult result
         (λ _. state_of (S.left src.old) ≡ Sound)
         (λ refusal. MayAnswer (status_of 0 refusal) (state_of (S.left src.old))) }
@@ -51,19 +53,19 @@ pub fn read_recording<S: Source>(alloc: Global, src: &mut S) -> Result<Readings,
 {
     read_head(src)?;
     let classifier = table_classifier();
-    let mut readings = Readings::new(alloc);
+    let mut figures = Figures::new(alloc, CLASSES)?;
     let mut piece = Piece::new(alloc)?;
     let raws = piece.raws.as_mut_slice();
     let levels = piece.levels.as_mut_slice();
     for _ in 0..u64::MAX {
         let filled = fill(src, raws);
-        readings.take(&classifier, &raws[..filled.n], levels)?;
-        if readings.counts.samples > MAX_SAMPLES {
+        figures.take(&classifier, &raws[..filled.n], levels);
+        if figures.counts.samples > MAX_SAMPLES {
             return Err(Refusal::TooLong);
         }
         match filled.end {
             FillEnd::More => {}
-            FillEnd::Ended => return Ok(readings),
+            FillEnd::Ended => return Ok(figures),
             FillEnd::Torn(bytes) => return Err(Refusal::Torn(bytes)),
             FillEnd::Failed => return Err(Refusal::ReadFault),
         }

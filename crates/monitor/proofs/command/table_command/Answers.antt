@@ -1,13 +1,16 @@
-use Rattle.std.proofs.Common.{◌≡◌, ℕ, ◌<◌, List, [], ◌∷◌, ◌++◌, Option, Err, refl, sym, ◌∙◌, ap, subst, arith}
+use Rattle.std.proofs.Common.{ℤ, ◌≡◌, ℕ, ◌<◌, List, [], ◌∷◌, ◌++◌, Option, Err, refl, sym, ◌∙◌, ap, subst, arith}
 use Rattle.outside.specs.Sink.{AppendsPrefix}
 use Rattle.outside.specs.Fault.{Rose}
 use Rattle.monitor.specs.Answer.{MayAnswer}
 use Rattle.monitor.specs.FileState.{state_of, file_state}
 use Rattle.monitor.specs.declared.status.Status.{Status}
 use Rattle.monitor.specs.declared.status.Status.TheVariants.{Done, ReadFault, WriteFault}
-use Rattle.monitor.proofs.TableText.{text_of_readings}
+use Rattle.monitor.specs.Printed.{text_of_samples}
 use Rattle.monitor.proofs.TableRun.{complete, text_for, printing_may, printing_no_read, refusal_no_done, refusal_no_write, refusal_read}
 use Rattle.monitor.proofs.command.table_command.Goals as goal
+
+pub print_table-requires : goal.print_table-requires
+print_table-requires g c = record { few = c.in-Ok-read.ensures.few; figures = (c.in-Ok-read.ensures.figures.0, c.in-Ok-read.ensures.figures.1) }
 
 pub returns-in-Ok-read-clause-run : goal.returns-in-Ok-read-clause-run
 returns-in-Ok-read-clause-run g c =
@@ -21,9 +24,10 @@ returns-in-Ok-read-clause-run g c =
     let printed = c.print_table.ensures in
     let no_read = printing_no_read answer printed.printing in
     let may = λ (tells : g.T.Site.tells). subst (λ (h : Option (List ℕ)). MayAnswer answer (file_state h)) (sym (fetched.file tells)) (printing_may answer (state_of left) printed.printing (read.cause (fetched.source_tells tells))) in
+    let text = λ (tells : g.T.Site.tells). ap (λ (w : List ℤ). text_of_samples w) (read.figures.2 (fetched.source_tells tells)) in
     record {
-      done = λ tells told is. text_for held left (λ (text : List ℕ). after ≡ before ++ text) (fetched.file tells) (printed.done told is ∙ ap (λ (text : List ℕ). before ++ text) (text_of_readings c.in-Ok-read.readings left (read.readings (fetched.source_tells tells))));
-      front = λ tells told is. text_for held left (λ (text : List ℕ). AppendsPrefix before after text) (fetched.file tells) (subst (λ (text : List ℕ). AppendsPrefix before after text) (text_of_readings c.in-Ok-read.readings left (read.readings (fetched.source_tells tells))) (printed.front told is));
+      done = λ tells told is. text_for held left (λ (text : List ℕ). after ≡ before ++ text) (fetched.file tells) (printed.done told is read.figures.0 read.figures.1 ∙ ap (λ (text : List ℕ). before ++ text) (text tells));
+      front = λ tells told is. text_for held left (λ (text : List ℕ). AppendsPrefix before after text) (fetched.file tells) (subst (λ (text : List ℕ). AppendsPrefix before after text) (text tells) (printed.front told is read.figures.0 read.figures.1));
       nothing = printed.nothing;
       answer_may = may;
       complete = λ tells sound whole. complete answer (file_state held) (may tells) no_read (λ is. whole (printed.write is));

@@ -4,7 +4,7 @@ use Rattle.monitor.specs.Printed.{table_grid, table_gain}
 use Rattle.monitor.specs.Answer.{answer_for}
 use Rattle.monitor.specs.FileState.{state_of}
 use Rattle.monitor.specs.declared.status.Status.TheVariants.{Torn}
-use Rattle.monitor.proofs.RecordingRead.{more_read, all_read, sound_end, torn_end, too_many, levels_below, by_classifier}
+use Rattle.monitor.proofs.RecordingRead.{more_read, all_read, sound_end, torn_end, too_many, by_classifier, of_classifier}
 use Rattle.monitor.proofs.Refusals.{head_cause, head_fault, memory_cause, memory_fault, state_with_head, err_is}
 use Rattle.monitor.proofs.read.read_recording.Goals as goal
 
@@ -19,6 +19,15 @@ returns-in_err-read_head-clause-fault g c = λ is.
 pub returns-in_err-read_head-clause-later : goal.returns-in_err-read_head-clause-later
 returns-in_err-read_head-clause-later g c = c.read_head.ensures.later
 
+pub returns-in_err-figures-clause-cause : goal.returns-in_err-figures-clause-cause
+returns-in_err-figures-clause-cause g c = λ tells. memory_cause _ (g.S.Source.left c.args.src.now) c.from_residual-in_err-figures.ensures.1
+
+pub returns-in_err-figures-clause-fault : goal.returns-in_err-figures-clause-fault
+returns-in_err-figures-clause-fault g c = λ is. absurd (memory_fault _ c.from_residual-in_err-figures.ensures.1 is)
+
+pub returns-in_err-figures-clause-later : goal.returns-in_err-figures-clause-later
+returns-in_err-figures-clause-later g c = c.read_head.ensures.later
+
 pub returns-in_err-piece-clause-cause : goal.returns-in_err-piece-clause-cause
 returns-in_err-piece-clause-cause g c = λ tells. memory_cause _ (g.S.Source.left c.args.src.now) c.from_residual-in_err-piece.ensures.1
 
@@ -30,11 +39,11 @@ returns-in_err-piece-clause-later g c = c.read_head.ensures.later
 
 pub loop-init : goal.loop-init
 loop-init g c =
-    let new = c.new-readings.ensures in
+    let figures = c.in_ok-figures.ensures table_grid table_gain (omega arith) in
     record {
-      read = ([], record { levels = new.levels; counts = new.counts }, λ tells. (ap samples (sym (c.in_ok-read_head.ensures.left tells (λ is. cc))), ap torn_bytes (c.in_ok-read_head.ensures.left tells (λ is. cc))));
+      read = ([], figures, λ tells. (ap samples (sym (c.in_ok-read_head.ensures.left tells (λ is. cc))), ap torn_bytes (c.in_ok-read_head.ensures.left tells (λ is. cc))));
       turns = omega arith;
-      few = omega (arith, ap (λ k. k.samples) new.counts);
+      few = omega (arith, ap (λ k. k.samples) figures.counts);
       later = c.read_head.ensures.later;
       raws = search rules;
       levels = search rules;
@@ -42,18 +51,11 @@ loop-init g c =
 
 pub take-requires : goal.take-requires
 take-requires g c = record {
-  few = omega (arith, length-take c.fill-filled.result.n c.fill-filled.new.buf, c.loop.invariant.few, c.fill-filled.ensures.within, c.fill-filled.ensures.length, c.loop.invariant.raws);
+  samples = c.loop.invariant.few;
+  few = omega (arith, length-take c.fill-filled.result.n c.fill-filled.new.buf, c.fill-filled.ensures.within, c.fill-filled.ensures.length, c.loop.invariant.raws);
   room = omega (arith, length-take c.fill-filled.result.n c.fill-filled.new.buf, c.fill-filled.ensures.length, c.loop.invariant.raws, c.loop.invariant.levels);
+  figures = (c.loop.invariant.read.0, of_classifier _ table_grid _ table_gain c.loop.figures _ c.table_classifier-classifier.ensures.grid c.table_classifier-classifier.ensures.gain c.loop.invariant.read.1);
 }
-
-pub returns-in_err-take-clause-cause : goal.returns-in_err-take-clause-cause
-returns-in_err-take-clause-cause g c = λ tells. memory_cause _ (g.S.Source.left c.args.src.now) c.from_residual-in_err-take.ensures.1
-
-pub returns-in_err-take-clause-fault : goal.returns-in_err-take-clause-fault
-returns-in_err-take-clause-fault g c = λ is. absurd (memory_fault _ c.from_residual-in_err-take.ensures.1 is)
-
-pub returns-in_err-take-clause-later : goal.returns-in_err-take-clause-later
-returns-in_err-take-clause-later g c = omega (arith, c.loop.invariant.later, c.fill-filled.ensures.later)
 
 pub loop-preserved : goal.loop-preserved
 loop-preserved g c =
@@ -61,28 +63,28 @@ loop-preserved g c =
     let read = c.loop.invariant.read in
     let fill = c.fill-filled.ensures in
     let table = c.table_classifier-classifier.ensures in
-    let taken = by_classifier _ table_grid _ table_gain c.loop.readings c.take.new.self _ table.grid table.gain c.in_ok-take.ensures.ok read.0 read.1 in
+    let taken = by_classifier _ table_grid _ table_gain c.loop.figures c.take.new.self _ table.grid table.gain c.take.ensures.figures read.0 read.1 in
     let filled : c.fill-filled.result.n ≡ length c.loop.raws = fill.full.0 c.in-More.is in
     record {
       read = (read.0 ++ take c.fill-filled.result.n c.fill-filled.new.buf, taken, λ tells. more_read table_grid table_gain c.take.new.self read.0 (drop 32 file) (g.S.Source.left c.loop.src) (g.S.Source.left c.fill-filled.new.src) (length c.loop.raws) c.fill-filled.result.n c.fill-filled.result.end c.fill-filled.new.buf (read.2 tells) (fill.samples tells) (fill.taken tells) taken c.in-More.is);
-      turns = omega (arith, c.in_ok-take.ensures.samples, length-take c.fill-filled.result.n c.fill-filled.new.buf, filled, fill.length, c.loop.invariant.turns, c.loop.invariant.raws);
-      few = c.if-readings-gt-MAX_SAMPLES.false;
+      turns = omega (arith, c.take.ensures.samples, length-take c.fill-filled.result.n c.fill-filled.new.buf, filled, fill.length, c.loop.invariant.turns, c.loop.invariant.raws);
+      few = c.if-figures-gt-MAX_SAMPLES.false;
       later = omega (arith, c.loop.invariant.later, fill.later);
       raws = fill.length ∙ c.loop.invariant.raws;
-      levels = c.in_ok-take.ensures.room ∙ c.loop.invariant.levels;
+      levels = c.take.ensures.length ∙ c.loop.invariant.levels;
     }
 
-pub returns-then-readings-gt-MAX_SAMPLES : goal.returns-then-readings-gt-MAX_SAMPLES
-returns-then-readings-gt-MAX_SAMPLES g c =
+pub returns-then-figures-gt-MAX_SAMPLES : goal.returns-then-figures-gt-MAX_SAMPLES
+returns-then-figures-gt-MAX_SAMPLES g c =
     let file = g.S.Source.left c.args.src.now in
     let read = c.loop.invariant.read in
     let fill = c.fill-filled.ensures in
     let table = c.table_classifier-classifier.ensures in
-    let taken = by_classifier _ table_grid _ table_gain c.loop.readings c.take.new.self _ table.grid table.gain c.in_ok-take.ensures.ok read.0 read.1 in
+    let taken = by_classifier _ table_grid _ table_gain c.loop.figures c.take.new.self _ table.grid table.gain c.take.ensures.figures read.0 read.1 in
     record {
-      readings = λ tells. tt;
-      below = tt;
-      cause = λ tells. sym (ap answer_for (state_with_head file c.in_ok-read_head.field-0 (c.in_ok-read_head.ensures.head tells (λ is. cc)) ∙ too_many table_grid table_gain c.take.new.self read.0 (drop 32 file) (g.S.Source.left c.loop.src) (g.S.Source.left c.fill-filled.new.src) (length c.loop.raws) c.fill-filled.result.n c.fill-filled.result.end c.fill-filled.new.buf (read.2 tells) (fill.samples tells) (fill.taken tells) taken c.if-readings-gt-MAX_SAMPLES.true));
+      figures = tt;
+      few = tt;
+      cause = λ tells. sym (ap answer_for (state_with_head file c.in_ok-read_head.field-0 (c.in_ok-read_head.ensures.head tells (λ is. cc)) ∙ too_many table_grid table_gain c.take.new.self read.0 (drop 32 file) (g.S.Source.left c.loop.src) (g.S.Source.left c.fill-filled.new.src) (length c.loop.raws) c.fill-filled.result.n c.fill-filled.result.end c.fill-filled.new.buf (read.2 tells) (fill.samples tells) (fill.taken tells) taken c.if-figures-gt-MAX_SAMPLES.true));
       fault = λ is. absurd (cc);
       later = omega (arith, c.loop.invariant.later, fill.later);
     }
@@ -93,11 +95,11 @@ returns-in-Ended g c =
     let read = c.loop.invariant.read in
     let fill = c.fill-filled.ensures in
     let table = c.table_classifier-classifier.ensures in
-    let taken = by_classifier _ table_grid _ table_gain c.loop.readings c.take.new.self _ table.grid table.gain c.in_ok-take.ensures.ok read.0 read.1 in
+    let taken = by_classifier _ table_grid _ table_gain c.loop.figures c.take.new.self _ table.grid table.gain c.take.ensures.figures read.0 read.1 in
     record {
-      readings = λ tells. all_read table_grid table_gain c.take.new.self read.0 (drop 32 file) (g.S.Source.left c.loop.src) (g.S.Source.left c.fill-filled.new.src) (length c.loop.raws) c.fill-filled.result.n c.fill-filled.result.end c.fill-filled.new.buf (read.2 tells) (fill.samples tells) (fill.taken tells) taken c.in-Ended.is;
-      below = levels_below table_grid table_gain c.take.new.self _ taken;
-      cause = λ tells. state_with_head file c.in_ok-read_head.field-0 (c.in_ok-read_head.ensures.head tells (λ is. cc)) ∙ sound_end table_grid table_gain c.take.new.self read.0 (drop 32 file) (g.S.Source.left c.loop.src) (g.S.Source.left c.fill-filled.new.src) (length c.loop.raws) c.fill-filled.result.n c.fill-filled.result.end c.fill-filled.new.buf (read.2 tells) (fill.samples tells) (fill.taken tells) taken c.in-Ended.is c.if-readings-gt-MAX_SAMPLES.false;
+      figures = (_, taken, λ tells. all_read table_grid table_gain c.take.new.self read.0 (drop 32 file) (g.S.Source.left c.loop.src) (g.S.Source.left c.fill-filled.new.src) (length c.loop.raws) c.fill-filled.result.n c.fill-filled.result.end c.fill-filled.new.buf (read.2 tells) (fill.samples tells) (fill.taken tells) taken c.in-Ended.is);
+      few = c.if-figures-gt-MAX_SAMPLES.false;
+      cause = λ tells. state_with_head file c.in_ok-read_head.field-0 (c.in_ok-read_head.ensures.head tells (λ is. cc)) ∙ sound_end table_grid table_gain c.take.new.self read.0 (drop 32 file) (g.S.Source.left c.loop.src) (g.S.Source.left c.fill-filled.new.src) (length c.loop.raws) c.fill-filled.result.n c.fill-filled.result.end c.fill-filled.new.buf (read.2 tells) (fill.samples tells) (fill.taken tells) taken c.in-Ended.is c.if-figures-gt-MAX_SAMPLES.false;
       fault = λ is. absurd (cc);
       later = omega (arith, c.loop.invariant.later, fill.later);
     }
@@ -108,9 +110,9 @@ returns-in-Torn-clause-cause g c =
     let read = c.loop.invariant.read in
     let fill = c.fill-filled.ensures in
     let table = c.table_classifier-classifier.ensures in
-    let taken = by_classifier _ table_grid _ table_gain c.loop.readings c.take.new.self _ table.grid table.gain c.in_ok-take.ensures.ok read.0 read.1 in
+    let taken = by_classifier _ table_grid _ table_gain c.loop.figures c.take.new.self _ table.grid table.gain c.take.ensures.figures read.0 read.1 in
     λ tells.
-    let answer : Torn 0 c.in-Torn.bytes ≡ answer_for (state_of file) = sym (ap answer_for (state_with_head file c.in_ok-read_head.field-0 (c.in_ok-read_head.ensures.head tells (λ is. cc)) ∙ torn_end table_grid table_gain c.take.new.self read.0 (drop 32 file) (g.S.Source.left c.loop.src) (g.S.Source.left c.fill-filled.new.src) (length c.loop.raws) c.fill-filled.result.n c.fill-filled.result.end c.fill-filled.new.buf (read.2 tells) (fill.samples tells) (fill.taken tells) taken _ c.in-Torn.is c.if-readings-gt-MAX_SAMPLES.false)) in
+    let answer : Torn 0 c.in-Torn.bytes ≡ answer_for (state_of file) = sym (ap answer_for (state_with_head file c.in_ok-read_head.field-0 (c.in_ok-read_head.ensures.head tells (λ is. cc)) ∙ torn_end table_grid table_gain c.take.new.self read.0 (drop 32 file) (g.S.Source.left c.loop.src) (g.S.Source.left c.fill-filled.new.src) (length c.loop.raws) c.fill-filled.result.n c.fill-filled.result.end c.fill-filled.new.buf (read.2 tells) (fill.samples tells) (fill.taken tells) taken _ c.in-Torn.is c.if-figures-gt-MAX_SAMPLES.false)) in
     search rules
 
 pub returns-in-Torn-clause-fault : goal.returns-in-Torn-clause-fault
@@ -123,8 +125,8 @@ pub returns-in-Failed : goal.returns-in-Failed
 returns-in-Failed g c =
     let fill = c.fill-filled.ensures in
     record {
-      readings = λ tells. tt;
-      below = tt;
+      figures = tt;
+      few = tt;
       cause = λ tells. tt;
       fault = λ is. omega (arith, fill.cause c.in-Failed.is, c.loop.invariant.later);
       later = omega (arith, c.loop.invariant.later, fill.later);

@@ -1,6 +1,6 @@
 use Rattle.std.proofs.Common.{◌≤◌, ◌≡◌, length, ℤ, List, drop}
 use Rattle.monitor.specs.Printed.{table_grid, table_gain}
-use Rattle.monitor.specs.Readings.{AreReadings}
+use Rattle.monitor.specs.Figures.{AreFigures}
 use Rattle.recording.proofs.Reading.{Splits}
 use Rattle.recording.specs.declared.TheConstants.{MAX_SAMPLES}
 use Rattle.monitor.specs.declared.read.TheConstants.{PIECE}
@@ -9,9 +9,9 @@ use Rattle.monitor.proofs.read.read_recording.Given as goal
 -- the readings are those of some samples, and the body has these and then those that are left
 abbrev pub invariant-loop : goal.invariant-loop
 invariant-loop g l = record {
-  read : (w : List ℤ) × AreReadings table_grid table_gain l.readings w × (g.S.Source.tells → Splits (drop 32 (g.S.Source.left l.fn.src)) w (g.S.Source.left l.src));
-  turns : l.counter ≤ l.readings.counts.samples;
-  few : l.readings.counts.samples ≤ MAX_SAMPLES;
+  read : (w : List ℤ) × AreFigures table_grid table_gain l.figures w × (g.S.Source.tells → Splits (drop 32 (g.S.Source.left l.fn.src)) w (g.S.Source.left l.src));
+  turns : l.counter ≤ l.figures.counts.samples;
+  few : l.figures.counts.samples ≤ MAX_SAMPLES;
   later : g.S.Source.faults l.fn.src ≤ g.S.Source.faults l.src;
   raws : length l.raws ≡ PIECE;
   levels : length l.levels ≡ PIECE;
