@@ -1,0 +1,11 @@
+pub mod Triples
+pub mod Readers
+pub mod PutTables
+pub mod PutLists
+pub mod Meets
+pub mod MeetsLists
+pub mod Joined
+pub mod Pushed
+pub mod Stage
+pub mod OfPoints
+pub mod Loaded

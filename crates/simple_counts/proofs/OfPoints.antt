@@ -1,0 +1,187 @@
+-- The tables of a list of points, point by point: each is a push.
+use Rattle.std.proofs.Common.{◌≡◌, ℕ, zero, suc, ◌+◌, ◌-◌, ◌^◌, ◌<◌, ◌≤◌, Bool, true, false, cond, leb, ◌&&◌, List, [], ◌∷◌, ◌++◌, length, take, sum, get_or, get_or-take, refl, sym, ap, ◌∙◌, subst, arith}
+use Rattle.std.specs.Prelude.{All}
+use Rattle.std.proofs.lemmas.Bool.Decides.{nat_tests}
+use Rattle.std.proofs.lemmas.List.{take_all, take_more, length-take-le}
+use Rattle.std.proofs.lemmas.List.Elements.{All-head, All-tail}
+use Rattle.turning_points.specs.Points.{is_turn, points}
+use Rattle.turning_points.specs.Pairs.{range}
+use Rattle.turning_points.specs.EndPoints.{EndPoints, last_but_one, ends_of, last_point}
+use Rattle.turning_points.proofs.Zigzag.{Turn, IsZigzag, none, one, two, inner, ends_differ}
+use Rattle.turning_points.proofs.Over.{own}
+use Rattle.turning_points.proofs.PushEnds.{list_ends}
+use Rattle.turning_points.proofs.EndPlaces.{last_place, before_place}
+use Rattle.tables.specs.Tables.{raise}
+use Rattle.tables.proofs.Counting.{sum_cons}
+use Rattle.simple_counts.specs.Simple.{Counted, Counts, Fills, IsCounted, decided_at, extremes_at, is_extreme, push_of, value_of}
+use Rattle.simple_counts.proofs.Pushed.{pushed_counted, pushed_counts}
+
+-- a part of a list of points is one
+pub zig_take : (n : ℕ) {l : List ℕ} → IsZigzag l → IsZigzag (take n l)
+zig_take zero g = none
+zig_take (suc n) none = none
+zig_take (suc zero) one = one
+zig_take (suc (suc n)) one = one
+zig_take (suc zero) (two d) = one
+zig_take (suc (suc zero)) (two d) = two d
+zig_take (suc (suc (suc n))) (two d) = two d
+zig_take (suc zero) (inner t g) = one
+zig_take (suc (suc zero)) (inner t g) = two (ends_differ (inner t g))
+zig_take (suc (suc (suc n))) (inner t g) = inner t (zig_take (suc (suc n)) g)
+
+turn_at : (p : List ℕ) (i : ℕ) → IsZigzag p → i + 2 < length p → Turn (get_or p i 0) (get_or p (suc i) 0) (get_or p (suc (suc i)) 0)
+turn_at [] i z h = absurd (omega arith)
+turn_at (x ∷ []) i z h = absurd (omega arith)
+turn_at (x ∷ y ∷ []) i z h = absurd (omega arith)
+turn_at (x ∷ y ∷ w ∷ l) zero (inner t g) h = t
+turn_at (x ∷ y ∷ w ∷ l) (suc i) (inner t g) h = turn_at (y ∷ w ∷ l) i g (omega arith)
+
+turn_here : (p : List ℕ) (i : ℕ) → IsZigzag p → 2 ≤ i → i < length p → Turn (get_or p (i - 2) 0) (get_or p (i - 1) 0) (get_or p i 0)
+turn_here p i z o h =
+    let t = turn_at p (i - 2) z (omega arith) in
+    let a : suc (i - 2) ≡ i - 1 = omega arith in
+    let b : suc (suc (i - 2)) ≡ i = omega arith in
+    subst (λ k. Turn (get_or p (i - 2) 0) (get_or p (i - 1) 0) (get_or p k 0)) b (subst (λ k. Turn (get_or p (i - 2) 0) (get_or p k 0) (get_or p (suc (suc (i - 2))) 0)) a t)
+
+turn_true : (a b c : ℕ) → Turn a b c → is_turn a b c ≡ true
+turn_true a b c t = grind (arith, nat_tests)
+
+leb_true : (n : ℕ) → 2 ≤ n → leb 2 n ≡ true
+leb_true n h = grind (arith, nat_tests)
+
+value_same : (K r : ℕ) (e e' : EndPoints) (d d' m m' : List ℕ) → e ≡ e' → d ≡ d' → m ≡ m' → ◌≡◌ {A = Counted} (record { classes = K; reference = r; ends = e; decided = d; extremes = m }) (record { classes = K; reference = r; ends = e'; decided = d'; extremes = m' })
+value_same K r e e' d d' m m' p q s = cc
+
+yes_and : {A : Type 0} (a b : Bool) (x y : A) → a ≡ true → cond (a && b) x y ≡ cond b x y
+yes_and true b x y e = refl
+yes_and false b x y e = absurd (grind arith)
+
+yes_both : {A : Type 0} (a b : Bool) (x y : A) → a ≡ true → b ≡ true → cond (a && b) x y ≡ x
+yes_both true true x y e f = refl
+yes_both true false x y e f = absurd (grind arith)
+yes_both false b x y e f = absurd (grind arith)
+
+pub level_below : (k : ℕ) (p : List ℕ) (i : ℕ) → All (λ x. x < k) p → i < length p → get_or p i 0 < k
+level_below k [] i a h = absurd (omega arith)
+level_below k (x ∷ p) zero a h = All-head (λ y. y < k) x p a
+level_below k (x ∷ p) (suc i) a h = level_below k p i (All-tail (λ y. y < k) x p a) (omega arith)
+
+module _ (k r : ℕ) (l d m d' m' : List ℕ) (i : ℕ) (z : IsZigzag l) (a : All (λ x. x < k) l) (f : length l ≤ 2 ^ 41) (o : 2 ≤ i) (h : i < length l) (g : Fills k r l i d m) where
+  length_i : length (take i l) ≡ i
+  length_i = length-take-le i l (omega arith)
+
+  is_before : last_but_one (take i l) ≡ get_or l (i - 2) 0
+  is_before = sym (before_place (take i l) (i - 2) (omega (arith, length_i))) ∙ get_or-take i l (i - 2) 0 (omega arith)
+
+  is_last : last_point (take i l) ≡ get_or l (i - 1) 0
+  is_last = sym (last_place (take i l) (i - 1) (omega (arith, length_i))) ∙ get_or-take i l (i - 1) 0 (omega arith)
+
+  abbrev v : Counted
+  v = value_of k r (take i l) d m
+
+  abbrev x : ℕ
+  x = get_or l i 0
+
+  level : x < k
+  level = level_below k l i a h
+
+  turning : is_turn (last_but_one (take i l)) (last_point (take i l)) x ≡ true
+  turning = ap (λ p. is_turn p (last_point (take i l)) x) is_before ∙ ap (λ p. is_turn (get_or l (i - 2) 0) p x) is_last ∙ turn_true _ _ _ (turn_here l i z o h)
+
+  many : leb 2 (length (take i l)) ≡ true
+  many = leb_true _ (omega (arith, length_i))
+
+  more : take (i + 1) l ≡ take i l ++ (x ∷ [])
+  more = take_more l i 0 h
+
+  pushed : Counts (push_of x v) (take i l ++ (x ∷ []))
+  pushed = pushed_counts v x g.rules level (take i l) g.counts
+
+  is_own : points (take i l ++ (x ∷ [])) ≡ take (i + 1) l
+  is_own = subst (λ q. points q ≡ take (i + 1) l) more (own (zig_take (i + 1) z))
+
+  is_value : d' ≡ raise d (range (get_or l (i - 2) 0) (get_or l (i - 1) 0)) → m' ≡ cond (is_extreme r (get_or l (i - 2) 0) (get_or l (i - 1) 0) x) (raise m (get_or l (i - 1) 0)) m → push_of x v ≡ value_of k r (take (i + 1) l) d' m'
+  is_value p q = value_same k r _ _ _ _ _ _ (pushed.ends ∙ ap ends_of is_own)
+      (yes_both _ _ _ _ many turning ∙ ap (λ n. raise d (range n (last_point (take i l)))) is_before ∙ ap (λ n. raise d (range (get_or l (i - 2) 0) n)) is_last ∙ sym p)
+      (yes_and _ _ _ _ many ∙ ap (λ n. cond (is_extreme r n (last_point (take i l)) x) (raise m (last_point (take i l))) m) is_before ∙ ap (λ n. cond (is_extreme r (get_or l (i - 2) 0) n x) (raise m n) m) is_last ∙ sym q)
+
+  pub fills_more : d' ≡ raise d (range (get_or l (i - 2) 0) (get_or l (i - 1) 0)) → m' ≡ cond (is_extreme r (get_or l (i - 2) 0) (get_or l (i - 1) 0) (get_or l i 0)) (raise m (get_or l (i - 1) 0)) m → Fills k r l (i + 1) d' m'
+  fills_more p q =
+      let e = is_value p q in
+      record {
+        rules = subst IsCounted e (pushed_counted v x g.rules level (omega (arith, length_i)));
+        counts = subst (λ w. Counts w (take (i + 1) l)) e (subst (Counts (push_of x v)) (sym more) pushed);
+      }
+
+sum_none : (t : List ℕ) → ((k : ℕ) → get_or t k 0 ≡ 0) → sum t ≡ 0
+sum_none [] f = refl
+sum_none (x ∷ t) f = omega (arith, f 0, sum_cons x t, sum_none t (λ k. f (suc k)))
+
+none_decided : (k : ℕ) (l : List ℕ) → decided_at k (take 2 l) ≡ 0
+none_decided k [] = refl
+none_decided k (x ∷ []) = refl
+none_decided k (x ∷ y ∷ l) = refl
+
+none_extreme : (r k : ℕ) (l : List ℕ) → extremes_at r k (take 2 l) ≡ 0
+none_extreme r k [] = refl
+none_extreme r k (x ∷ []) = refl
+none_extreme r k (x ∷ y ∷ l) = refl
+
+short : (l : List ℕ) → length (take 2 l) ≤ 2
+short [] = omega arith
+short (x ∷ []) = omega arith
+short (x ∷ y ∷ l) = omega arith
+
+below_two : (k : ℕ) (l : List ℕ) → All (λ x. x < k) l → (i : ℕ) → i < length (take 2 l) → get_or (take 2 l) i 0 < k
+below_two k [] a i h = absurd (omega arith)
+below_two k (x ∷ []) a zero h = All-head (λ y. y < k) x [] a
+below_two k (x ∷ []) a (suc i) h = absurd (omega arith)
+below_two k (x ∷ y ∷ l) a zero h = All-head (λ z. z < k) x (y ∷ l) a
+below_two k (x ∷ y ∷ l) a (suc zero) h = All-head (λ z. z < k) y l (All-tail (λ z. z < k) x (y ∷ l) a)
+below_two k (x ∷ y ∷ l) a (suc (suc i)) h = absurd (omega arith)
+
+-- two points have no inner one
+pub fills_none : (k r : ℕ) (l d m : List ℕ) → IsZigzag l → All (λ x. x < k) l → (2 ≤ k) × (k ≤ 1024) → (1 ≤ r) × (r < k) → length d ≡ k → length m ≡ k → ((j : ℕ) → get_or d j 0 ≡ 0) → ((j : ℕ) → get_or m j 0 ≡ 0) → Fills k r l 2 d m
+fills_none k r l d m z a c e p q f g =
+    let w = zig_take 2 z in
+    let o = own w in
+    record {
+      rules = record {
+        classes = c;
+        reference = e;
+        decided = p;
+        extremes = q;
+        ends = list_ends k (take 2 l) (omega arith) w (below_two k l a);
+        agrees = record { sum_of = omega (arith, sum_none d f, short l); first = λ s. absurd (omega (arith, short l)); above = λ j. omega arith; few = omega (arith, sum_none m g) };
+        few = omega (arith, short l);
+      };
+      counts = record {
+        ends = ap ends_of (sym o);
+        decided = λ j h. omega (arith, f j, none_decided j l, ap (decided_at j) o);
+        extremes = λ j h. omega (arith, g j, none_extreme r j l, ap (extremes_at r j) o);
+      };
+    }
+
+pub fills_all : (k r : ℕ) (l d m : List ℕ) (i : ℕ) → Fills k r l i d m → length l ≤ i → Fills k r l (length l) d m
+fills_all k r l d m i g h =
+    let e : take i l ≡ take (length l) l = take_all i l h ∙ sym (take_all (length l) l (omega arith)) in
+    record {
+      rules = subst (λ q. IsCounted (value_of k r q d m)) e g.rules;
+      counts = subst (λ q. Counts (value_of k r q d m) q) e g.counts;
+    }
+
+-- the value with the tables of all points
+pub filled : {k r : ℕ} {l d m : List ℕ} {e : EndPoints} → Fills k r l (length l) d m → e ≡ ends_of l → IsCounted (record { classes = k; reference = r; ends = e; decided = d; extremes = m })
+filled {k} {r} {l} {d} {m} {e} g p =
+    let q = take_all (length l) l (omega arith) in
+    subst IsCounted (value_same k r _ _ d d m m (ap ends_of q ∙ sym p) refl refl) g.rules
+
+pub filled_counts : {k r : ℕ} {l d m : List ℕ} {e : EndPoints} → points l ≡ l → Fills k r l (length l) d m → e ≡ ends_of l → (h : List ℕ) → points h ≡ l → Counts (record { classes = k; reference = r; ends = e; decided = d; extremes = m }) h
+filled_counts {k} {r} {l} {d} {m} {e} o g p h s =
+    let q = take_all (length l) l (omega arith) in
+    let t : points (take (length l) l) ≡ points h = ap points q ∙ o ∙ sym s in
+    record {
+      ends = p ∙ ap ends_of (sym s);
+      decided = λ j n. g.counts.decided j n ∙ ap (decided_at j) t;
+      extremes = λ j n. g.counts.extremes j n ∙ ap (extremes_at r j) t;
+    }
