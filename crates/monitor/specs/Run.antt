@@ -52,12 +52,16 @@ pub record Task : Type 1 where
 
 pub record Runs (task : Task) (before after : Outside) (answer : Status) : Type 0 where
   -- What is printed: the text, a front of it, or nothing.
-  pub done : before.site_tells → before.output_tells → answer ≡ Done → IsSomeAnd task.text (λ text. after.written ≡ before.written ++ text)
-  pub front : before.site_tells → before.output_tells → answer ≡ WriteFault → IsSomeAnd task.text (λ text. AppendsPrefix before.written after.written text)
-  pub nothing : before.output_tells → answer ≢ Done → answer ≢ WriteFault → after.written ≡ before.written
+  pub done : before.site_tells → before.output_tells → answer ≡ Done →
+      IsSomeAnd task.text (λ text. after.written ≡ before.written ++ text)
+  pub front : before.site_tells → before.output_tells → answer ≡ WriteFault →
+      IsSomeAnd task.text (λ text. AppendsPrefix before.written after.written text)
+  pub nothing : before.output_tells → answer ≢ Done → answer ≢ WriteFault →
+      after.written ≡ before.written
   -- Which answer it is. A fault comes only where a count rose.
   pub answer_may : before.site_tells → task.MayAnswer answer
-  pub complete : before.site_tells → ¬ Rose before.site_faults after.site_faults → ¬ Rose before.output_faults after.output_faults → task.IsAnswer answer
+  pub complete : before.site_tells → ¬ Rose before.site_faults after.site_faults →
+      ¬ Rose before.output_faults after.output_faults → task.IsAnswer answer
   pub read : answer ≡ ReadFault → Rose before.site_faults after.site_faults
   pub write : answer ≡ WriteFault → Rose before.output_faults after.output_faults
   -- What it asks for, and what stays.

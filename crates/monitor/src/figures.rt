@@ -27,7 +27,6 @@ impl Figures {
     ghost use Rattle.std.specs.Prelude.{ℕ};
     ghost use Rattle.calibration.specs.Grid.{GridValue};
     ghost use Rattle.calibration.specs.Gain.{GainValue};
-    ghost use Rattle.monitor.specs.Counts.{counts_of};
     ghost use Rattle.monitor.specs.Figures.{AreFigures};
 
     /// Of no samples, by a grid of so many classes.

@@ -1,4 +1,5 @@
 ghost use Rattle.std.specs.Prelude.{◌≡◌, ◌≤◌, ◌<◌, ◌*◌, ◌^◌, length, slice_index, IfOk, OnOk, string_bytes, ◌++◌};
+ghost use Rattle.calibration.specs.declared.grid.TheConstants.{MAX_CLASSES};
 ghost use Rattle.monitor.specs.Text.{table_text, table_head, range_line};
 
 use crate::counts::SampleCounts;
@@ -11,7 +12,7 @@ pub fn text_of_table(
     width: u16,
     half_units: &[u64],
 ) -> Result<String, AllocError>
-    requires few { length half_units.now ≤ 1024 }
+    requires few { length half_units.now ≤ MAX_CLASSES }
     ensures { IfOk result (λ text. string_bytes text ≡
         table_text (length half_units.now) width counts.now (λ k. slice_index half_units.now k)) }
 {
