@@ -31,7 +31,8 @@ impl Model for Reducer {
 impl Reducer {
     ghost use Rattle.four_point.specs.Residue.{AddsCycles, IsResidue};
 
-    /// A reducer with an empty residue. Reserves room for `2 * classes` levels, which is all that it ever needs.
+    /// A reducer with an empty residue. Reserves room for `2 * classes` levels, which is all that
+    /// it ever needs.
     pub fn new(alloc: Global, classes: u16) -> Result<Reducer, AllocError>
         ensures { IfOk result (λ reducer. reducer ≡ record { classes = classes; residue = [] }) }
     {
@@ -58,8 +59,9 @@ impl Reducer {
         &self.levels[..self.len]
     }
 
-    /// Takes the next level of the history, and adds the cycles that it closes to the tally. Takes no memory; a level
-    /// that is deleted was put once, so a push takes a constant number of steps on average.
+    /// Takes the next level of the history, and adds the cycles that it closes to the tally. Takes
+    /// no memory; a level that is deleted was put once, so a push takes a constant number of steps
+    /// on average.
     #[inline(always)]
     pub fn push(&mut self, level: u16, tally: &mut Tally)
         requires level { level < self.old.classes }
@@ -69,11 +71,13 @@ impl Reducer {
             ⊎ (2 * length tally.old.cells + length self.old.residue ≤ 2 * tally.old.room) }
 
         // Where the residue was that of a history, it is that of the history with this level.
-        ensures result { (h : List ℕ) (c : ℕ → ℕ → ℕ) → IsFourPointResult (points h) c self.old.residue →
+        ensures result { (h : List ℕ) (c : ℕ → ℕ → ℕ) →
+            IsFourPointResult (points h) c self.old.residue →
             IsFourPointResult (points (h ++ level ∷ []))
             (λ lo hi. c lo hi + (count_of tally.new.cells lo hi - count_of tally.old.cells lo hi))
             self.new.residue }
-        ensures step { AddsCycles (points (self.old.residue ++ level ∷ [])) (count_of tally.old.cells)
+        ensures step { AddsCycles (points (self.old.residue ++ level ∷ []))
+            (count_of tally.old.cells)
             self.new.residue (count_of tally.new.cells) }
         ensures shape { IsResidue self.new.classes self.new.residue }
         ensures bound { length self.new.residue ≤ 2 * self.new.classes - 1 }
@@ -100,8 +104,8 @@ impl Reducer {
         self.len = 0;
     }
 
-    /// Takes a residue in place of its own. The answer is false, and nothing changes, where a level is outside the
-    /// classes, the list is not its own list of points, or a deletion applies.
+    /// Takes a residue in place of its own. The answer is false, and nothing changes, where a level
+    /// is outside the classes, the list is not its own list of points, or a deletion applies.
     pub fn load(&mut self, residue: &[u16]) -> bool
         ensures accepted { IsTrue result ↔ IsResidue self.old.classes residue.now }
         ensures loaded { MatchBool result

@@ -8,8 +8,8 @@ use tally::{MAX_TOTAL, Tally};
 use turning_points::is_between;
 
 /// Whether the inner two of four points are one full cycle.
-// Points rise and fall in turn, so the two are not further apart than either of their neighbours' distances exactly
-// where both lie between the outer two.
+// Points rise and fall in turn, so the two are not further apart than either of their neighbours'
+// distances exactly where both lie between the outer two.
 #[inline(always)]
 fn is_cycle(a: u16, b: u16, c: u16, d: u16) -> bool
     requires first { IsTrue (is_turn a b c) }
@@ -19,7 +19,8 @@ fn is_cycle(a: u16, b: u16, c: u16, d: u16) -> bool
     a.min(d) <= b.min(c) && b.max(c) <= a.max(d)
 }
 
-/// Puts a level behind the first `len` levels, a list of points, and says how many points there are then.
+/// Puts a level behind the first `len` levels, a list of points, and says how many points there are
+/// then.
 #[inline(always)]
 fn extend(levels: &mut [u16], len: usize, level: u16) -> usize
     requires within { len < length levels.old }
@@ -51,7 +52,8 @@ fn delete_cycles(levels: &mut [u16], mut len: usize, tally: &mut Tally) -> usize
     requires points { points (take len levels.old) ≡ take len levels.old }
     requires no_cycle { HasNoCycleBelow levels.old (len - 1) }
     requires total { total_of tally.old.cells + len ≤ MAX_TOTAL + 1 }
-    requires room { HasGreatestRoom tally.old ⊎ (2 * length tally.old.cells + len ≤ 2 * tally.old.room + 1) }
+    requires room { HasGreatestRoom tally.old
+        ⊎ (2 * length tally.old.cells + len ≤ 2 * tally.old.room + 1) }
     ensures within { result ≤ len }
     ensures cycles { AddsCycles (take len levels.old) (count_of tally.old.cells)
         (take result levels.new) (count_of tally.new.cells) }
@@ -80,17 +82,19 @@ fn delete_cycles(levels: &mut [u16], mut len: usize, tally: &mut Tally) -> usize
     len
 }
 
-/// Puts a level behind the first `len` levels, a residue, deletes the cycles that it closes, and says how many levels
-/// are left.
+/// Puts a level behind the first `len` levels, a residue, deletes the cycles that it closes, and
+/// says how many levels are left.
 #[inline(always)]
 pub fn push(levels: &mut [u16], len: usize, level: u16, tally: &mut Tally) -> usize
     requires within { len < length levels.old }
     requires residue { IsResidue tally.old.classes (take len levels.old) }
     requires level { level < tally.old.classes }
     requires total { total_of tally.old.cells + len ≤ MAX_TOTAL }
-    requires room { HasGreatestRoom tally.old ⊎ (2 * length tally.old.cells + len ≤ 2 * tally.old.room) }
+    requires room { HasGreatestRoom tally.old
+        ⊎ (2 * length tally.old.cells + len ≤ 2 * tally.old.room) }
     ensures within { result ≤ length levels.new }
-    ensures step { AddsCycles (points (take len levels.old ++ level ∷ [])) (count_of tally.old.cells)
+    ensures step { AddsCycles (points (take len levels.old ++ level ∷ []))
+        (count_of tally.old.cells)
         (take result levels.new) (count_of tally.new.cells) }
     ensures residue { IsResidue tally.old.classes (take result levels.new) }
     ensures lengths { 2 * total_of tally.new.cells + result

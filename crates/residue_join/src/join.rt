@@ -7,20 +7,24 @@ ghost use Rattle.four_point.specs.Residue.{AddsCycles, IsResidue};
 use four_point::Reducer;
 use tally::{MAX_TOTAL, Tally};
 
-/// Joins the residue of the part of a history that comes next to that of the part before it, and adds the cycles that neither
-/// part had to the tally. Takes no memory, and time in proportion to the two lengths.
+/// Joins the residue of the part of a history that comes next to that of the part before it, and
+/// adds the cycles that neither part had to the tally. Takes no memory, and time in proportion to
+/// the two lengths.
 pub fn join_residue(left: &mut Reducer, right: &[u16], tally: &mut Tally)
     requires residue { IsResidue left.old.classes right.now }
     requires classes { left.old.classes ≡ tally.old.classes }
-    requires total { total_of tally.old.cells + length left.old.residue + length right.now ≤ MAX_TOTAL }
+    requires total { total_of tally.old.cells + length left.old.residue + length right.now ≤
+        MAX_TOTAL }
     requires room { HasGreatestRoom tally.old
-        ⊎ (2 * length tally.old.cells + length left.old.residue + length right.now ≤ 2 * tally.old.room + 1) }
+        ⊎ (2 * length tally.old.cells + length left.old.residue + length right.now ≤
+        2 * tally.old.room + 1) }
 
     // Where the two were the residues of histories, the left one is that of their concatenation.
     ensures result { (u v : List ℕ) (c d : ℕ → ℕ → ℕ) →
         IsFourPointResult (points u) c left.old.residue → IsFourPointResult (points v) d right.now →
         IsFourPointResult (points (u ++ v))
-        (λ lo hi. c lo hi + d lo hi + (count_of tally.new.cells lo hi - count_of tally.old.cells lo hi))
+        (λ lo hi. c lo hi + d lo hi +
+        (count_of tally.new.cells lo hi - count_of tally.old.cells lo hi))
         left.new.residue }
     ensures step { AddsCycles (points (left.old.residue ++ right.now)) (count_of tally.old.cells)
         left.new.residue (count_of tally.new.cells) }

@@ -10,8 +10,8 @@ use std::marker::Model;
 use tally::Tally;
 use three_point::{Range, RangeCounter};
 
-/// Half units by pair of levels, as a run counts them: what the standard's count of a history is compared by. A half unit is
-/// half a cycle.
+/// Half units by pair of levels, as a run counts them: what the standard's count of a history is
+/// compared by. A half unit is half a cycle.
 #[derive(Debug, Drop)]
 pub struct PairCounter {
     tally: Tally,
@@ -33,7 +33,8 @@ impl PairCounter {
     pub fn new(alloc: Global, classes: u16) -> Result<PairCounter, AllocError>
         requires few { MIN_CLASSES ≤ classes }
         requires many { classes ≤ MAX_CLASSES }
-        ensures { IfOk result (λ pairs. pairs ≡ record { classes = classes; room = most_cells classes; cells = [] }) }
+        ensures { IfOk result
+            (λ pairs. pairs ≡ record { classes = classes; room = most_cells classes; cells = [] }) }
     {
         let most = classes as u32 * (classes as u32 - 1) / 2;
         Ok(PairCounter {
@@ -54,7 +55,8 @@ impl RangeCounter for PairCounter {
 
     ghost room = { λ t. MAX_TOTAL - total_of t.cells };
 
-    ghost holds = { λ t given. (lo hi : ℕ) → lo < hi → count_of t.cells lo hi ≡ half_units_of_pair lo hi given };
+    ghost holds = { λ t given. (lo hi : ℕ) → lo < hi → count_of t.cells lo hi ≡
+        half_units_of_pair lo hi given };
 
     /// Adds the half units of one range to those of its pair.
     #[inline(always)]
@@ -62,8 +64,10 @@ impl RangeCounter for PairCounter {
         requires within { IsWithin self.old.classes (counted_range_of range) }
         requires room { range.halves ≤ MAX_TOTAL - total_of self.old.cells }
         ensures holds { (given : List CountedRange) →
-            ((lo hi : ℕ) → lo < hi → count_of self.old.cells lo hi ≡ half_units_of_pair lo hi given) →
-            ((lo hi : ℕ) → lo < hi → count_of self.new.cells lo hi ≡ half_units_of_pair lo hi (given ++ counted_range_of range ∷ [])) }
+            ((lo hi : ℕ) → lo < hi → count_of self.old.cells lo hi ≡
+            half_units_of_pair lo hi given) →
+            ((lo hi : ℕ) → lo < hi → count_of self.new.cells lo hi ≡
+            half_units_of_pair lo hi (given ++ counted_range_of range ∷ [])) }
         ensures room { MAX_TOTAL - total_of self.old.cells
             ≤ MAX_TOTAL - total_of self.new.cells + range.halves }
         ensures classes { self.new.classes ≡ self.old.classes }

@@ -29,13 +29,15 @@ stands_tail lo hi c cells at s = record {
 }
 
 -- the first cell at or after the pair
-pub find_at : (lo hi : ℕ) (cells : List Cell) (at : ℕ) (d : Cell) → Stands lo hi cells at → at < length cells → find (is_from lo hi) cells ≡ Some (get_or cells at d)
+pub find_at : (lo hi : ℕ) (cells : List Cell) (at : ℕ) (d : Cell) → Stands lo hi cells at → at < length cells →
+    find (is_from lo hi) cells ≡ Some (get_or cells at d)
 find_at lo hi [] at d s h = absurd (omega arith)
 find_at lo hi (c ∷ cells) zero d s h = from_here lo hi c cells (s.from 0 d (omega arith) (omega arith))
 find_at lo hi (c ∷ cells) (suc at) d s h =
     from_later lo hi c cells (s.before 0 d (omega arith)) ∙ find_at lo hi cells at d (stands_tail lo hi c cells at s) (omega arith)
 
-pub find_end : (lo hi : ℕ) (cells : List Cell) (at : ℕ) (d : Cell) → Stands lo hi cells at → length cells ≤ at → find (is_from lo hi) cells ≡ None
+pub find_end : (lo hi : ℕ) (cells : List Cell) (at : ℕ) (d : Cell) → Stands lo hi cells at → length cells ≤ at →
+    find (is_from lo hi) cells ≡ None
 find_end lo hi [] at d s h = refl
 find_end lo hi (c ∷ cells) zero d s h = absurd (omega arith)
 find_end lo hi (c ∷ cells) (suc at) d s h =
@@ -43,10 +45,12 @@ find_end lo hi (c ∷ cells) (suc at) d s h =
 
 pub count_none : (lo hi : ℕ) (cells : List Cell) → All (Differs lo hi) cells → count_of cells lo hi ≡ 0
 count_none lo hi [] a = refl
-count_none lo hi (c ∷ cells) a = count_other c cells lo hi (All-head (Differs lo hi) c cells a) ∙ count_none lo hi cells (All-tail (Differs lo hi) c cells a)
+count_none lo hi (c ∷ cells) a =
+    count_other c cells lo hi (All-head (Differs lo hi) c cells a) ∙ count_none lo hi cells (All-tail (Differs lo hi) c cells a)
 
 module _ (lo hi n a b : ℕ) where
-  pub put_first : (cells : List Cell) → All (Differs lo hi) cells → ((lo ≡ a) × (hi ≡ b)) ⊎ ((lo ≡ a) × (hi ≡ b) → ⊥) → count_of (cell_of lo hi n ∷ cells) a b ≡ count_of cells a b + one_of a b lo hi n
+  pub put_first : (cells : List Cell) → All (Differs lo hi) cells → ((lo ≡ a) × (hi ≡ b)) ⊎ ((lo ≡ a) × (hi ≡ b) → ⊥) →
+      count_of (cell_of lo hi n ∷ cells) a b ≡ count_of cells a b + one_of a b lo hi n
   put_first cells d (inl e) =
       let p = count_none lo hi cells d in
       let q : count_of cells a b ≡ 0 = subst (λ x. count_of cells x b ≡ 0) e.0 (subst (λ x. count_of cells lo x ≡ 0) e.1 p) in
@@ -63,9 +67,21 @@ module _ (lo hi n a b : ℕ) where
   pub raise_first : (c : Cell) (cells : List Cell) → c.lo ≡ lo → c.hi ≡ hi → ((c.lo ≡ a) × (c.hi ≡ b)) ⊎ ((c.lo ≡ a) × (c.hi ≡ b) → ⊥) →
       count_of (cell_of c.lo c.hi (c.n + n) ∷ cells) a b ≡ count_of (c ∷ cells) a b + one_of a b lo hi n
   raise_first c cells e f (inl g) =
-      omega (arith, count_here (cell_of c.lo c.hi (c.n + n)) cells a b g.0 g.1, count_here c cells a b g.0 g.1, one_same a b lo hi n (sym g.0 ∙ e) (sym g.1 ∙ f))
+      omega (
+        arith,
+        count_here (cell_of c.lo c.hi (c.n + n)) cells a b g.0 g.1,
+        count_here c cells a b g.0 g.1,
+        one_same a b lo hi n
+            (sym g.0 ∙ e) (sym g.1 ∙ f),
+      )
   raise_first c cells e f (inr g) =
-      omega (arith, count_other (cell_of c.lo c.hi (c.n + n)) cells a b g, count_other c cells a b g, one_other a b lo hi n (λ h. g (e ∙ sym h.0, f ∙ sym h.1)))
+      omega (
+        arith,
+        count_other (cell_of c.lo c.hi (c.n + n)) cells a b g,
+        count_other c cells a b g,
+        one_other a b lo hi n
+            (λ h. g (e ∙ sym h.0, f ∙ sym h.1)),
+      )
 
 -- how many cells there can be
 module _ (k : ℕ) where
@@ -77,10 +93,12 @@ module _ (k : ℕ) where
       let p = place_within k c.lo c.hi v.ordered v.within in
       let l = All-head (λ c. from ≤ place_of k c.lo c.hi) c cells h in
       let n = cells_fit cells (place_of k c.lo c.hi + 1) (ascending_tail c cells a) (All-tail (IsCell k) c cells e) (omega (arith, p))
-      (λ i d w. let q = places_ascend k _ _ _ _ v.ordered v.within (e (suc i) d (omega arith)).ordered (ascending_head c cells a i d w) in omega (arith, q)) in
+      (λ i d w. let q = places_ascend k _ _ _ _ v.ordered v.within (e (suc i) d (omega arith)).ordered (ascending_head c cells a i d w) in
+      omega (arith, q)) in
       omega (arith, n, l)
 
-  miss_by : (lo hi : ℕ) (c : Cell) (cells : List Cell) (from : ℕ) → lo < hi → hi < k → IsAscending (c ∷ cells) → All (IsCell k) (c ∷ cells) → Differs lo hi c →
+  miss_by : (lo hi : ℕ) (c : Cell) (cells : List Cell) (from : ℕ) → lo < hi → hi < k → IsAscending (c ∷ cells) →
+      All (IsCell k) (c ∷ cells) → Differs lo hi c →
       from ≤ place_of k lo hi → All (λ c. from ≤ place_of k c.lo c.hi) (c ∷ cells) →
       (place_of k c.lo c.hi + 1 ≤ place_of k lo hi → place_of k c.lo c.hi + 1 + length cells + 1 ≤ row_start k k) →
       Order c.lo c.hi lo hi → from + length (c ∷ cells) + 1 ≤ row_start k k
@@ -95,17 +113,21 @@ module _ (k : ℕ) where
       let q = places_ascend k lo hi c.lo c.hi o w v.ordered g in
       let n = cells_fit (c ∷ cells) (place_of k lo hi + 1) a e (omega (arith, place_within k lo hi o w))
       (All-cons (λ c. place_of k lo hi + 1 ≤ place_of k c.lo c.hi) c cells (omega (arith, q))
-      (λ i d w. let r = places_ascend k _ _ _ _ v.ordered v.within (e (suc i) d (omega arith)).ordered (ascending_head c cells a i d w) in omega (arith, r, q))) in
+      (λ i d w. let r = places_ascend k _ _ _ _ v.ordered v.within (e (suc i) d (omega arith)).ordered (ascending_head c cells a i d w) in
+      omega (arith, r, q))) in
       omega (arith, n)
 
-  pub cells_miss : (lo hi : ℕ) (cells : List Cell) (from : ℕ) → lo < hi → hi < k → IsAscending cells → All (IsCell k) cells → All (Differs lo hi) cells →
+  pub cells_miss : (lo hi : ℕ) (cells : List Cell) (from : ℕ) → lo < hi → hi < k → IsAscending cells → All (IsCell k) cells →
+      All (Differs lo hi) cells →
       from ≤ place_of k lo hi → All (λ c. from ≤ place_of k c.lo c.hi) cells → from + length cells + 1 ≤ row_start k k
   cells_miss lo hi [] from o w a e d f h = omega (arith, place_within k lo hi o w)
   cells_miss lo hi (c ∷ cells) from o w a e d f h =
       let v = All-head (IsCell k) c cells e in
       miss_by lo hi c cells from o w a e (All-head (Differs lo hi) c cells d) f h
-      (λ g. cells_miss lo hi cells (place_of k c.lo c.hi + 1) o w (ascending_tail c cells a) (All-tail (IsCell k) c cells e) (All-tail (Differs lo hi) c cells d) g
-      (λ i d w. let q = places_ascend k _ _ _ _ v.ordered v.within (e (suc i) d (omega arith)).ordered (ascending_head c cells a i d w) in omega (arith, q)))
+      (λ g. cells_miss lo hi cells (place_of k c.lo c.hi + 1) o w (ascending_tail c cells a) (All-tail (IsCell k) c cells e)
+      (All-tail (Differs lo hi) c cells d) g
+      (λ i d w. let q = places_ascend k _ _ _ _ v.ordered v.within (e (suc i) d (omega arith)).ordered (ascending_head c cells a i d w) in
+      omega (arith, q)))
       (order c.lo c.hi lo hi)
 
   none_by : (lo hi : ℕ) (c : Cell) (cells : List Cell) → IsCell k c → count_of (c ∷ cells) lo hi ≡ 0 → Differs lo hi c

@@ -30,7 +30,8 @@ push_by t levels samples longest c g w (inr h) = inr (omega (arith, h, g, length
 pub push_has_room : PushHasRoom
 push_has_room t levels samples longest c g e w = push_by t levels samples longest c g w (greatest_or_half t longest e)
 
-merge_by : (t u : Counts) (left right m n longest : ℕ) → IsCounts t → IsCounts u → FitsSamples t left m → FitsSamples u right n → m + n ≤ longest →
+merge_by : (t u : Counts) (left right m n longest : ℕ) → IsCounts t → IsCounts u → FitsSamples t left m → FitsSamples u right n →
+    m + n ≤ longest →
     HasGreatestRoom t ⊎ (t.room ≡ longest / 2) → HasGreatestRoom t ⊎ (length t.cells + length u.cells ≤ t.room)
 merge_by t u left right m n longest c d g h w (inl e) = inl e
 merge_by t u left right m n longest c d g h w (inr e) =
@@ -46,4 +47,5 @@ join_by t u s left right m n longest g h w c k r f (inl e) = inl (r ∙ e ∙ sy
 join_by t u s left right m n longest g h w c k r f (inr e) = inr (omega (arith, e, r, f, g, h, length-le-total_of s.classes s.cells c.each))
 
 pub join_has_room : JoinHasRoom
-join_has_room t u s left right m n longest g h e w c k r f = join_by t u s left right m n longest g h w c k r f (greatest_or_half t longest e)
+join_has_room t u s left right m n longest g h e w c k r f =
+    join_by t u s left right m n longest g h w c k r f (greatest_or_half t longest e)

@@ -41,9 +41,13 @@ all_differ x cells a = λ k d h. before_differs (a k d h)
 
 -- a predicate on all cells, with one with_cell in
 module _ (P : Cell → Type 0) (x : Cell) (p : P x) (up : (c : Cell) → P c → P (with_more c x.n)) where
-  all_with_by : (c : Cell) (cells : List Cell) → All P (c ∷ cells) → All P (with_cell x cells) → Order c.lo c.hi x.lo x.hi → All P (with_cell x (c ∷ cells))
-  all_with_by c cells a next (same e f) = subst (All P) (sym (with_cell-same x c cells e f)) (All-cons P (with_more c x.n) cells (up c (All-head P c cells a)) (All-tail P c cells a))
-  all_with_by c cells a next (before h) = subst (All P) (sym (with_cell-behind x c cells h)) (All-cons P c (with_cell x cells) (All-head P c cells a) next)
+  all_with_by : (c : Cell) (cells : List Cell) → All P (c ∷ cells) → All P (with_cell x cells) → Order c.lo c.hi x.lo x.hi →
+      All P (with_cell x (c ∷ cells))
+  all_with_by c cells a next (same e f) =
+      subst (All P) (sym (with_cell-same x c cells e f))
+      (All-cons P (with_more c x.n) cells (up c (All-head P c cells a)) (All-tail P c cells a))
+  all_with_by c cells a next (before h) =
+      subst (All P) (sym (with_cell-behind x c cells h)) (All-cons P c (with_cell x cells) (All-head P c cells a) next)
   all_with_by c cells a next (behind h) = subst (All P) (sym (with_cell-before x c cells h)) (All-cons P x (c ∷ cells) p a)
 
   pub all-with_cell : (cells : List Cell) → All P cells → All P (with_cell x cells)
@@ -51,7 +55,8 @@ module _ (P : Cell → Type 0) (x : Cell) (p : P x) (up : (c : Cell) → P c →
   all-with_cell (c ∷ cells) a = all_with_by c cells a (all-with_cell cells (All-tail P c cells a)) (order c.lo c.hi x.lo x.hi)
 
 module _ (x : Cell) where
-  ascending_by : (c : Cell) (cells : List Cell) → IsAscending (c ∷ cells) → IsAscending (with_cell x cells) → Order c.lo c.hi x.lo x.hi → IsAscending (with_cell x (c ∷ cells))
+  ascending_by : (c : Cell) (cells : List Cell) → IsAscending (c ∷ cells) → IsAscending (with_cell x cells) → Order c.lo c.hi x.lo x.hi →
+      IsAscending (with_cell x (c ∷ cells))
   ascending_by c cells a next (same e f) =
       subst IsAscending (sym (with_cell-same x c cells e f))
       (AllPairs-cons After (with_more c x.n) cells (ascending_head c cells a) (ascending_tail c cells a))
@@ -63,9 +68,11 @@ module _ (x : Cell) where
 
   pub ascending-with_cell : (cells : List Cell) → IsAscending cells → IsAscending (with_cell x cells)
   ascending-with_cell [] a = AllPairs-cons After x [] (λ k d h. absurd (omega arith)) a
-  ascending-with_cell (c ∷ cells) a = ascending_by c cells a (ascending-with_cell cells (ascending_tail c cells a)) (order c.lo c.hi x.lo x.hi)
+  ascending-with_cell (c ∷ cells) a =
+      ascending_by c cells a (ascending-with_cell cells (ascending_tail c cells a)) (order c.lo c.hi x.lo x.hi)
 
-  count_by : (c : Cell) (cells : List Cell) (a b : ℕ) → IsAscending (c ∷ cells) → count_of (with_cell x cells) a b ≡ count_of cells a b + one_of a b x.lo x.hi x.n →
+  count_by : (c : Cell) (cells : List Cell) (a b : ℕ) → IsAscending (c ∷ cells) →
+      count_of (with_cell x cells) a b ≡ count_of cells a b + one_of a b x.lo x.hi x.n →
       Order c.lo c.hi x.lo x.hi → count_of (with_cell x (c ∷ cells)) a b ≡ count_of (c ∷ cells) a b + one_of a b x.lo x.hi x.n
   count_by c cells a b g next (same e f) =
       ap (λ l. count_of l a b) (with_cell-same x c cells e f) ∙ raise_first x.lo x.hi x.n a b c cells e f (same_or_not c.lo c.hi a b)
@@ -77,23 +84,43 @@ module _ (x : Cell) where
       ∙ put_first x.lo x.hi x.n a b (c ∷ cells) (all_differ x (c ∷ cells) (all_after x c cells h g)) (same_or_not x.lo x.hi a b)
 
   -- one cell with_cell in is counted
-  pub count_of-with_cell : (cells : List Cell) (a b : ℕ) → IsAscending cells → count_of (with_cell x cells) a b ≡ count_of cells a b + one_of a b x.lo x.hi x.n
+  pub count_of-with_cell : (cells : List Cell) (a b : ℕ) → IsAscending cells →
+      count_of (with_cell x cells) a b ≡ count_of cells a b + one_of a b x.lo x.hi x.n
   count_of-with_cell [] a b g = put_first x.lo x.hi x.n a b [] (λ k d h. absurd (omega arith)) (same_or_not x.lo x.hi a b)
-  count_of-with_cell (c ∷ cells) a b g = count_by c cells a b g (count_of-with_cell cells a b (ascending_tail c cells g)) (order c.lo c.hi x.lo x.hi)
+  count_of-with_cell (c ∷ cells) a b g =
+      count_by c cells a b g (count_of-with_cell cells a b (ascending_tail c cells g)) (order c.lo c.hi x.lo x.hi)
 
-  total_by : (c : Cell) (cells : List Cell) → total_of (with_cell x cells) ≡ total_of cells + x.n → Order c.lo c.hi x.lo x.hi → total_of (with_cell x (c ∷ cells)) ≡ total_of (c ∷ cells) + x.n
-  total_by c cells next (same e f) = omega (arith, ap total_of (with_cell-same x c cells e f), sum_by-cons (λ c. c.n) (with_more c x.n) cells, sum_by-cons (λ c. c.n) c cells)
-  total_by c cells next (before h) = omega (arith, ap total_of (with_cell-behind x c cells h), next, sum_by-cons (λ c. c.n) c (with_cell x cells), sum_by-cons (λ c. c.n) c cells)
+  total_by : (c : Cell) (cells : List Cell) → total_of (with_cell x cells) ≡ total_of cells + x.n → Order c.lo c.hi x.lo x.hi →
+      total_of (with_cell x (c ∷ cells)) ≡ total_of (c ∷ cells) + x.n
+  total_by c cells next (same e f) =
+      omega (
+        arith,
+        ap total_of (with_cell-same x c cells e f),
+        sum_by-cons (λ c. c.n) (with_more c x.n) cells,
+        sum_by-cons
+            (λ c. c.n) c cells,
+      )
+  total_by c cells next (before h) =
+      omega (
+        arith,
+        ap total_of (with_cell-behind x c cells h),
+        next,
+        sum_by-cons (λ c. c.n) c (with_cell x cells),
+        sum_by-cons
+            (λ c. c.n) c cells,
+      )
   total_by c cells next (behind h) = omega (arith, ap total_of (with_cell-before x c cells h), sum_by-cons (λ c. c.n) x (c ∷ cells))
 
   pub total_of-with_cell : (cells : List Cell) → total_of (with_cell x cells) ≡ total_of cells + x.n
   total_of-with_cell [] = omega (arith, sum_by-cons (λ c. c.n) x [])
   total_of-with_cell (c ∷ cells) = total_by c cells (total_of-with_cell cells) (order c.lo c.hi x.lo x.hi)
 
-  length_by : (c : Cell) (cells : List Cell) → (length cells ≤ length (with_cell x cells)) × (length (with_cell x cells) ≤ length cells + 1) → Order c.lo c.hi x.lo x.hi →
+  length_by : (c : Cell) (cells : List Cell) →
+      (length cells ≤ length (with_cell x cells)) × (length (with_cell x cells) ≤ length cells + 1) → Order c.lo c.hi x.lo x.hi →
       (length (c ∷ cells) ≤ length (with_cell x (c ∷ cells))) × (length (with_cell x (c ∷ cells)) ≤ length (c ∷ cells) + 1)
   length_by c cells next (same e f) = let q = ap length (with_cell-same x c cells e f) in (omega (arith, q), omega (arith, q))
-  length_by c cells next (before h) = let q = ap length (with_cell-behind x c cells h) in (omega (arith, q, next.0), omega (arith, q, next.1))
+  length_by c cells next (before h) =
+      let q = ap length (with_cell-behind x c cells h) in (omega (arith, q, next.0), omega (arith, q, next.1))
   length_by c cells next (behind h) = let q = ap length (with_cell-before x c cells h) in (omega (arith, q), omega (arith, q))
 
   pub length-with_cell : (cells : List Cell) → (length cells ≤ length (with_cell x cells)) × (length (with_cell x cells) ≤ length cells + 1)
@@ -101,10 +128,12 @@ module _ (x : Cell) where
   length-with_cell (c ∷ cells) = length_by c cells (length-with_cell cells) (order c.lo c.hi x.lo x.hi)
 
   there_by : (c : Cell) (cells : List Cell) → IsAscending (c ∷ cells) → 0 < count_of (c ∷ cells) x.lo x.hi →
-      (0 < count_of cells x.lo x.hi → length (with_cell x cells) ≡ length cells) → Order c.lo c.hi x.lo x.hi → length (with_cell x (c ∷ cells)) ≡ length (c ∷ cells)
+      (0 < count_of cells x.lo x.hi → length (with_cell x cells) ≡ length cells) → Order c.lo c.hi x.lo x.hi →
+      length (with_cell x (c ∷ cells)) ≡ length (c ∷ cells)
   there_by c cells a h next (same e f) = ap length (with_cell-same x c cells e f)
   there_by c cells a h next (before g) =
-      let n = next (omega (arith, count_other c cells x.lo x.hi (behind_differs g))) in omega (arith, ap length (with_cell-behind x c cells g), n)
+      let n = next (omega (arith, count_other c cells x.lo x.hi (behind_differs g))) in
+      omega (arith, ap length (with_cell-behind x c cells g), n)
   there_by c cells a h next (behind g) = absurd (omega (arith, count_before x.lo x.hi (c ∷ cells) (all_after x c cells g a)))
 
   -- a pair that has a cell keeps it
@@ -113,35 +142,43 @@ module _ (x : Cell) where
   length_there (c ∷ cells) a h = there_by c cells a h (length_there cells (ascending_tail c cells a)) (order c.lo c.hi x.lo x.hi)
 
   absent_by : (c : Cell) (cells : List Cell) → 0 < c.n → count_of (c ∷ cells) x.lo x.hi ≡ 0 →
-      (count_of cells x.lo x.hi ≡ 0 → length (with_cell x cells) ≡ length cells + 1) → Order c.lo c.hi x.lo x.hi → length (with_cell x (c ∷ cells)) ≡ length (c ∷ cells) + 1
+      (count_of cells x.lo x.hi ≡ 0 → length (with_cell x cells) ≡ length cells + 1) → Order c.lo c.hi x.lo x.hi →
+      length (with_cell x (c ∷ cells)) ≡ length (c ∷ cells) + 1
   absent_by c cells p h next (same e f) = absurd (omega (arith, count_here c cells x.lo x.hi e f))
   absent_by c cells p h next (before g) =
-      let n = next (omega (arith, count_other c cells x.lo x.hi (behind_differs g))) in omega (arith, ap length (with_cell-behind x c cells g), n)
+      let n = next (omega (arith, count_other c cells x.lo x.hi (behind_differs g))) in
+      omega (arith, ap length (with_cell-behind x c cells g), n)
   absent_by c cells p h next (behind g) = omega (arith, ap length (with_cell-before x c cells g))
 
   -- a pair that has none gets one
-  pub length_absent : (cells : List Cell) → All (λ c. 0 < c.n) cells → count_of cells x.lo x.hi ≡ 0 → length (with_cell x cells) ≡ length cells + 1
+  pub length_absent : (cells : List Cell) → All (λ c. 0 < c.n) cells → count_of cells x.lo x.hi ≡ 0 →
+      length (with_cell x cells) ≡ length cells + 1
   length_absent [] a h = refl
   length_absent (c ∷ cells) a h =
-      absent_by c cells (All-head (λ c. 0 < c.n) c cells a) h (length_absent cells (All-tail (λ c. 0 < c.n) c cells a)) (order c.lo c.hi x.lo x.hi)
+      absent_by c cells (All-head (λ c. 0 < c.n) c cells a) h (length_absent cells (All-tail (λ c. 0 < c.n) c cells a))
+      (order c.lo c.hi x.lo x.hi)
 
   -- behind all, and onto the last
   pub with_cell-end : (cells : List Cell) → All (λ c. After c x) cells → with_cell x cells ≡ cells ++ x ∷ []
   with_cell-end [] a = refl
   with_cell-end (c ∷ cells) a =
-      with_cell-behind x c cells (All-head (λ c. After c x) c cells a) ∙ ap (λ l. c ∷ l) (with_cell-end cells (All-tail (λ c. After c x) c cells a))
+      with_cell-behind x c cells (All-head (λ c. After c x) c cells a)
+      ∙ ap (λ l. c ∷ l) (with_cell-end cells (All-tail (λ c. After c x) c cells a))
 
-  pub with_cell-last : (cells : List Cell) (c : Cell) → All (λ c. After c x) cells → c.lo ≡ x.lo → c.hi ≡ x.hi → with_cell x (cells ++ c ∷ []) ≡ cells ++ with_more c x.n ∷ []
+  pub with_cell-last : (cells : List Cell) (c : Cell) → All (λ c. After c x) cells → c.lo ≡ x.lo → c.hi ≡ x.hi →
+      with_cell x (cells ++ c ∷ []) ≡ cells ++ with_more c x.n ∷ []
   with_cell-last [] c a e f = with_cell-same x c [] e f
   with_cell-last (d ∷ cells) c a e f =
-      with_cell-behind x d (cells ++ c ∷ []) (All-head (λ c. After c x) d cells a) ∙ ap (λ l. d ∷ l) (with_cell-last cells c (All-tail (λ c. After c x) d cells a) e f)
+      with_cell-behind x d (cells ++ c ∷ []) (All-head (λ c. After c x) d cells a)
+      ∙ ap (λ l. d ∷ l) (with_cell-last cells c (All-tail (λ c. After c x) d cells a) e f)
 
 -- all entries
 more_positive : (k m : ℕ) (c : Cell) → IsCell k c → IsCell k (with_more c m)
 more_positive k m c g = let f = g.positive in record { ordered = g.ordered; within = g.within; positive = omega arith }
 
 -- a predicate on the pairs of all entries
-pub all-cells_of : (P : Cell → Type 0) → ((c : Cell) (m : ℕ) → P c → P (with_more c m)) → (entries : List Cell) → All P entries → All P (cells_of entries)
+pub all-cells_of : (P : Cell → Type 0) → ((c : Cell) (m : ℕ) → P c → P (with_more c m)) → (entries : List Cell) → All P entries →
+    All P (cells_of entries)
 all-cells_of P up [] a = a
 all-cells_of P up (x ∷ entries) a =
     all-with_cell P x (All-head P x entries a) (λ c h. up c x.n h) (cells_of entries) (all-cells_of P up entries (All-tail P x entries a))
@@ -156,11 +193,18 @@ amount_in a b c = one_of a b c.lo c.hi c.n
 pub count_of-cells_of : (entries : List Cell) (a b : ℕ) → count_of (cells_of entries) a b ≡ amount entries a b
 count_of-cells_of [] a b = refl
 count_of-cells_of (x ∷ entries) a b =
-    omega (arith, count_of-with_cell x (cells_of entries) a b (ascending-cells_of entries), count_of-cells_of entries a b, sum_by-cons (amount_in a b) x entries)
+    omega (
+      arith,
+      count_of-with_cell x (cells_of entries) a b (ascending-cells_of entries),
+      count_of-cells_of entries a b,
+      sum_by-cons
+          (amount_in a b) x entries,
+    )
 
 pub total_of-cells_of : (entries : List Cell) → total_of (cells_of entries) ≡ total_of entries
 total_of-cells_of [] = refl
-total_of-cells_of (x ∷ entries) = omega (arith, total_of-with_cell x (cells_of entries), total_of-cells_of entries, sum_by-cons (λ c. c.n) x entries)
+total_of-cells_of (x ∷ entries) =
+    omega (arith, total_of-with_cell x (cells_of entries), total_of-cells_of entries, sum_by-cons (λ c. c.n) x entries)
 
 pub length-cells_of : (entries : List Cell) → length (cells_of entries) ≤ length entries
 length-cells_of [] = omega arith
@@ -170,15 +214,18 @@ pub each-cells_of : (k : ℕ) (entries : List Cell) → All (IsCell k) entries �
 each-cells_of k entries a = all-cells_of (IsCell k) (λ c m h. more_positive k m c h) entries a
 
 -- the order of entries is nothing
-pub cells_of-same : (k : ℕ) (s t : List Cell) → All (IsCell k) s → All (IsCell k) t → ((a b : ℕ) → amount s a b ≡ amount t a b) → cells_of s ≡ cells_of t
+pub cells_of-same : (k : ℕ) (s t : List Cell) → All (IsCell k) s → All (IsCell k) t → ((a b : ℕ) → amount s a b ≡ amount t a b) →
+    cells_of s ≡ cells_of t
 cells_of-same k s t g h e =
     same_cells k (cells_of s) (cells_of t) (each-cells_of k s g) (each-cells_of k t h) (ascending-cells_of s) (ascending-cells_of t)
     (λ a b. count_of-cells_of s a b ∙ e a b ∙ sym (count_of-cells_of t a b))
 
 pub cells_of-permutation : (k : ℕ) (s t : List Cell) → All (IsCell k) s → IsPermutation s t → cells_of t ≡ cells_of s
-cells_of-permutation k s t g p = cells_of-same k t s (All-permutation (IsCell k) s t p g) g (λ a b. sum_by-IsPermutation (amount_in a b) s t p)
+cells_of-permutation k s t g p =
+    cells_of-same k t s (All-permutation (IsCell k) s t p g) g (λ a b. sum_by-IsPermutation (amount_in a b) s t p)
 
-pub cells_of-push : (k : ℕ) (entries : List Cell) (x : Cell) → All (IsCell k) entries → IsCell k x → cells_of (entries ++ x ∷ []) ≡ with_cell x (cells_of entries)
+pub cells_of-push : (k : ℕ) (entries : List Cell) (x : Cell) → All (IsCell k) entries → IsCell k x →
+    cells_of (entries ++ x ∷ []) ≡ with_cell x (cells_of entries)
 cells_of-push k entries x a p =
     cells_of-same k (entries ++ x ∷ []) (x ∷ entries) (All-push (IsCell k) entries x a p) (All-cons (IsCell k) x entries p a)
     (λ a b. omega (arith, sum_by_push (amount_in a b) entries x, sum_by-cons (amount_in a b) x entries))
@@ -186,7 +233,8 @@ cells_of-push k entries x a p =
 pub cells_of-more : (k : ℕ) (entries : List Cell) (i : ℕ) (d : Cell) → All (IsCell k) entries → i < length entries →
     cells_of (take (i + 1) entries) ≡ with_cell (get_or entries i d) (cells_of (take i entries))
 cells_of-more k entries i d a h =
-    ap cells_of (take_more entries i d h) ∙ cells_of-push k (take i entries) (get_or entries i d) (All-take (IsCell k) i entries a) (a i d h)
+    ap cells_of (take_more entries i d h)
+    ∙ cells_of-push k (take i entries) (get_or entries i d) (All-take (IsCell k) i entries a) (a i d h)
 
 cells_of-first : (c : Cell) (cells : List Cell) → IsAscending (c ∷ cells) → with_cell c cells ≡ c ∷ cells
 cells_of-first c [] a = refl
@@ -198,7 +246,8 @@ cells_of-ascending [] a = refl
 cells_of-ascending (c ∷ cells) a = ap (with_cell c) (cells_of-ascending cells (ascending_tail c cells a)) ∙ cells_of-first c cells a
 
 -- an addition that a contract states, as a cell with_cell in
-pub with_cell-from_counts : (k : ℕ) (s r : List Cell) (x : Cell) → All (IsCell k) s → All (IsCell k) r → IsAscending s → IsAscending r → IsCell k x →
+pub with_cell-from_counts : (k : ℕ) (s r : List Cell) (x : Cell) → All (IsCell k) s → All (IsCell k) r → IsAscending s → IsAscending r →
+    IsCell k x →
     ((a b : ℕ) → count_of r a b ≡ count_of s a b + one_of a b x.lo x.hi x.n) → r ≡ with_cell x s
 with_cell-from_counts k s r x g h a b p e =
     same_cells k r (with_cell x s) h (all-with_cell (IsCell k) x p (λ c. more_positive k x.n c) s g) b (ascending-with_cell x s a)
@@ -206,15 +255,18 @@ with_cell-from_counts k s r x g h a b p e =
 
 -- two parts of a log
 module _ (k : ℕ) where
-  parts_by : (x : Cell) (xs ys : List Cell) → All (IsCell k) xs → length (cells_of (xs ++ ys)) ≤ length (cells_of xs) + length (cells_of ys) →
-      ((0 < amount xs x.lo x.hi) ⊎ (amount xs x.lo x.hi ≤ 0)) → length (with_cell x (cells_of (xs ++ ys))) ≤ length (with_cell x (cells_of xs)) + length (cells_of ys)
+  parts_by : (x : Cell) (xs ys : List Cell) → All (IsCell k) xs →
+      length (cells_of (xs ++ ys)) ≤ length (cells_of xs) + length (cells_of ys) →
+      ((0 < amount xs x.lo x.hi) ⊎ (amount xs x.lo x.hi ≤ 0)) →
+      length (with_cell x (cells_of (xs ++ ys))) ≤ length (with_cell x (cells_of xs)) + length (cells_of ys)
   parts_by x xs ys a next (inl h) =
       let p = length_there x (cells_of xs) (ascending-cells_of xs) (omega (arith, count_of-cells_of xs x.lo x.hi)) in
       let q = length_there x (cells_of (xs ++ ys)) (ascending-cells_of (xs ++ ys))
       (omega (arith, count_of-cells_of (xs ++ ys) x.lo x.hi, sum_by-append (amount_in x.lo x.hi) xs ys)) in
       omega (arith, p, q, next)
   parts_by x xs ys a next (inr h) =
-      let p = length_absent x (cells_of xs) (λ i d w. (each-cells_of k xs a i d w).positive) (omega (arith, count_of-cells_of xs x.lo x.hi)) in
+      let p = length_absent x (cells_of xs) (λ i d w. (each-cells_of k xs a i d w).positive)
+      (omega (arith, count_of-cells_of xs x.lo x.hi)) in
       let q = length-with_cell x (cells_of (xs ++ ys)) in
       omega (arith, p, q.1, next)
 
@@ -279,19 +331,23 @@ module _ (lo hi : ℕ) (x : Cell) where
   found_by : (c : Cell) (cells : List Cell) → Found cells → Order c.lo c.hi x.lo x.hi → Side lo hi c → Side lo hi x → Found (c ∷ cells)
   found_by c cells next (same e f) (inl u) s =
       ap (find (is_from lo hi)) (with_cell-same x c cells e f) ∙ from_here lo hi (with_more c x.n) cells u
-      ∙ sym (earlier_some lo hi x (up_same lo hi c.lo c.hi x.lo x.hi e f u) c (find (is_from lo hi) (c ∷ cells)) (from_here lo hi c cells u) ∙ first_same lo hi x c e f)
+      ∙ sym (earlier_some lo hi x (up_same lo hi c.lo c.hi x.lo x.hi e f u) c (find (is_from lo hi) (c ∷ cells))
+      (from_here lo hi c cells u) ∙ first_same lo hi x c e f)
   found_by c cells next (same e f) (inr h) s =
       ap (find (is_from lo hi)) (with_cell-same x c cells e f) ∙ from_later lo hi (with_more c x.n) cells h
-      ∙ sym (earlier_none lo hi x (before_same lo hi c.lo c.hi x.lo x.hi e f h) (find (is_from lo hi) (c ∷ cells)) ∙ from_later lo hi c cells h)
+      ∙ sym (earlier_none lo hi x (before_same lo hi c.lo c.hi x.lo x.hi e f h) (find (is_from lo hi) (c ∷ cells))
+      ∙ from_later lo hi c cells h)
   found_by c cells next (before g) (inl u) s =
       ap (find (is_from lo hi)) (with_cell-behind x c cells g) ∙ from_here lo hi c (with_cell x cells) u
-      ∙ sym (earlier_some lo hi x (up_later lo hi c.lo c.hi x.lo x.hi u g) c (find (is_from lo hi) (c ∷ cells)) (from_here lo hi c cells u) ∙ first_behind lo hi x c g)
+      ∙ sym (earlier_some lo hi x (up_later lo hi c.lo c.hi x.lo x.hi u g) c (find (is_from lo hi) (c ∷ cells))
+      (from_here lo hi c cells u) ∙ first_behind lo hi x c g)
   found_by c cells next (before g) (inr h) s =
       ap (find (is_from lo hi)) (with_cell-behind x c cells g) ∙ from_later lo hi c (with_cell x cells) h ∙ next
       ∙ ap (first_with lo hi x) (sym (from_later lo hi c cells h))
   found_by c cells next (behind g) t (inl u) =
       ap (find (is_from lo hi)) (with_cell-before x c cells g) ∙ from_here lo hi x (c ∷ cells) u
-      ∙ sym (earlier_some lo hi x u c (find (is_from lo hi) (c ∷ cells)) (from_here lo hi c cells (up_later lo hi x.lo x.hi c.lo c.hi u g)) ∙ first_before lo hi x c g)
+      ∙ sym (earlier_some lo hi x u c (find (is_from lo hi) (c ∷ cells))
+      (from_here lo hi c cells (up_later lo hi x.lo x.hi c.lo c.hi u g)) ∙ first_before lo hi x c g)
   found_by c cells next (behind g) t (inr h) =
       ap (find (is_from lo hi)) (with_cell-before x c cells g) ∙ from_later lo hi x (c ∷ cells) h
       ∙ sym (earlier_none lo hi x h (find (is_from lo hi) (c ∷ cells)))
@@ -306,8 +362,10 @@ some_same c d o e f = cc
 none_some : (c : Cell) (o : Option Cell) → o ≡ None → o ≡ Some c → ⊥
 none_some c o e f = cc
 
-found_le_by : (lo hi : ℕ) (c d : Cell) (cells : List Cell) → find (is_from lo hi) (c ∷ cells) ≡ Some d → (find (is_from lo hi) cells ≡ Some d → d.n ≤ total_of cells) → Side lo hi c → d.n ≤ total_of (c ∷ cells)
-found_le_by lo hi c d cells e next (inl u) = omega (arith, sum_by-cons (λ c. c.n) c cells, ap (λ c. c.n) (some_same c d _ (from_here lo hi c cells u) e))
+found_le_by : (lo hi : ℕ) (c d : Cell) (cells : List Cell) → find (is_from lo hi) (c ∷ cells) ≡ Some d →
+    (find (is_from lo hi) cells ≡ Some d → d.n ≤ total_of cells) → Side lo hi c → d.n ≤ total_of (c ∷ cells)
+found_le_by lo hi c d cells e next (inl u) =
+    omega (arith, sum_by-cons (λ c. c.n) c cells, ap (λ c. c.n) (some_same c d _ (from_here lo hi c cells u) e))
 found_le_by lo hi c d cells e next (inr h) = omega (arith, sum_by-cons (λ c. c.n) c cells, next (sym (from_later lo hi c cells h) ∙ e))
 
 -- a cell that was found is a part of the total
@@ -322,7 +380,8 @@ pub amount_le : (entries : List Cell) (a b : ℕ) → amount entries a b ≤ tot
 amount_le entries a b = sum_by-le-sum_by (amount_in a b) (λ c. c.n) entries (λ c. part_le a b c)
 
 -- what the fields of a log keep
-pub counts_log : {k r t cap : ℕ} {entries : List Cell} → IsLog k r t entries cap → IsCounts (record { classes = k; room = r; cells = cells_of entries })
+pub counts_log : {k r t cap : ℕ} {entries : List Cell} → IsLog k r t entries cap →
+    IsCounts (record { classes = k; room = r; cells = cells_of entries })
 counts_log {k} {r} {t} {cap} {entries} g = record {
   few = g.few;
   many = g.many;
@@ -343,8 +402,11 @@ module _ {k r t cap : ℕ} {old now : List Cell} (lo hi n : ℕ) (g : IsLog k r 
   cell_x = record { ordered = o; within = w; positive = f }
 
   same_by : (now ≡ cells_of old) ⊎ (now ≡ old) → (cells_of now ≡ cells_of old) × (All (IsCell k) now × (total_of now ≡ total_of old))
-  same_by (inl e) =
-      (ap cells_of e ∙ cells_of-ascending (cells_of old) (ascending-cells_of old), (subst (All (IsCell k)) (sym e) (each-cells_of k old g.each), ap total_of e ∙ total_of-cells_of old))
+  same_by (inl e) = (
+    ap cells_of e
+        ∙ cells_of-ascending (cells_of old) (ascending-cells_of old),
+    (subst (All (IsCell k)) (sym e) (each-cells_of k old g.each), ap total_of e ∙ total_of-cells_of old),
+  )
   same_by (inr e) = (ap cells_of e, (subst (All (IsCell k)) (sym e) g.each, ap total_of e))
 
   pub log_put : cells_of (now ++ x ∷ []) ≡ with_cell x (cells_of old)
@@ -384,7 +446,8 @@ find_none lo hi (c ∷ cells) e = absurd (omega arith)
 pub cells_of-again : (old now : List Cell) → now ≡ cells_of old → cells_of now ≡ cells_of old
 cells_of-again old now e = ap cells_of e ∙ cells_of-ascending (cells_of old) (ascending-cells_of old)
 
-pub log-cells_of : {k r t cap : ℕ} {old : List Cell} (now : List Cell) (cap' : ℕ) → IsLog k r t old cap → now ≡ cells_of old → cap ≤ cap' → IsLog k r t now cap'
+pub log-cells_of : {k r t cap : ℕ} {old : List Cell} (now : List Cell) (cap' : ℕ) → IsLog k r t old cap → now ≡ cells_of old →
+    cap ≤ cap' → IsLog k r t now cap'
 log-cells_of {k} {r} {t} {cap} {old} now cap' g e c = record {
   few = g.few;
   many = g.many;

@@ -31,7 +31,8 @@ not_apart x y e f = grind (arith, nat_tests)
 front_at : (l : List ℕ) (used i d : ℕ) → used ≤ length l → i < used → get_or (take used l) i d ≡ get_or l i 0
 front_at l used i d w h = get_or-take used l i d h ∙ get_or_default l i d 0 (omega arith)
 
-module _ (t l m : List ℕ) (used : ℕ) (g : IsListing t l used) (long : length m ≡ length l) (p : IsPermutation (take used l) (take used m)) where
+module _ (t l m : List ℕ) (used : ℕ) (g : IsListing t l used) (long : length m ≡ length l)
+    (p : IsPermutation (take used l) (take used m)) where
   within : used < length m
   within = omega (arith, g.within)
 
@@ -51,7 +52,8 @@ module _ (t l m : List ℕ) (used : ℕ) (g : IsListing t l used) (long : length
   distinct =
       IsDistinct-from_apart eqb (take used l) (λ i j d h w.
       apart (get_or (take used l) i d) (get_or (take used l) j d)
-      (λ q. g.once i j h (omega (arith, length_old)) (sym (old_at i d (omega (arith, length_old))) ∙ q ∙ old_at j d (omega (arith, length_old)))))
+      (λ q. g.once i j h (omega (arith, length_old))
+      (sym (old_at i d (omega (arith, length_old))) ∙ q ∙ old_at j d (omega (arith, length_old)))))
 
   distinct_new : IsDistinct eqb (take used m)
   distinct_new = IsDistinct-IsPermutation eqb eqb_flips (take used l) (take used m) p distinct
@@ -68,7 +70,8 @@ module _ (t l m : List ℕ) (used : ℕ) (g : IsListing t l used) (long : length
       (c.0, h, sym e ∙ c.2)
 
   was_there : (q : ℕ) → (i : ℕ) × (i < used) × (get_or l i 0 ≡ q) → Contains (take used l) q
-  was_there q w = let h = w.1 in subst (Contains (take used l)) (old_at w.0 0 h ∙ w.2) (Contains-get_or (take used l) w.0 0 (omega (arith, length_old)))
+  was_there q w =
+      let h = w.1 in subst (Contains (take used l)) (old_at w.0 0 h ∙ w.2) (Contains-get_or (take used l) w.0 0 (omega (arith, length_old)))
 
   -- in any order it lists the same places
   pub listing_ordered : IsListing t m used
@@ -83,7 +86,8 @@ module _ (t l m : List ℕ) (used : ℕ) (g : IsListing t l used) (long : length
     named = λ q h. found q (Contains-permutation (take used l) (take used m) q p (was_there q (g.named q h)));
   }
 
-pub layout_ordered : {k r : ℕ} {t l m : List ℕ} {used n : ℕ} → IsLayout k r t l used n → length m ≡ length l → IsPermutation (take used l) (take used m) → IsLayout k r t m used n
+pub layout_ordered : {k r : ℕ} {t l m : List ℕ} {used n : ℕ} → IsLayout k r t l used n → length m ≡ length l →
+    IsPermutation (take used l) (take used m) → IsLayout k r t m used n
 layout_ordered {k} {r} {t} {l} {m} {used} {n} g e p = record {
   few = g.few;
   many = g.many;
@@ -103,7 +107,8 @@ pub record IsCellAt (k : ℕ) (t : List ℕ) (p : ℕ) (c : Cell) : Type 0 where
   pub count : c.n ≡ get_or t p 0
 
 -- the place stands in the row of lo
-pub cell_in_row : (k lo p hi n : ℕ) (t : List ℕ) → row_start k lo ≤ p → p < row_start k (lo + 1) → hi ≡ lo + 1 + (p - row_start k lo) → n ≡ get_or t p 0 →
+pub cell_in_row : (k lo p hi n : ℕ) (t : List ℕ) → row_start k lo ≤ p → p < row_start k (lo + 1) → hi ≡ lo + 1 + (p - row_start k lo) →
+    n ≡ get_or t p 0 →
     IsCellAt k t p (cell_of lo hi n)
 cell_in_row k lo p hi n t h w e f =
     let next : lo + 1 ≡ suc lo = omega arith in
@@ -138,21 +143,25 @@ count_at : (cells : List Cell) (i : ℕ) (d : Cell) → IsAscending cells → i 
 count_at [] i d a h = absurd (omega arith)
 count_at (c ∷ cells) zero d a h = count_here c cells c.lo c.hi refl refl
 count_at (c ∷ cells) (suc i) d a h =
-    count_other c cells _ _ (behind_differs (ascending_head c cells a i d (omega arith))) ∙ count_at cells i d (ascending_tail c cells a) (omega arith)
+    count_other c cells _ _ (behind_differs (ascending_head c cells a i d (omega arith)))
+    ∙ count_at cells i d (ascending_tail c cells a) (omega arith)
 
 -- the places that follow stand in no earlier row
-pub rows_later : (k lo i used : ℕ) (l : List ℕ) → IsNonDecreasing (take used l) → used ≤ length l → i < used → row_start k lo ≤ get_or l i 0 →
+pub rows_later : (k lo i used : ℕ) (l : List ℕ) → IsNonDecreasing (take used l) → used ≤ length l → i < used →
+    row_start k lo ≤ get_or l i 0 →
     (j : ℕ) → i + 1 ≤ j → j < used → row_start k lo ≤ get_or l j 0
 rows_later k lo i used l s long w h j o v =
     let n = length-take-le used l long in
     let u = s i j 0 (omega arith) (omega arith) in
     omega (arith, u, get_or-take used l i 0 w, get_or-take used l j 0 v)
 
-module _ (k : ℕ) (t l : List ℕ) (i : ℕ) (out : List Cell) (c : Cell) (w : (j : ℕ) (d : Cell) → j < i → IsCellAt k t (get_or l j 0) (get_or out j d))
+module _ (k : ℕ) (t l : List ℕ) (i : ℕ) (out : List Cell) (c : Cell)
+    (w : (j : ℕ) (d : Cell) → j < i → IsCellAt k t (get_or l j 0) (get_or out j d))
     (v : i < length out) (h : IsCellAt k t (get_or l i 0) c) where
   written_by : (j : ℕ) (d : Cell) → j < i + 1 → ((j ≡ i) ⊎ (j ≢ i)) → IsCellAt k t (get_or l j 0) (get_or (set out i c) j d)
   written_by j d u (inl e) =
-      subst (λ n. IsCellAt k t (get_or l n 0) (get_or (set out i c) n d)) (sym e) (subst (IsCellAt k t (get_or l i 0)) (sym (get_or-set_same out i c d v)) h)
+      subst (λ n. IsCellAt k t (get_or l n 0) (get_or (set out i c) n d)) (sym e)
+      (subst (IsCellAt k t (get_or l i 0)) (sym (get_or-set_same out i c d v)) h)
   written_by j d u (inr n) = subst (IsCellAt k t (get_or l j 0)) (sym (get_or-set_other out i j c d n)) (w j d (omega arith))
 
   -- one cell more
@@ -161,7 +170,8 @@ module _ (k : ℕ) (t l : List ℕ) (i : ℕ) (out : List Cell) (c : Cell) (w : 
 
 -- the cells that were written, place after place
 module _ (k : ℕ) (t l : List ℕ) (used : ℕ) (out : List Cell) (few : 2 ≤ k) (places : length t ≡ row_start k k) (g : IsListing t l used)
-    (s : IsNonDecreasing (take used l)) (long : used ≤ length out) (w : (j : ℕ) (d : Cell) → j < used → IsCellAt k t (get_or l j 0) (get_or out j d)) where
+    (s : IsNonDecreasing (take used l)) (long : used ≤ length out)
+    (w : (j : ℕ) (d : Cell) → j < used → IsCellAt k t (get_or l j 0) (get_or out j d)) where
   length_cells : length (take used out) ≡ used
   length_cells = length-take-le used out long
 
@@ -191,9 +201,11 @@ module _ (k : ℕ) (t l : List ℕ) (used : ℕ) (out : List Cell) (few : 2 ≤ 
   written_ascend = λ i j d h v.
       let b = cell_at i d (omega (arith, length_cells)) in
       let c = cell_at j d (omega (arith, length_cells)) in
-      before_by k _ _ _ _ c.ordered c.within b.ordered (omega (arith, b.place, c.place, rising i j h (omega (arith, length_cells)))) (order _ _ _ _)
+      before_by k _ _ _ _ c.ordered c.within b.ordered (omega (arith, b.place, c.place, rising i j h (omega (arith, length_cells))))
+      (order _ _ _ _)
 
-  counted : (a b : ℕ) → a < b → b < k → (i : ℕ) × (i < used) × (get_or l i 0 ≡ place_of k a b) → count_of (take used out) a b ≡ get_or t (place_of k a b) 0
+  counted : (a b : ℕ) → a < b → b < k → (i : ℕ) × (i < used) × (get_or l i 0 ≡ place_of k a b) →
+      count_of (take used out) a b ≡ get_or t (place_of k a b) 0
   counted a b o v (i, h, e) =
       let c = cell_at i (cell_of 0 0 0) h in
       let same_pair = same_by k _ _ a b c.ordered c.within o v (c.place ∙ e) (order _ _ _ _) in
@@ -207,10 +219,12 @@ module _ (k : ℕ) (t l : List ℕ) (used : ℕ) (out : List Cell) (few : 2 ≤ 
       count_none a b (take used out) (λ j d h e.
       let v : j < used = omega (arith, length_cells) in
       let c = cell_at j d v in
-      let p : place_of k a b ≡ get_or l j 0 = ap (λ x. place_of k x b) (sym e.0) ∙ ap (λ x. place_of k (get_or (take used out) j d).lo x) (sym e.1) ∙ c.place in
+      let p : place_of k a b ≡ get_or l j 0 = ap (λ x. place_of k x b) (sym e.0)
+      ∙ ap (λ x. place_of k (get_or (take used out) j d).lo x) (sym e.1) ∙ c.place in
       omega (arith, g.holds j v, ap (λ x. get_or t x 0) p))
 
-  count_by : (a b : ℕ) → a < b → b < k → ((0 < get_or t (place_of k a b) 0) ⊎ (get_or t (place_of k a b) 0 ≤ 0)) → count_of (take used out) a b ≡ get_or t (place_of k a b) 0
+  count_by : (a b : ℕ) → a < b → b < k → ((0 < get_or t (place_of k a b) 0) ⊎ (get_or t (place_of k a b) 0 ≤ 0)) →
+      count_of (take used out) a b ≡ get_or t (place_of k a b) 0
   count_by a b o v (inl h) = counted a b o v (g.named (place_of k a b) h)
   count_by a b o v (inr h) = omega (arith, not_counted a b h)
 
@@ -221,4 +235,5 @@ module _ (k : ℕ) (t l : List ℕ) (used : ℕ) (out : List Cell) (few : 2 ≤ 
   -- they are the cells of the table
   pub written_cells : take used out ≡ cells_from k 0 1 t
   written_cells =
-      same_cells k (take used out) (cells_from k 0 1 t) written_each (each_of k t few places) written_ascend (ascending k 0 1 t) (λ a b. written_count a b (at k a b))
+      same_cells k (take used out) (cells_from k 0 1 t) written_each (each_of k t few places) written_ascend (ascending k 0 1 t)
+      (λ a b. written_count a b (at k a b))

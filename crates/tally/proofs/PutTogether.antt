@@ -56,15 +56,18 @@ not_at_of c lo hi e p = grind (arith, nat_tests)
 at_each : (P : Cell → Type 0) (l : List Cell) (d : Cell) → ((k : ℕ) → k < length l → P (get_or l k d)) → All P l
 at_each P l d f = λ k e h. subst P (get_or_default l k d e h) (f k h)
 
-before_by : (l : List Cell) (x d : Cell) (p : ℕ) → IsAscending l → All (λ c. Upto c x) l → length l ≡ p + 1 → (((get_or l p d).lo ≡ x.lo) × ((get_or l p d).hi ≡ x.hi) → ⊥) →
+before_by : (l : List Cell) (x d : Cell) (p : ℕ) → IsAscending l → All (λ c. Upto c x) l → length l ≡ p + 1 →
+    (((get_or l p d).lo ≡ x.lo) × ((get_or l p d).hi ≡ x.hi) → ⊥) →
     (k : ℕ) → k < length l → ((k ≡ p) ⊎ ((k ≡ p) → ⊥)) → After (get_or l k d) x
 before_by l x d p a u e n k h (inl q) = subst (λ j. After (get_or l j d) x) (sym q) (strictly (get_or l p d) x (u p d (omega arith)) n)
-before_by l x d p a u e n k h (inr q) = before_up (get_or l k d) (get_or l p d) x (a k p d (omega arith) (omega arith)) (u p d (omega arith))
+before_by l x d p a u e n k h (inr q) =
+    before_up (get_or l k d) (get_or l p d) x (a k p d (omega arith) (omega arith)) (u p d (omega arith))
 
 pub put_together-none : (xs : List Cell) → IsPutTogether xs xs 0 0
 put_together-none xs = record { bound = omega arith; length_kept = refl; front = refl; rest = λ k d g h. refl }
 
-module _ (xs items : List Cell) (kept i : ℕ) (x d : Cell) (each : All (IsCell MAX_CLASSES) xs) (ordered : IsNonDecreasingBy rank xs) (m : IsPutTogether xs items kept i) (w : i < length xs) (e : x ≡ get_or items i d) where
+module _ (xs items : List Cell) (kept i : ℕ) (x d : Cell) (each : All (IsCell MAX_CLASSES) xs) (ordered : IsNonDecreasingBy rank xs)
+    (m : IsPutTogether xs items kept i) (w : i < length xs) (e : x ≡ get_or items i d) where
   here : x ≡ get_or xs i d
   here = e ∙ m.rest i d (omega arith) (omega (arith, m.length_kept))
 
@@ -72,14 +75,17 @@ module _ (xs items : List Cell) (kept i : ℕ) (x d : Cell) (each : All (IsCell 
   next = cells_of-more MAX_CLASSES xs i d each w ∙ ap (λ c. with_cell c (cells_of (take i xs))) (sym here) ∙ ap (with_cell x) (sym m.front)
 
   up_at : (k : ℕ) → k < i → Upto (get_or xs k d) x
-  up_at k h = subst (Upto (get_or xs k d)) (sym here) (ranked (get_or xs k d) (get_or xs i d) (each k d (omega arith)) (each i d w) (ordered k i d (omega arith) w))
+  up_at k h =
+      subst (Upto (get_or xs k d)) (sym here)
+      (ranked (get_or xs k d) (get_or xs i d) (each k d (omega arith)) (each i d w) (ordered k i d (omega arith) w))
 
   ups : All (λ c. Upto c x) (take kept items)
   ups =
       let n : length (take i xs) ≡ i = length-take-le i xs (omega arith) in
       subst (All (λ c. Upto c x)) (sym m.front)
       (all-cells_of (λ c. Upto c x) (λ c m h. h) (take i xs)
-      (at_each (λ c. Upto c x) (take i xs) d (λ k h. subst (λ c. Upto c x) (sym (get_or-take i xs k d (omega arith))) (up_at k (omega arith)))))
+      (at_each (λ c. Upto c x) (take i xs) d
+      (λ k h. subst (λ c. Upto c x) (sym (get_or-take i xs k d (omega arith))) (up_at k (omega arith)))))
 
   ascending : IsAscending (take kept items)
   ascending = subst IsAscending (sym m.front) (ascending-cells_of (take i xs))
@@ -121,22 +127,28 @@ module _ (xs items : List Cell) (kept i : ℕ) (x d : Cell) (each : All (IsCell 
         let front_is : All (λ a. After a x) (take p items) =
         at_each (λ a. After a x) (take p items) d (λ k h.
         let n : length (take p items) ≡ p = length-take-le p items (omega arith) in
-        let a : After (get_or (take kept items) k d) (get_or (take kept items) p d) = ascending k p d (omega arith) (omega (arith, length_front)) in
+        let a : After (get_or (take kept items) k d) (get_or (take kept items) p d) = ascending k p d (omega arith)
+        (omega (arith, length_front)) in
         let q : get_or (take kept items) k d ≡ get_or (take p items) k d =
         get_or-take kept items k d (omega arith) ∙ sym (get_or-take p items k d (omega arith)) in
-        same_after (get_or (take p items) k d) c x f g (subst (λ b. After b c) q (subst (After (get_or (take kept items) k d)) (get_or-take kept items p d (omega arith)) a))) in
+        same_after (get_or (take p items) k d) c x f g
+        (subst (λ b. After b c) q (subst (After (get_or (take kept items) k d)) (get_or-take kept items p d (omega arith)) a))) in
         record {
           bound = omega (arith, m.bound);
           length_kept = length-set items p y ∙ m.length_kept;
-          front = ap (λ k. take k (set items p y)) last ∙ take_more_set items p y v ∙ sym (with_cell-last x (take p items) c front_is f g) ∙ ap (with_cell x) (sym more) ∙ sym next;
+          front = ap (λ k. take k (set items p y)) last ∙ take_more_set items p y v ∙ sym (with_cell-last x (take p items) c front_is f g)
+              ∙ ap (with_cell x) (sym more) ∙ sym next;
           rest = λ k f g h. later k p y f (omega (arith, m.bound)) g h;
         }
 
     pub put_together-other_pair : ((c.lo ≡ x.lo) × (c.hi ≡ x.hi) → ⊥) → IsPutTogether xs (set items kept x) (kept + 1) (i + 1)
     put_together-other_pair n =
         let q : get_or (take kept items) p d ≡ c = get_or-take kept items p d (omega arith) in
-        let n' : ((get_or (take kept items) p d).lo ≡ x.lo) × ((get_or (take kept items) p d).hi ≡ x.hi) → ⊥ = λ h. n (ap (λ a. a.lo) (sym q) ∙ h.0, ap (λ a. a.hi) (sym q) ∙ h.1) in
-        put_together-new (at_each (λ a. After a x) (take kept items) d (λ k h. before_by (take kept items) x d p ascending ups (length_front ∙ last) n' k h (cases_eq k p)))
+        let n' : ((get_or (take kept items) p d).lo ≡ x.lo) × ((get_or (take kept items) p d).hi ≡ x.hi) →
+        ⊥ = λ h. n (ap (λ a. a.lo) (sym q) ∙ h.0, ap (λ a. a.hi) (sym q) ∙ h.1) in
+        put_together-new
+        (at_each (λ a. After a x) (take kept items) d
+        (λ k h. before_by (take kept items) x d p ascending ups (length_front ∙ last) n' k h (cases_eq k p)))
 
   pub put_together-first : kept ≡ 0 → IsPutTogether xs (set items kept x) (kept + 1) (i + 1)
   put_together-first z = put_together-new (λ k f h. absurd (omega (arith, length_front)))

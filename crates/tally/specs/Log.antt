@@ -1,5 +1,5 @@
--- How the counts lie in a log: entries in the order in which they were counted, any number of them for one pair. Contracts see
--- the ascending list of cells that they come to.
+-- How the counts lie in a log: entries in the order in which they were counted, any number of them
+-- for one pair. Contracts see the ascending list of cells that they come to.
 --   with_more    a cell with more in it
 --   with_cell    an ascending list with one cell more, or with its count added to the cell of its pair
 --   cells_of     the ascending list that entries come to
@@ -32,7 +32,8 @@ amount entries lo hi = sum_by (λ c. if is_pair lo hi (pair_of c) then c.n else 
 -- x with what was found before it
 abbrev pub first_of : Cell → Option Cell → Option Cell
 first_of x None = Some x
-first_of x (Some c) = if is_pair x.lo x.hi (pair_of c) then Some (with_more c x.n) else (if is_from x.lo x.hi c then Some x else Some c)
+first_of x (Some c) = if is_pair x.lo x.hi (pair_of c) then Some (with_more c x.n) else
+    (if is_from x.lo x.hi c then Some x else Some c)
 
 abbrev pub first_with : ℕ → ℕ → Cell → Option Cell → Option Cell
 first_with lo hi x found = if is_from lo hi x then first_of x found else found

@@ -1,6 +1,6 @@
--- How many different cells a segment can come to, by the number of samples that it may hold: each cell has at least one cycle, and
--- each cycle took two of the segment's points away. So the lesser of the greatest room and half of the samples is enough for
--- every call.
+-- How many different cells a segment can come to, by the number of samples that it may hold: each
+-- cell has at least one cycle, and each cycle took two of the segment's points away. So the lesser
+-- of the greatest room and half of the samples is enough for every call.
 --   room_for       the room of a segment's tally
 --   FitsSamples    twice the cycles of a segment and the levels of its residue are at most its samples
 --   PushHasRoom    the room is enough for one level more
@@ -22,13 +22,16 @@ PushHasRoom = (t : Counts) (levels samples longest : ℕ) → IsCounts t → Fit
     → HasGreatestRoom t ⊎ (2 * length t.cells + levels ≤ 2 * t.room)
 
 abbrev pub MergeHasRoom : Type 0
-MergeHasRoom = (t u : Counts) (left right m n longest : ℕ) → IsCounts t → IsCounts u → FitsSamples t left m → FitsSamples u right n
+MergeHasRoom = (t u : Counts) (left right m n longest : ℕ) → IsCounts t → IsCounts u →
+    FitsSamples t left m → FitsSamples u right n
     → t.room ≡ room_for t.classes longest → m + n ≤ longest
     → HasGreatestRoom t ⊎ (length t.cells + length u.cells ≤ t.room)
 
 -- s is t with the cells of u
 abbrev pub JoinHasRoom : Type 0
-JoinHasRoom = (t u s : Counts) (left right m n longest : ℕ) → FitsSamples t left m → FitsSamples u right n
+JoinHasRoom = (t u s : Counts) (left right m n longest : ℕ) → FitsSamples t left m →
+    FitsSamples u right n
     → t.room ≡ room_for t.classes longest → m + n ≤ longest
-    → IsCounts s → s.classes ≡ t.classes → s.room ≡ t.room → total_of s.cells ≡ total_of t.cells + total_of u.cells
+    → IsCounts s → s.classes ≡ t.classes → s.room ≡ t.room → total_of s.cells ≡
+    total_of t.cells + total_of u.cells
     → HasGreatestRoom s ⊎ (2 * length s.cells + left + right ≤ 2 * s.room + 1)

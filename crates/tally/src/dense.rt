@@ -35,7 +35,8 @@ impl Dense {
         requires few { MIN_CLASSES ≤ classes }
         requires many { classes ≤ MAX_CLASSES }
         requires most { room ≤ most_cells classes }
-        ensures empty { IfOk result (λ tally. tally ≡ record { classes = classes; room = room; cells = [] }) }
+        ensures empty { IfOk result (λ tally.
+            tally ≡ record { classes = classes; room = room; cells = [] }) }
     {
         let places = classes as usize * (classes as usize - 1) / 2;
         Ok(Dense {
@@ -122,7 +123,8 @@ impl Dense {
         None
     }
 
-    /// Writes the cells, in order, to the front of a buffer. Puts the list of places in order first.
+    /// Writes the cells, in order, to the front of a buffer. Puts the list of places in order
+    /// first.
     pub fn write(&mut self, out: &mut [Cell]) -> usize
         requires room { length self.old.cells ≤ length out.old }
         ensures cells { take result out.new ≡ self.old.cells }
@@ -141,7 +143,8 @@ impl Dense {
             ⊎ (length self.old.cells + length other.now.cells ≤ self.old.room) }
         ensures merged { (a b : ℕ) → count_of self.new.cells a b ≡
             count_of self.old.cells a b + count_of other.now.cells a b }
-        ensures total { total_of self.new.cells ≡ total_of self.old.cells + total_of other.now.cells }
+        ensures total { total_of self.new.cells ≡
+            total_of self.old.cells + total_of other.now.cells }
         ensures cells { length self.new.cells ≤ length self.old.cells + length other.now.cells }
         ensures classes { self.new.classes ≡ self.old.classes }
         ensures room { self.new.room ≡ self.old.room }
@@ -159,7 +162,8 @@ impl Dense {
     }
 
     pub fn clear(&mut self)
-        ensures empty { self.new ≡ record { classes = self.old.classes; room = self.old.room; cells = [] } }
+        ensures empty { self.new ≡
+            record { classes = self.old.classes; room = self.old.room; cells = [] } }
         ensures counts { IsCounts self.new }
     {
         empty(&mut self.counts, &self.touched, self.used);

@@ -8,8 +8,9 @@ use crate::entries::{amount_in, first_in, gather, pairs_in, put_first};
 use std::alloc::{AllocError, Global};
 use std::marker::Model;
 
-/// Counts by unordered pair of levels, as a log: what was counted, in the order in which it was. There are an eighth more places
-/// than room for cells, so that a full log, once it is put in order, has a place for so many entries more.
+/// Counts by unordered pair of levels, as a log: what was counted, in the order in which it was.
+/// There are an eighth more places than room for cells, so that a full log, once it is put in
+/// order, has a place for so many entries more.
 #[derive(Debug, Drop)]
 pub struct Log {
     classes: u16,
@@ -27,7 +28,8 @@ impl Model for Log {
 
     ghost view = { λ t. record { classes = t.classes; room = t.room; cells = cells_of t.entries.items } };
 
-    ghost invariant = { λ t. IsLog t.classes t.room t.total t.entries.items (vec_capacity t.entries) };
+    ghost invariant = { λ t. IsLog t.classes t.room t.total t.entries.items
+        (vec_capacity t.entries) };
 }
 
 /// Leaves at least one place free.
@@ -37,7 +39,8 @@ fn make_place(entries: &mut Vec<Cell>)
     requires total { total_of entries.old.items < 2 ^ 64 }
     requires room { length (cells_of entries.old.items) < vec_capacity entries.old }
     ensures place { vec_len entries.new < vec_capacity entries.new }
-    ensures entries { (entries.new.items ≡ cells_of entries.old.items) ⊎ (entries.new.items ≡ entries.old.items) }
+    ensures entries { (entries.new.items ≡ cells_of entries.old.items)
+        ⊎ (entries.new.items ≡ entries.old.items) }
     ensures capacity { vec_capacity entries.new ≡ vec_capacity entries.old }
 {
     if entries.len() == entries.capacity() {
@@ -51,7 +54,8 @@ impl Log {
         requires few { MIN_CLASSES ≤ classes }
         requires many { classes ≤ MAX_CLASSES }
         requires most { room ≤ most_cells classes }
-        ensures empty { IfOk result (λ tally. tally ≡ record { classes = classes; room = room; cells = [] }) }
+        ensures empty { IfOk result (λ tally.
+            tally ≡ record { classes = classes; room = room; cells = [] }) }
     {
         let places = room as usize + room as usize / 8 + 1;
         Ok(Log {
@@ -100,7 +104,8 @@ impl Log {
         &self.entries
     }
 
-    /// Writes the cells, in order, to the front of a buffer. Puts the log in order and equal pairs together first.
+    /// Writes the cells, in order, to the front of a buffer. Puts the log in order and equal pairs
+    /// together first.
     pub fn write(&mut self, out: &mut [Cell]) -> usize
         requires room { length self.old.cells ≤ length out.old }
         ensures cells { take result out.new ≡ self.old.cells }
@@ -133,7 +138,8 @@ impl Log {
         }
     }
 
-    /// Adds all entries of another log at once where there are places for them, and says whether there are.
+    /// Adds all entries of another log at once where there are places for them, and says whether
+    /// there are.
     pub fn append(&mut self, other: &Log) -> bool
         requires classes { self.old.classes ≡ other.now.classes }
         requires total { total_of self.old.cells + total_of other.now.cells ≤ MAX_TOTAL }
@@ -141,8 +147,10 @@ impl Log {
             ⊎ (length self.old.cells + length other.now.cells ≤ self.old.room) }
         ensures merged { OnTrue result ((a b : ℕ) → count_of self.new.cells a b ≡
             count_of self.old.cells a b + count_of other.now.cells a b) }
-        ensures total { OnTrue result (total_of self.new.cells ≡ total_of self.old.cells + total_of other.now.cells) }
-        ensures cells { OnTrue result (length self.new.cells ≤ length self.old.cells + length other.now.cells) }
+        ensures total { OnTrue result
+            (total_of self.new.cells ≡ total_of self.old.cells + total_of other.now.cells) }
+        ensures cells { OnTrue result
+            (length self.new.cells ≤ length self.old.cells + length other.now.cells) }
         ensures classes { self.new.classes ≡ self.old.classes }
         ensures room { self.new.room ≡ self.old.room }
         ensures counts { IsCounts self.new }
@@ -170,7 +178,8 @@ impl Log {
     }
 
     pub fn clear(&mut self)
-        ensures empty { self.new ≡ record { classes = self.old.classes; room = self.old.room; cells = [] } }
+        ensures empty { self.new ≡
+            record { classes = self.old.classes; room = self.old.room; cells = [] } }
         ensures counts { IsCounts self.new }
     {
         self.entries.clear();

@@ -4,8 +4,8 @@ ghost use Rattle.tally.specs.Room.{room_for};
 
 use crate::cells::{MAX_CLASSES, MIN_CLASSES};
 
-/// How many different cells a segment of at most `longest` samples can come to: the lesser of all pairs of the classes and
-/// half of the samples ([`crate::laws::room`]).
+/// How many different cells a segment of at most `longest` samples can come to: the lesser of all
+/// pairs of the classes and half of the samples ([`crate::laws::room`]).
 pub fn room_for(classes: u16, longest: u64) -> u32
     requires few { MIN_CLASSES ≤ classes }
     requires many { classes ≤ MAX_CLASSES }

@@ -21,7 +21,8 @@ pub struct Tally {
     storage: Storage,
 }
 
-// Clauses see the number of classes, the room and the ascending list of the cells that hold something.
+// Clauses see the number of classes, the room and the ascending list of the cells that hold
+// something.
 impl Model for Tally {
     ghost use Rattle.tally.specs.Counts.{Counts};
     ghost use Rattle.tally.specs.Storage.{counts_of};
@@ -38,7 +39,8 @@ impl Tally {
         requires few { MIN_CLASSES ≤ classes }
         requires many { classes ≤ MAX_CLASSES }
         requires most { room ≤ most_cells classes }
-        ensures empty { IfOk result (λ tally. tally ≡ record { classes = classes; room = room; cells = [] }) }
+        ensures empty { IfOk result (λ tally.
+            tally ≡ record { classes = classes; room = room; cells = [] }) }
         ensures counts { IfOk result IsCounts }
     {
         let most = classes as u32 * (classes as u32 - 1) / 2;
@@ -139,14 +141,17 @@ impl Tally {
         }
     }
 
-    /// Adds each count of `other`. Takes a step for each cell of `other`, or for each entry of its log.
+    /// Adds each count of `other`. Takes a step for each cell of `other`, or for each entry of its
+    /// log.
     pub fn merge(&mut self, other: &Tally)
         requires classes { self.old.classes ≡ other.now.classes }
         requires total { total_of self.old.cells + total_of other.now.cells ≤ MAX_TOTAL }
-        requires room { HasGreatestRoom self.old ⊎ (length self.old.cells + length other.now.cells ≤ self.old.room) }
+        requires room { HasGreatestRoom self.old
+            ⊎ (length self.old.cells + length other.now.cells ≤ self.old.room) }
         ensures merged { (a b : ℕ) → count_of self.new.cells a b ≡
             count_of self.old.cells a b + count_of other.now.cells a b }
-        ensures total { total_of self.new.cells ≡ total_of self.old.cells + total_of other.now.cells }
+        ensures total { total_of self.new.cells ≡
+            total_of self.old.cells + total_of other.now.cells }
         ensures cells { length self.new.cells ≤ length self.old.cells + length other.now.cells }
         ensures classes { self.new.classes ≡ self.old.classes }
         ensures room { self.new.room ≡ self.old.room }
@@ -173,8 +178,9 @@ impl Tally {
         }
     }
 
-    /// Writes the cells, in order, to the front of a buffer, and says how many there are. Takes no memory, and the time of putting
-    /// what the tally holds in order. What a caller sees of the tally does not change.
+    /// Writes the cells, in order, to the front of a buffer, and says how many there are. Takes no
+    /// memory, and the time of putting what the tally holds in order. What a caller sees of the
+    /// tally does not change.
     pub fn write_cells(&mut self, out: &mut [Cell]) -> usize
         requires room { length self.old.cells ≤ length out.old }
         ensures cells { take result out.new ≡ self.old.cells }
@@ -189,7 +195,8 @@ impl Tally {
 
     /// Makes all counts 0. Takes a step for each cell.
     pub fn clear(&mut self)
-        ensures empty { self.new ≡ record { classes = self.old.classes; room = self.old.room; cells = [] } }
+        ensures empty { self.new ≡
+            record { classes = self.old.classes; room = self.old.room; cells = [] } }
         ensures counts { IsCounts self.new }
     {
         match &mut self.storage {
@@ -204,11 +211,14 @@ fn add_entries(tally: &mut Tally, entries: &[Cell])
     requires counts { IsCounts tally.old }
     requires each { All (IsCell tally.old.classes) entries.now }
     requires total { total_of tally.old.cells + total_of entries.now ≤ MAX_TOTAL }
-    requires room { HasGreatestRoom tally.old ⊎ (length tally.old.cells + length (cells_of entries.now) ≤ tally.old.room) }
+    requires room { HasGreatestRoom tally.old
+        ⊎ (length tally.old.cells + length (cells_of entries.now) ≤ tally.old.room) }
     ensures merged { (a b : ℕ) → count_of tally.new.cells a b ≡
         count_of tally.old.cells a b + count_of (cells_of entries.now) a b }
-    ensures total { total_of tally.new.cells ≡ total_of tally.old.cells + total_of (cells_of entries.now) }
-    ensures cells { length tally.new.cells ≤ length tally.old.cells + length (cells_of entries.now) }
+    ensures total { total_of tally.new.cells ≡
+        total_of tally.old.cells + total_of (cells_of entries.now) }
+    ensures cells { length tally.new.cells ≤
+        length tally.old.cells + length (cells_of entries.now) }
     ensures classes { tally.new.classes ≡ tally.old.classes }
     ensures room { tally.new.room ≡ tally.old.room }
     ensures counts { IsCounts tally.new }
@@ -223,8 +233,10 @@ fn add_table(log: &mut Log, others: &Dense)
     requires counts { IsCounts log.old }
     requires classes { log.old.classes ≡ others.now.classes }
     requires total { total_of log.old.cells + total_of others.now.cells ≤ MAX_TOTAL }
-    requires room { HasGreatestRoom log.old ⊎ (length log.old.cells + length others.now.cells ≤ log.old.room) }
-    ensures merged { (a b : ℕ) → count_of log.new.cells a b ≡ count_of log.old.cells a b + count_of others.now.cells a b }
+    requires room { HasGreatestRoom log.old
+        ⊎ (length log.old.cells + length others.now.cells ≤ log.old.room) }
+    ensures merged { (a b : ℕ) → count_of log.new.cells a b ≡
+        count_of log.old.cells a b + count_of others.now.cells a b }
     ensures total { total_of log.new.cells ≡ total_of log.old.cells + total_of others.now.cells }
     ensures cells { length log.new.cells ≤ length log.old.cells + length others.now.cells }
     ensures classes { log.new.classes ≡ log.old.classes }

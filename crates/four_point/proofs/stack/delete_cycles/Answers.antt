@@ -21,10 +21,12 @@ loop-len-init c = record {
 }
 
 pub is_cycle-requires-clause-first : goal.is_cycle-requires-clause-first
-is_cycle-requires-clause-first c = turn_test _ _ _ (last_turns c.loop-len.levels c.loop-len.len c.loop-len-test.true c.loop-len.invariant.fits c.loop-len.invariant.zig).0
+is_cycle-requires-clause-first c =
+    turn_test _ _ _ (last_turns c.loop-len.levels c.loop-len.len c.loop-len-test.true c.loop-len.invariant.fits c.loop-len.invariant.zig).0
 
 pub is_cycle-requires-clause-second : goal.is_cycle-requires-clause-second
-is_cycle-requires-clause-second c = turn_test _ _ _ (last_turns c.loop-len.levels c.loop-len.len c.loop-len-test.true c.loop-len.invariant.fits c.loop-len.invariant.zig).1
+is_cycle-requires-clause-second c =
+    turn_test _ _ _ (last_turns c.loop-len.levels c.loop-len.len c.loop-len-test.true c.loop-len.invariant.fits c.loop-len.invariant.zig).1
 
 pub add-requires-clause-ordered : goal.add-requires-clause-ordered
 add-requires-clause-ordered c =
@@ -59,7 +61,8 @@ loop-len-preserved c =
     record {
       within = omega arith;
       fits = omega (arith, length-set {A = ℕ});
-      below = below_set_third _ n _ c.loop-len.levels v.below v.fits (omega arith) (below_at _ n (n - 1) c.loop-len.levels v.below v.fits (omega arith));
+      below = below_set_third _ n _ c.loop-len.levels v.below v.fits (omega arith)
+          (below_at _ n (n - 1) c.loop-len.levels v.below v.fits (omega arith));
       zig = zig_more c.loop-len.levels n c.loop-len-test.true v.fits v.zig t.0 t.1;
       cycles = AddsCycles-added _ c.loop-len.levels n _ _ _ c.min.result c.max.result c.loop-len-test.true v.fits v.cycles t.0 t.1 c.min.ensures c.max.ensures c.add.ensures.added;
       no_cycle = HasNoCycleBelow-set c.loop-len.levels n _ v.no_cycle;

@@ -21,7 +21,8 @@ loop-level-init c =
       tally_classes = refl;
     }
 
-room_by : (s t : Counts) (len n i m : ℕ) → s.classes ≡ t.classes → s.room ≡ t.room → 2 * length s.cells + len ≤ 2 * length t.cells + n + i → i < m →
+room_by : (s t : Counts) (len n i m : ℕ) → s.classes ≡ t.classes → s.room ≡ t.room →
+    2 * length s.cells + len ≤ 2 * length t.cells + n + i → i < m →
     HasGreatestRoom t ⊎ (2 * length t.cells + n + m ≤ 2 * t.room + 1) → HasGreatestRoom s ⊎ (2 * length s.cells + len ≤ 2 * s.room)
 room_by s t len n i m e f k w (inl h) = inl (f ∙ h ∙ sym (ap most_cells e))
 room_by s t len n i m e f k w (inr h) = inr (omega arith)
@@ -39,7 +40,8 @@ loop-level-preserved c =
     record {
       step = AddsCycles-one_more l c.args.right.now i _ c.loop-level-test.true refl _ _ _ _ _ v.step c.push.ensures.step;
       shape = c.push.ensures.shape;
-      lengths = omega (arith, v.lengths, c.push.ensures.lengths, length_one_more l c.args.right.now i _ c.loop-level-test.true refl _ _ _ v.step);
+      lengths =
+          omega (arith, v.lengths, c.push.ensures.lengths, length_one_more l c.args.right.now i _ c.loop-level-test.true refl _ _ _ v.step);
       room = omega (arith, v.room, c.push.ensures.room);
       cells = omega (arith, v.cells, c.push.ensures.cells);
       tally_room = c.push.ensures.tally_room ∙ v.tally_room;
@@ -51,7 +53,9 @@ pub returns-clause-result : goal.returns-clause-result
 returns-clause-result c =
     let v = c.loop-level.invariant in
     let all = take_all c.loop-level.level-index c.args.right.now c.loop-level-test.false in
-    let pushed = subst (λ k. AddsCycles (points (c.args.left.now.residue ++ k)) (count_of c.args.tally.now.cells) c.loop-level.left.residue (count_of c.loop-level.tally.cells)) all v.step in
+    let pushed = subst
+    (λ k. AddsCycles (points (c.args.left.now.residue ++ k)) (count_of c.args.tally.now.cells) c.loop-level.left.residue
+    (count_of c.loop-level.tally.cells)) all v.step in
     λ u w d e a b. joined_results u w d e _ _ _ _ _ a b pushed v.shape.irreducible
 
 pub returns-clause-bound : goal.returns-clause-bound

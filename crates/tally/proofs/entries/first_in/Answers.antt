@@ -14,7 +14,14 @@ first_with-found-requires c =
     record {
       fits = λ x e.
           let p = found_le c.args.lo c.args.hi x (cells_of (take i l)) (sym c.loop-entry.invariant ∙ e) in
-          omega (arith, p, total_of-cells_of (take i l), sum_by_more_le (λ c. c.n) l i (cell_of 0 0 0) c.loop-entry-test.true, c.requires.total);
+          omega (
+            arith,
+            p,
+            total_of-cells_of (take i l),
+            sum_by_more_le (λ c. c.n) l i
+                (cell_of 0 0 0) c.loop-entry-test.true,
+            c.requires.total,
+          );
     }
 
 pub loop-entry-preserved : goal.loop-entry-preserved

@@ -21,10 +21,18 @@ put_together-kept-requires-clause-each c =
 
 pub put_together-kept-requires-clause-total : goal.put_together-kept-requires-clause-total
 put_together-kept-requires-clause-total c =
-    omega (arith, ap (λ l. sum_by (λ c. c.n) l) c.deref_mut.ensures.value, sum_by-IsPermutation (λ c. c.n) _ _ c.sort_unstable_by_key.ensures.permutation, c.requires.total)
+    omega (
+      arith,
+      ap (λ l. sum_by (λ c. c.n) l) c.deref_mut.ensures.value,
+      sum_by-IsPermutation
+          (λ c. c.n) _ _ c.sort_unstable_by_key.ensures.permutation,
+      c.requires.total,
+    )
 
 pub returns-clause-cells : goal.returns-clause-cells
 returns-clause-cells c =
     let l : length c.put_together-kept.new.entries ≡ c.sort_unstable_by_key.new.self.len = omega (arith, c.deref_mut.ensures.len) in
-    c.truncate.ensures.items ∙ ap (take c.put_together-kept.result) (with_items_is c.sort_unstable_by_key.new.self c.put_together-kept.new.entries l) ∙ c.put_together-kept.ensures.cells ∙ ap cells_of c.deref_mut.ensures.value
+    c.truncate.ensures.items
+    ∙ ap (take c.put_together-kept.result) (with_items_is c.sort_unstable_by_key.new.self c.put_together-kept.new.entries l)
+    ∙ c.put_together-kept.ensures.cells ∙ ap cells_of c.deref_mut.ensures.value
     ∙ cells_of-permutation MAX_CLASSES _ _ c.requires.each c.sort_unstable_by_key.ensures.permutation

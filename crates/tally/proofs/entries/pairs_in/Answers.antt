@@ -52,7 +52,8 @@ overflow_add-cell c =
     let n_last : c.loop.pairs ≡ length g → ⊥ = λ e. some_none c.in-Some.cell c.loop.next c.in-Some.is (c.loop.invariant.last e) in
     let w : c.loop.pairs < length g = less c.loop.pairs (length g) (n_last) c.loop.invariant.bound in
     let e = same_some _ _ _ c.in-Some.is (c.loop.invariant.from c.in-Some.cell w) in
-    let h = (subst (IsCell MAX_CLASSES) (sym e) (each-cells_of MAX_CLASSES c.args.entries.now c.requires.each c.loop.pairs c.in-Some.cell w)).within in
+    let h = (subst (IsCell MAX_CLASSES) (sym e)
+    (each-cells_of MAX_CLASSES c.args.entries.now c.requires.each c.loop.pairs c.in-Some.cell w)).within in
     omega (arith, h)
 
 pub loop-preserved : goal.loop-preserved
@@ -71,11 +72,13 @@ loop-preserved c =
           record {
             bound = omega (arith, x.pairs-is);
             each = inl (counted p (length g) c.loop.counter c.match-next.pairs v.each n x.pairs-is);
-            from = λ d h. x.next-is ∙ x.first_in-next-in-Some.ensures ∙ found_next g p cell d a w e (omega (arith, h, x.pairs-is)) ∙ ap (λ k. Some (get_or g k d)) (sym x.pairs-is);
+            from = λ d h. x.next-is ∙ x.first_in-next-in-Some.ensures ∙ found_next g p cell d a w e (omega (arith, h, x.pairs-is))
+                ∙ ap (λ k. Some (get_or g k d)) (sym x.pairs-is);
             last = λ h. x.next-is ∙ x.first_in-next-in-Some.ensures ∙ found_last g p cell a w e (omega (arith, h, x.pairs-is));
           }
       | in_default x ↦
-          let w : length g ≤ p = (not_less p (length g) (λ h. x.in_default.not-Some (get_or g p (cell_of 0 0 0)) (v.from (cell_of 0 0 0) h))) in
+          let w : length g ≤ p =
+          (not_less p (length g) (λ h. x.in_default.not-Some (get_or g p (cell_of 0 0 0)) (v.from (cell_of 0 0 0) h))) in
           record {
             bound = omega (arith, x.pairs-is, v.bound);
             each = inr (omega (arith, x.pairs-is, v.bound, w));
@@ -87,4 +90,5 @@ loop-preserved c =
 pub returns : goal.returns
 returns c =
     let v = c.loop.invariant in
-    ended c.loop.pairs (length (cells_of c.args.entries.now)) c.loop.counter v.each (omega (arith, c.loop-test.false, length-cells_of c.args.entries.now)) v.bound
+    ended c.loop.pairs (length (cells_of c.args.entries.now)) c.loop.counter v.each
+    (omega (arith, c.loop-test.false, length-cells_of c.args.entries.now)) v.bound

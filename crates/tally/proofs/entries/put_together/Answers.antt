@@ -13,7 +13,8 @@ overflow_add-entries c =
     let l = c.loop-i in
     let z = cell_of 0 0 0 in
     let w : l.i < length c.args.entries.now = omega (arith, c.loop-i-test.true, l.invariant.length_kept) in
-    let p = put_together-fits c.args.entries.now l.entries l.kept l.i (get_or l.entries l.i z) z c.requires.each c.requires.ordered l.invariant w refl
+    let p = put_together-fits c.args.entries.now l.entries l.kept l.i
+    (get_or l.entries l.i z) z c.requires.each c.requires.ordered l.invariant w refl
     (l.kept - 1) (omega (arith, c.if-kept-gt0.true)) c.requires.total in
     omega (arith, p)
 
@@ -28,16 +29,19 @@ loop-i-preserved c =
     elim c.if-kept-gt0.branch [
       | then-kept-gt0+then-has_pair b ↦
           let e = at_of (get_or l.entries p z) x.lo x.hi (sym b.has_pair.ensures ∙ b.if-has_pair.true) in
-          let t = put_together-same xs l.entries l.kept l.i x z c.requires.each c.requires.ordered l.invariant w refl p (omega (arith, b.if-kept-gt0.true)) e.0 e.1 in
+          let t = put_together-same xs l.entries l.kept l.i x z c.requires.each c.requires.ordered l.invariant w refl p
+          (omega (arith, b.if-kept-gt0.true)) e.0 e.1 in
           subst (λ r. IsPutTogether xs r c.if-kept-gt0.kept (l.i + 1)) (sym b.entries-is)
           (subst (λ k. IsPutTogether xs (set l.entries p (with_more (get_or l.entries p z) x.n)) k (l.i + 1)) (sym b.kept-is) t)
       | else-kept-gt0 b ↦
           let t : IsPutTogether xs (set l.entries l.kept x) (l.kept + 1) (l.i + 1) = elim b.else-kept-gt0.branch [
             | else-kept-gt0-via-then-kept-gt0+else-has_pair v ↦
-                put_together-other_pair xs l.entries l.kept l.i x z c.requires.each c.requires.ordered l.invariant w refl p (omega (arith, v.if-kept-gt0.true))
+                put_together-other_pair xs l.entries l.kept l.i x z c.requires.each c.requires.ordered l.invariant w refl p
+                (omega (arith, v.if-kept-gt0.true))
                 (not_at_of (get_or l.entries p z) x.lo x.hi (sym v.has_pair.ensures ∙ v.if-has_pair.false))
             | else-kept-gt0-via-else-kept-gt0 v ↦
-                put_together-first xs l.entries l.kept l.i x z c.requires.each c.requires.ordered l.invariant w refl (omega (arith, v.if-kept-gt0.false))
+                put_together-first xs l.entries l.kept l.i x z c.requires.each c.requires.ordered l.invariant w refl
+                (omega (arith, v.if-kept-gt0.false))
           ] in
           subst (λ r. IsPutTogether xs r c.if-kept-gt0.kept (l.i + 1)) (sym b.entries-is)
           (subst (λ k. IsPutTogether xs (set l.entries l.kept x) k (l.i + 1)) (sym b.kept-is) t)

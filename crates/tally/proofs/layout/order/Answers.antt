@@ -8,5 +8,6 @@ pub returns-clause-ordered : goal.returns-clause-ordered
 returns-clause-ordered c =
     let s = c.sort_unstable.new.self in
     let n = length-take-le c.args.used c.args.touched.now c.requires.within in
-    subst IsNonDecreasing (sym (take_at s (drop c.args.used c.args.touched.now) c.args.used (omega (arith, n, c.sort_unstable.ensures.len))))
+    subst IsNonDecreasing
+    (sym (take_at s (drop c.args.used c.args.touched.now) c.args.used (omega (arith, n, c.sort_unstable.ensures.len))))
     (IsNonDecreasingBy-from_sort (λ x. x) s c.sort_unstable.ensures.sorted)

@@ -49,10 +49,13 @@ loop-entry-preserved c =
     entries-more _ _ l i _ c.requires.counts c.requires.each w (item l i w) c.loop-entry.invariant _ e.counts e.added e.classes e.room
 
 pub returns-clause-merged : goal.returns-clause-merged
-returns-clause-merged c = entries-counts _ _ c.args.entries.now c.loop-entry.entry-index c.requires.counts c.requires.each c.loop-entry-test.false c.loop-entry.invariant
+returns-clause-merged c =
+    entries-counts _ _ c.args.entries.now c.loop-entry.entry-index c.requires.counts c.requires.each c.loop-entry-test.false c.loop-entry.invariant
 
 pub returns-clause-total : goal.returns-clause-total
-returns-clause-total c = entries-sum _ _ c.args.entries.now c.loop-entry.entry-index c.requires.counts c.requires.each c.loop-entry-test.false c.loop-entry.invariant
+returns-clause-total c =
+    entries-sum _ _ c.args.entries.now c.loop-entry.entry-index c.requires.counts c.requires.each c.loop-entry-test.false c.loop-entry.invariant
 
 pub returns-clause-cells : goal.returns-clause-cells
-returns-clause-cells c = entries-length _ _ c.args.entries.now c.loop-entry.entry-index c.requires.counts c.requires.each c.loop-entry-test.false c.loop-entry.invariant
+returns-clause-cells c =
+    entries-length _ _ c.args.entries.now c.loop-entry.entry-index c.requires.counts c.requires.each c.loop-entry-test.false c.loop-entry.invariant

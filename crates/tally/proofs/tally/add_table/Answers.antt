@@ -24,26 +24,31 @@ module _ (c : goal.After-add-arg-1) where
   each : All (IsCell c.args.log.now.classes) c.args.others.now.cells
   each = subst (λ k. All (IsCell k) c.args.others.now.cells) (sym c.requires.classes) c.cells-end.ensures.counts.each
 
-  all_room : HasGreatestRoom c.args.log.now ⊎ (length c.args.log.now.cells + length (cells_of c.args.others.now.cells) ≤ c.args.log.now.room)
+  all_room : HasGreatestRoom c.args.log.now ⊎
+      (length c.args.log.now.cells + length (cells_of c.args.others.now.cells) ≤ c.args.log.now.room)
   all_room =
       subst (λ l. HasGreatestRoom c.args.log.now ⊎ (length c.args.log.now.cells + length l ≤ c.args.log.now.room))
       (sym (cells_of-ascending c.args.others.now.cells c.cells-end.ensures.counts.ascending)) c.requires.room
 
 pub add-requires-clause-ordered : goal.add-requires-clause-ordered
 add-requires-clause-ordered c =
-    let g = entries-cell _ _ c.args.others.now.cells c.loop.counter _ c.requires.counts (each c) (inside c) (item c) c.loop.invariant.merged in g.ordered
+    let g = entries-cell _ _ c.args.others.now.cells c.loop.counter _ c.requires.counts (each c) (inside c)
+    (item c) c.loop.invariant.merged in g.ordered
 
 pub add-requires-clause-within : goal.add-requires-clause-within
 add-requires-clause-within c =
-    let g = entries-cell _ _ c.args.others.now.cells c.loop.counter _ c.requires.counts (each c) (inside c) (item c) c.loop.invariant.merged in g.within
+    let g = entries-cell _ _ c.args.others.now.cells c.loop.counter _ c.requires.counts (each c) (inside c)
+    (item c) c.loop.invariant.merged in g.within
 
 pub add-requires-clause-total : goal.add-requires-clause-total
 add-requires-clause-total c =
-    entries-total _ _ c.args.others.now.cells c.loop.counter _ c.requires.counts (each c) (inside c) (item c) c.loop.invariant.merged c.requires.total
+    entries-total _ _ c.args.others.now.cells c.loop.counter _ c.requires.counts (each c) (inside c)
+    (item c) c.loop.invariant.merged c.requires.total
 
 pub add-requires-clause-room : goal.add-requires-clause-room
 add-requires-clause-room c =
-    entries-room _ _ c.args.others.now.cells c.loop.counter _ c.requires.counts (each c) (inside c) (item c) c.loop.invariant.merged (all_room c)
+    entries-room _ _ c.args.others.now.cells c.loop.counter _ c.requires.counts (each c) (inside c) (item c) c.loop.invariant.merged
+    (all_room c)
 
 pub overflow_add-cell : goal.overflow_add-cell
 overflow_add-cell c =
@@ -69,7 +74,8 @@ loop-preserved c =
           let a = x.add.ensures in
           let k = subst (λ k. All (IsCell k) l) (sym c.requires.classes) g.each in
           record {
-            merged = subst (λ s. HasEntries c.args.log.now s l (i + 1)) (sym x.log-is) (entries-more _ _ l i cell c.requires.counts k w e v.merged _ a.counts a.added a.classes a.room);
+            merged = subst (λ s. HasEntries c.args.log.now s l (i + 1)) (sym x.log-is)
+                (entries-more _ _ l i cell c.requires.counts k w e v.merged _ a.counts a.added a.classes a.room);
             from = λ d h. x.from-is ∙ x.next-from-in-Some.ensures ∙ found_next l i cell d g.ascending w e h;
           }
       | in_default x ↦ absurd (x.in_default.not-Some (get_or l i (cell_of 0 0 0)) (v.from (cell_of 0 0 0) w))
@@ -85,14 +91,17 @@ module _ (c : goal.After-loop) where
 pub returns-clause-merged : goal.returns-clause-merged
 returns-clause-merged c =
     subst (λ l. (a b : ℕ) → count_of c.loop.log.cells a b ≡ count_of c.args.log.now.cells a b + count_of l a b) (same c)
-    (entries-counts _ _ c.args.others.now.cells c.loop.counter c.requires.counts (every c) (omega (arith, c.cells-end.ensures.cells)) c.loop.invariant.merged)
+    (entries-counts _ _ c.args.others.now.cells c.loop.counter c.requires.counts (every c)
+    (omega (arith, c.cells-end.ensures.cells)) c.loop.invariant.merged)
 
 pub returns-clause-total : goal.returns-clause-total
 returns-clause-total c =
     subst (λ l. total_of c.loop.log.cells ≡ total_of c.args.log.now.cells + total_of l) (same c)
-    (entries-sum _ _ c.args.others.now.cells c.loop.counter c.requires.counts (every c) (omega (arith, c.cells-end.ensures.cells)) c.loop.invariant.merged)
+    (entries-sum _ _ c.args.others.now.cells c.loop.counter c.requires.counts (every c)
+    (omega (arith, c.cells-end.ensures.cells)) c.loop.invariant.merged)
 
 pub returns-clause-cells : goal.returns-clause-cells
 returns-clause-cells c =
     subst (λ l. length c.loop.log.cells ≤ length c.args.log.now.cells + length l) (same c)
-    (entries-length _ _ c.args.others.now.cells c.loop.counter c.requires.counts (every c) (omega (arith, c.cells-end.ensures.cells)) c.loop.invariant.merged)
+    (entries-length _ _ c.args.others.now.cells c.loop.counter c.requires.counts (every c)
+    (omega (arith, c.cells-end.ensures.cells)) c.loop.invariant.merged)

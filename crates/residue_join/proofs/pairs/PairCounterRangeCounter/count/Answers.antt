@@ -14,4 +14,5 @@ returns-then-range-clause-holds c given h lo hi o =
     ∙ ap (λ m. half_units_of_pair lo hi given + m) n ∙ sym (half_units_of_pair-pushed lo hi given (counted_range_of r))
 
 pub returns-else-range-clause-holds : goal.returns-else-range-clause-holds
-returns-else-range-clause-holds c given h lo hi o = h lo hi o ∙ sym (half_units_of_pair-level lo hi given (counted_range_of c.args.range) o (omega arith))
+returns-else-range-clause-holds c given h lo hi o =
+    h lo hi o ∙ sym (half_units_of_pair-level lo hi given (counted_range_of c.args.range) o (omega arith))

@@ -13,7 +13,9 @@ invariant_of-result c =
     let e = c.in_ok-vec.ensures.items_if_clones_equal (λ y h. h) in
     let f = c.in_ok-vec-2.ensures.items_if_clones_equal (λ y h. h) in
     let l = length-replicate {A = ℕ} n 0 in
-    rw (e, f) (layout_empty k c.args.room (replicate {A = ℕ} n 0) (replicate {A = ℕ} (c.args.room + 1) 0) c.requires.few c.requires.many (l ∙ places_is k (omega arith)) (omega (arith, l)) (length-replicate {A = ℕ} (c.args.room + 1) 0) (get_or-zeros n))
+    rw (e, f)
+    (layout_empty k c.args.room (replicate {A = ℕ} n 0) (replicate {A = ℕ} (c.args.room + 1) 0) c.requires.few c.requires.many
+    (l ∙ places_is k (omega arith)) (omega (arith, l)) (length-replicate {A = ℕ} (c.args.room + 1) 0) (get_or-zeros n))
 
 pub returns : goal.returns
 returns c =

@@ -10,20 +10,23 @@ pub write_cells-requires-clause-listing : goal.write_cells-requires-clause-listi
 write_cells-requires-clause-listing c =
     let i = c.self.inside in
     let e : length c.order.new.touched ≡ i.touched.len = omega (arith, c.deref_mut.ensures.len) in
-    let p = subst (λ l. IsPermutation (take i.used l) (take i.used c.order.new.touched)) c.deref_mut.ensures.value c.order.ensures.permutation in
+    let p = subst
+    (λ l. IsPermutation (take i.used l) (take i.used c.order.new.touched)) c.deref_mut.ensures.value c.order.ensures.permutation in
     let g = layout_ordered c.self.invariant (omega arith) p in
     subst (λ t. IsListing t c.deref-2.result.now i.used) (sym c.deref.ensures.value)
     (subst (λ l. IsListing i.counts.items l i.used) (sym c.deref-2.ensures.value)
     (subst (λ l. IsListing i.counts.items l i.used) (sym (with_items_is i.touched c.order.new.touched e)) g.listing))
 
 pub write_cells-requires-clause-room : goal.write_cells-requires-clause-room
-write_cells-requires-clause-room c = omega (arith, used_of_layout c.self.invariant, ap (λ t. length t.cells) c.self.view_is, c.requires.room)
+write_cells-requires-clause-room c =
+    omega (arith, used_of_layout c.self.invariant, ap (λ t. length t.cells) c.self.view_is, c.requires.room)
 
 pub invariant_of-self : goal.invariant_of-self
 invariant_of-self c =
     let i = c.self.inside in
     let e : length c.order.new.touched ≡ i.touched.len = omega (arith, c.deref_mut.ensures.len) in
-    let p = subst (λ l. IsPermutation (take i.used l) (take i.used c.order.new.touched)) c.deref_mut.ensures.value c.order.ensures.permutation in
+    let p = subst
+    (λ l. IsPermutation (take i.used l) (take i.used c.order.new.touched)) c.deref_mut.ensures.value c.order.ensures.permutation in
     subst (λ l. IsLayout i.classes i.room i.counts.items l i.used i.total) (sym (with_items_is i.touched c.order.new.touched e))
     (layout_ordered c.self.invariant (omega arith) p)
 

@@ -31,26 +31,34 @@ module _ (c : goal.After-push_reserved) where
 pub invariant_of-self : goal.invariant_of-self
 invariant_of-self c =
     let i = c.self.inside in
-    let b : i.total + c.args.n ≤ MAX_TOTAL = omega (arith, c.self.invariant.summed, total_of-cells_of i.entries.items, ap (λ t. total_of t.cells) c.self.view_is, c.requires.total) in
+    let b : i.total + c.args.n ≤ MAX_TOTAL = omega
+    (arith, c.self.invariant.summed, total_of-cells_of i.entries.items, ap (λ t. total_of t.cells) c.self.view_is, c.requires.total) in
     rw (items_are c)
-    (log_more c.args.lo c.args.hi c.args.n c.self.invariant c.make_place.ensures.entries c.requires.ordered (within c) c.if-n-gt0.true (free c) _
+    (log_more c.args.lo c.args.hi c.args.n c.self.invariant c.make_place.ensures.entries c.requires.ordered (within c) c.if-n-gt0.true
+    (free c) _
     (omega (arith, c.push_reserved.ensures.capacity, c.make_place.ensures.capacity)) b)
 
 pub returns-then-n-gt0-clause-added : goal.returns-then-n-gt0-clause-added
 returns-then-n-gt0-clause-added c =
-    subst (λ l. (a b : ℕ) → count_of (cells_of l) a b ≡ count_of c.args.self.now.cells a b + one_of a b c.args.lo c.args.hi c.args.n) (sym (items_are c))
-    (subst (λ t. (a b : ℕ) → count_of (cells_of (now c ++ cell_of c.args.lo c.args.hi c.args.n ∷ [])) a b ≡ count_of t.cells a b + one_of a b c.args.lo c.args.hi c.args.n) c.self.view_is
-    (log_count c.args.lo c.args.hi c.args.n c.self.invariant c.make_place.ensures.entries c.requires.ordered (within c) c.if-n-gt0.true (free c)))
+    subst (λ l. (a b : ℕ) → count_of (cells_of l) a b ≡ count_of c.args.self.now.cells a b + one_of a b c.args.lo c.args.hi c.args.n)
+    (sym (items_are c))
+    (subst (λ t. (a b : ℕ) →
+    count_of (cells_of
+    (now c ++ cell_of c.args.lo c.args.hi c.args.n ∷ [])) a b ≡ count_of t.cells a b + one_of a b c.args.lo c.args.hi c.args.n) c.self.view_is
+    (log_count c.args.lo c.args.hi c.args.n c.self.invariant c.make_place.ensures.entries c.requires.ordered (within c) c.if-n-gt0.true
+    (free c)))
 
 pub returns-then-n-gt0-clause-total : goal.returns-then-n-gt0-clause-total
 returns-then-n-gt0-clause-total c =
     ap (λ l. total_of (cells_of l)) (items_are c)
-    ∙ log_total c.args.lo c.args.hi c.args.n c.self.invariant c.make_place.ensures.entries c.requires.ordered (within c) c.if-n-gt0.true (free c)
+    ∙ log_total c.args.lo c.args.hi c.args.n c.self.invariant c.make_place.ensures.entries c.requires.ordered (within c) c.if-n-gt0.true
+    (free c)
     ∙ ap (λ t. total_of t.cells + c.args.n) c.self.view_is
 
 pub returns-then-n-gt0-clause-cells : goal.returns-then-n-gt0-clause-cells
 returns-then-n-gt0-clause-cells c =
-    let p = log_length c.args.lo c.args.hi c.args.n c.self.invariant c.make_place.ensures.entries c.requires.ordered (within c) c.if-n-gt0.true (free c) in
+    let p = log_length c.args.lo c.args.hi c.args.n c.self.invariant c.make_place.ensures.entries c.requires.ordered
+    (within c) c.if-n-gt0.true (free c) in
     omega (arith, p, ap (λ l. length (cells_of l)) (items_are c), ap (λ t. length t.cells) c.self.view_is)
 
 pub returns-then-n-gt0-clause-counts : goal.returns-then-n-gt0-clause-counts

@@ -43,7 +43,9 @@ module _ (c : goal.After-self-1) where
 
   items_are : c.extend_from_slice.new.self.items ≡ old ++ others
   items_are =
-      written old _ _ c.extend_from_slice.result (c.extend_from_slice.ensures.succeeds (omega (arith, c.if-capacity-len.false, c.deref.ensures.len))) c.extend_from_slice.ensures.items
+      written old _ _ c.extend_from_slice.result
+      (c.extend_from_slice.ensures.succeeds
+      (omega (arith, c.if-capacity-len.false, c.deref.ensures.len))) c.extend_from_slice.ensures.items
       ∙ ap (λ l. old ++ l) c.deref.ensures.value
 
   of_other : IsLog c.self.inside.classes c.other.inside.room c.other.inside.total others (vec_capacity c.other.inside.entries)
@@ -51,10 +53,12 @@ module _ (c : goal.After-self-1) where
       subst (λ k. IsLog k c.other.inside.room c.other.inside.total others (vec_capacity c.other.inside.entries))
       (ap (λ t. t.classes) c.other.view_is ∙ sym c.requires.classes ∙ sym (ap (λ t. t.classes) c.self.view_is)) c.other.invariant
 
-  room_is : (c.self.inside.room ≡ most_cells c.self.inside.classes) ⊎ (length (cells_of old) + length (cells_of others) ≤ c.self.inside.room)
+  room_is : (c.self.inside.room ≡ most_cells c.self.inside.classes) ⊎
+      (length (cells_of old) + length (cells_of others) ≤ c.self.inside.room)
   room_is =
       subst (λ (t : Counts). HasGreatestRoom t ⊎ (length t.cells + length (cells_of others) ≤ t.room)) (sym c.self.view_is)
-      (subst (λ (t : Counts). HasGreatestRoom c.args.self.now ⊎ (length c.args.self.now.cells + length t.cells ≤ c.args.self.now.room)) (sym c.other.view_is) c.requires.room)
+      (subst (λ (t : Counts). HasGreatestRoom c.args.self.now ⊎ (length c.args.self.now.cells + length t.cells ≤ c.args.self.now.room))
+      (sym c.other.view_is) c.requires.room)
 
 pub invariant_of-self : goal.invariant_of-self
 invariant_of-self c =
@@ -70,7 +74,8 @@ invariant_of-self c =
       c.requires.total,
     ) in
     subst (λ l. IsLog i.classes i.room (i.total + c.other.inside.total) l (vec_capacity c.extend_from_slice.new.self)) (sym (items_are c))
-    (append_log c.self.invariant (of_other c) (vec_capacity c.extend_from_slice.new.self) c.extend_from_slice.ensures.capacity (room_is c) b)
+    (append_log c.self.invariant (of_other c) (vec_capacity c.extend_from_slice.new.self) c.extend_from_slice.ensures.capacity
+    (room_is c) b)
 
 pub returns-clause-merged : goal.returns-clause-merged
 returns-clause-merged c = λ a b.
