@@ -1,12 +1,11 @@
 -- The value at each place is put behind those before it.
-use Rattle.std.proofs.Common.{◌≡◌, ◌<◌, ◌+◌, ◌∙◌, ap, length, take, get_or, rules, arith, length-take}
+use Rattle.std.proofs.Common.{◌≡◌, ◌<◌, ap, length, take, get_or, rules, arith, length-take}
 use Rattle.std.specs.Prelude.{pos}
 use Rattle.std.specs.Int.{w32}
 use Rattle.std.proofs.lemmas.Int.{to_z-of_z}
 use Rattle.std.proofs.lemmas.List.{take_all}
 use Rattle.calibration.specs.History.{history, missing_count}
-use Rattle.calibration.proofs.Places.{levels_more, used_more, missing_more, counts_add}
-use mir.Val.{bool_byte}
+use Rattle.calibration.proofs.Places.{levels_more, used_more, counts_add}
 use Rattle.calibration.proofs.classifier.Classifier.levels.Goals as goal
 
 pub bounds-levels-used : goal.bounds-levels-used
@@ -30,7 +29,6 @@ loop-raw-preserved c =
     record {
       levels = levels_more gain grid raws i (pos 0) _ b v c.loop-raw.used c.loop-raw.levels c.loop-raw-test.true raw room c.place-place.ensures c.loop-raw.invariant.levels;
       used = used_more gain grid raws i (pos 0) _ b v c.loop-raw.used c.loop-raw-test.true raw c.place-place.ensures c.loop-raw.invariant.used;
-      missing = ap (λ b. c.loop-raw.missing + bool_byte b) c.is_missing.ensures ∙ missing_more gain grid raws i (pos 0) _ c.loop-raw.missing c.loop-raw-test.true raw c.loop-raw.invariant.missing;
     }
 
 pub overflow_sub-result : goal.overflow_sub-result
@@ -42,8 +40,9 @@ overflow_sub-result c =
 pub overflow_sub-result-2 : goal.overflow_sub-result-2
 overflow_sub-result-2 c =
     let raws = c.args.raws.now in
-    let so_far = counts_add c.args.self.now.gain c.args.self.now.grid (take c.loop-raw.raw-index raws) in
-    omega (arith, so_far, c.loop-raw.invariant.used, c.loop-raw.invariant.missing, length-take c.loop-raw.raw-index raws)
+    let all : take c.loop-raw.raw-index raws ≡ raws = take_all c.loop-raw.raw-index raws (omega (arith, c.loop-raw-test.false)) in
+    let whole = counts_add c.args.self.now.gain c.args.self.now.grid raws in
+    omega (arith, whole, c.loop-raw.invariant.used, c.missing_among-missing.ensures, ap (λ l. length (history c.args.self.now.grid c.args.self.now.gain l)) all)
 
 pub returns-clause-refused : goal.returns-clause-refused
 returns-clause-refused c =
@@ -52,4 +51,4 @@ returns-clause-refused c =
     let raws = c.args.raws.now in
     let all : take c.loop-raw.raw-index raws ≡ raws = take_all c.loop-raw.raw-index raws (omega (arith, c.loop-raw-test.false)) in
     let whole = counts_add gain grid raws in
-    omega (arith, whole, c.loop-raw.invariant.used, c.loop-raw.invariant.missing, ap (λ l. length (history grid gain l)) all, ap (missing_count grid gain) all)
+    omega (arith, whole, c.loop-raw.invariant.used, c.missing_among-missing.ensures, ap (λ l. length (history grid gain l)) all, ap (missing_count grid gain) all)
