@@ -63,10 +63,11 @@ impl Site {
         })
     }
 
-    /// Counts a history, block after block. The units and the boards take turns.
-    pub fn count(&mut self, levels: &[u16]) {
+    /// Counts a history, block after block. The units and the boards take turns. Where blocks are not
+    /// merged, the boards stay as they are.
+    pub fn count(&mut self, levels: &[u16], is_merged: bool) {
         let block = self.plan.block as usize;
-        count_in_turn(levels, block, &mut self.units, &mut self.boards);
+        count_in_turn(levels, block, &mut self.units, &mut self.boards, is_merged);
     }
 
     /// A digest of what the boards hold.
@@ -84,7 +85,13 @@ impl Site {
     }
 }
 
-fn count_in_turn(levels: &[u16], block: usize, units: &mut [Unit], boards: &mut [Tally])
+fn count_in_turn(
+    levels: &[u16],
+    block: usize,
+    units: &mut [Unit],
+    boards: &mut [Tally],
+    is_merged: bool,
+)
     requires { 1 ≤ block }
 {
     if units.is_empty() || boards.is_empty() {
@@ -95,7 +102,9 @@ fn count_in_turn(levels: &[u16], block: usize, units: &mut [Unit], boards: &mut 
         let unit = i % units.len();
         let board = i / BLOCKS_PER_BOARD % boards.len();
         fill(part, &mut units[unit]);
-        merge_into(&mut boards[board], &units[unit].tally);
+        if is_merged {
+            merge_into(&mut boards[board], &units[unit].tally);
+        }
         i = i.wrapping_add(1);
     }
 }

@@ -1,6 +1,6 @@
 //! Blocks of levels through the reducers and tallies of one unit or of 512, each block's tally merged into
 //! that of a board and emptied: for each plan a digest of what the boards hold, and with the word `time`
-//! also the processor time, in hundredths of a nanosecond to the sample.
+//! also the processor time, in hundredths of a nanosecond to the sample, of all and of the pushes alone.
 //!
 //! Only safety is proved here. What the calls do is said by their own contracts; two forms of a tally that
 //! count the same history have equal digests.
@@ -25,11 +25,12 @@ fn main(rt: HostRuntime) -> io::Result<()> {
     for plan in Plan::all(rt.alloc())?.into_iter() {
         let levels = levels_of(rt.alloc(), plan.history, plan.classes)?;
         let mut site = Site::new(rt.alloc(), plan)?;
-        site.count(&levels);
+        site.count(&levels, true);
         let digest = site.digest();
         if is_timed {
-            let hundredths = time_of(&rt, &mut site, &levels)?;
-            println!(rt; "{plan} {digest} {hundredths}")?;
+            let all = time_of(&rt, &mut site, &levels, true)?;
+            let pushes = time_of(&rt, &mut site, &levels, false)?;
+            println!(rt; "{plan} {digest} {all} {pushes}")?;
         } else {
             println!(rt; "{plan} {digest}")?;
         }
@@ -38,11 +39,16 @@ fn main(rt: HostRuntime) -> io::Result<()> {
 }
 
 // The least processor time of a plan, in hundredths of a nanosecond to the sample.
-fn time_of<R: CpuClock>(rt: &R, site: &mut Site, levels: &[u16]) -> io::Result<u128> {
+fn time_of<R: CpuClock>(
+    rt: &R,
+    site: &mut Site,
+    levels: &[u16],
+    is_merged: bool,
+) -> io::Result<u128> {
     let mut least = u128::MAX;
     for _ in 0..REPEATS {
         let start = rt.process_cpu_time()?;
-        site.count(levels);
+        site.count(levels, is_merged);
         let end = rt.process_cpu_time()?;
         if end >= start {
             least = least.min((end - start).as_nanos());
