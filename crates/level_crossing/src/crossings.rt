@@ -31,9 +31,26 @@ impl Model for Crossings {
 
     ghost Value = { Crossed };
 
-    ghost view = { λ s. record { classes = s.classes; reference = s.reference; some = s.some; first = s.first; last = s.last; begins = s.begins.items; stops = s.stops.items } };
+    ghost view = { λ s. record {
+      classes = s.classes;
+      reference = s.reference;
+      some = s.some;
+      first = s.first;
+      last = s.last;
+      begins = s.begins.items;
+      stops = s.stops.items;
+    } };
 
-    ghost invariant = { λ s. IsCrossed (record { classes = s.classes; reference = s.reference; some = s.some; first = s.first; last = s.last; begins = s.begins.items; stops = s.stops.items }) };
+    ghost invariant = { λ s. IsCrossed (record {
+      classes = s.classes;
+      reference = s.reference;
+      some = s.some;
+      first = s.first;
+      last = s.last;
+      begins = s.begins.items;
+      stops =
+          s.stops.items;
+    }) };
 }
 
 /// The boundaries that a step crosses.
@@ -149,7 +166,8 @@ impl Crossings {
 
     fn pushed(&mut self, level: u16)
         requires level { level < self.old.classes }
-        requires few { (l : ℕ) → count_at self.old l + between self.old.some self.old.reference l self.old.last level ≤ 2 ^ 41 }
+        requires few { (l : ℕ) → count_at self.old l
+            + between self.old.some self.old.reference l self.old.last level ≤ 2 ^ 41 }
         ensures value { self.new ≡ level_of level self.old }
         ensures rules { IsCrossed self.old }
     {
@@ -170,10 +188,13 @@ impl Crossings {
     /// One level more.
     pub fn push(&mut self, level: u16)
         requires level { level < self.old.classes }
-        requires few { (l : ℕ) → count_at self.old l + between self.old.some self.old.reference l self.old.last level ≤ 2 ^ 41 }
-        ensures grid { (self.new.classes ≡ self.old.classes) × (self.new.reference ≡ self.old.reference) }
+        requires few { (l : ℕ) → count_at self.old l
+            + between self.old.some self.old.reference l self.old.last level ≤ 2 ^ 41 }
+        ensures grid { (self.new.classes ≡ self.old.classes)
+            × (self.new.reference ≡ self.old.reference) }
         ensures some { self.new.some ≡ true }
-        ensures counts { (l : ℕ) → count_at self.new l ≡ count_at self.old l + between self.old.some self.old.reference l self.old.last level }
+        ensures counts { (l : ℕ) → count_at self.new l ≡
+            count_at self.old l + between self.old.some self.old.reference l self.old.last level }
         ensures rules { IsCrossed self.new }
         ensures histories { (h : List ℕ) → Crosses self.old h → Crosses self.new (h ++ level ∷ []) }
     {
@@ -182,7 +203,9 @@ impl Crossings {
 
     fn joined(&mut self, right: &Crossings)
         requires classes { self.old.classes ≡ right.now.classes }
-        requires few { (l : ℕ) → count_at self.old l + count_at right.now l + between (self.old.some && right.now.some) self.old.reference l self.old.last right.now.first ≤ 2 ^ 41 }
+        requires few { (l : ℕ) → count_at self.old l + count_at right.now l
+            + between (self.old.some && right.now.some) self.old.reference l
+            self.old.last right.now.first ≤ 2 ^ 41 }
         ensures value { self.new ≡ append_of self.old right.now }
         ensures left { IsCrossed self.old }
         ensures right { IsCrossed right.now }
@@ -210,13 +233,17 @@ impl Crossings {
     pub fn join(&mut self, right: &Crossings)
         requires classes { self.old.classes ≡ right.now.classes }
         requires reference { self.old.reference ≡ right.now.reference }
-        requires few { (l : ℕ) → count_at self.old l + count_at right.now l + between (self.old.some && right.now.some) self.old.reference l self.old.last right.now.first ≤ 2 ^ 41 }
-        ensures grid { (self.new.classes ≡ self.old.classes) × (self.new.reference ≡ self.old.reference) }
+        requires few { (l : ℕ) → count_at self.old l + count_at right.now l
+            + between (self.old.some && right.now.some) self.old.reference l
+            self.old.last right.now.first ≤ 2 ^ 41 }
+        ensures grid { (self.new.classes ≡ self.old.classes)
+            × (self.new.reference ≡ self.old.reference) }
         ensures some { self.new.some ≡ (self.old.some || right.now.some) }
         ensures counts { (l : ℕ) → count_at self.new l ≡ count_at self.old l + count_at right.now l
             + between (self.old.some && right.now.some) self.old.reference l self.old.last right.now.first }
         ensures rules { IsCrossed self.new }
-        ensures histories { (g h : List ℕ) → Crosses self.old g → Crosses right.now h → Crosses self.new (g ++ h) }
+        ensures histories { (g h : List ℕ) → Crosses self.old g → Crosses right.now h →
+            Crosses self.new (g ++ h) }
     {
         self.joined(right)
     }
@@ -227,7 +254,8 @@ impl Crossings {
         requires own { points list.now ≡ list.now }
         requires below { All (λ level. level < self.old.classes) list.now }
         requires few { length list.now ≤ 2 ^ 41 }
-        ensures grid { (self.new.classes ≡ self.old.classes) × (self.new.reference ≡ self.old.reference) }
+        ensures grid { (self.new.classes ≡ self.old.classes)
+            × (self.new.reference ≡ self.old.reference) }
         ensures some { self.new.some ≡ is_some list.now }
         ensures counts { (l : ℕ) → count_at self.new l ≡ crossings self.old.reference l list.now }
         ensures rules { IsCrossed self.new }
@@ -247,7 +275,8 @@ impl Crossings {
     // Takes ends and counts in place of its own; what the value is then.
     fn loaded(&mut self, ends: &Ends, bins: &[Bin])
         requires { CanLoad self.old.classes (end_points ends.now) bins.now }
-        ensures value { self.new ≡ loaded_of self.old.classes self.old.reference (end_points ends.now) bins.now }
+        ensures value { self.new ≡ loaded_of self.old.classes self.old.reference
+            (end_points ends.now) bins.now }
         ensures rules { IsCrossed self.old }
     {
         load_bins(&mut self.begins, 0, bins);
@@ -261,7 +290,8 @@ impl Crossings {
     /// Takes the ends of a history and its counts of boundaries in place of its own.
     pub fn load(&mut self, ends: &Ends, bins: &[Bin])
         requires { CanLoad self.old.classes (end_points ends.now) bins.now }
-        ensures grid { (self.new.classes ≡ self.old.classes) × (self.new.reference ≡ self.old.reference) }
+        ensures grid { (self.new.classes ≡ self.old.classes)
+            × (self.new.reference ≡ self.old.reference) }
         ensures ends { HasEnds self.new (end_points ends.now) }
         ensures counts { (l : ℕ) → count_at self.new l ≡ count_of_bins l bins.now }
         ensures rules { IsCrossed self.new }

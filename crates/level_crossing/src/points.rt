@@ -32,7 +32,8 @@ fn count_inner(begins: &mut [u64], stops: &mut [u64], reference: usize, list: &[
     requires begins { (k : ℕ) → slice_index begins.old k ≤ 1 }
     requires stops { (k : ℕ) → slice_index stops.old k ≤ 1 }
     requires first { IsOpen reference begins.old stops.old 0 0 list.now 1 }
-    ensures all { IsOpen reference begins.new stops.new result (length list.now - 2 - result) list.now (length list.now - 1) }
+    ensures all { IsOpen reference begins.new stops.new result (length list.now - 2 - result)
+        list.now (length list.now - 1) }
     ensures bottoms { result + 2 ≤ length list.now }
     ensures begins_length { length begins.new ≡ length begins.old }
     ensures stops_length { length stops.new ≡ length stops.old }
@@ -58,7 +59,8 @@ fn count_steps(begins: &mut [u64], stops: &mut [u64], reference: usize, list: &[
     requires few { length list.now ≤ 2 ^ 41 }
     requires begins { (k : ℕ) → slice_index begins.old k ≡ 0 }
     requires stops { (k : ℕ) → slice_index stops.old k ≡ 0 }
-    ensures counts { (l : ℕ) → sum (take (l + 1) begins.new) ≡ sum (take (l + 1) stops.new) + crossings reference l list.now }
+    ensures counts { (l : ℕ) → sum (take (l + 1) begins.new) ≡
+        sum (take (l + 1) stops.new) + crossings reference l list.now }
     ensures begins_length { length begins.new ≡ length begins.old }
     ensures stops_length { length stops.new ≡ length stops.old }
 {
@@ -111,7 +113,8 @@ fn fill_slices(begins: &mut [u64], stops: &mut [u64], reference: usize, list: &[
     requires few { length list.now ≤ 2 ^ 41 }
     requires begins { (k : ℕ) → slice_index begins.old k ≡ 0 }
     requires stops { (k : ℕ) → slice_index stops.old k ≡ 0 }
-    ensures counts { (l : ℕ) → sum (take (l + 1) begins.new) ≡ sum (take (l + 1) stops.new) + crossings reference l list.now }
+    ensures counts { (l : ℕ) → sum (take (l + 1) begins.new) ≡
+        sum (take (l + 1) stops.new) + crossings reference l list.now }
     ensures enough { (i : ℕ) → sum (take (i + 1) stops.new) ≤ sum (take i begins.new) }
     ensures begins_length { length begins.new ≡ length begins.old }
     ensures stops_length { length stops.new ≡ length stops.old }
@@ -129,7 +132,8 @@ pub fn fill(begins: &mut Vec<u64>, stops: &mut Vec<u64>, reference: usize, list:
     requires few { length list.now ≤ 2 ^ 41 }
     requires begins { (k : ℕ) → slice_index begins.old.items k ≡ 0 }
     requires stops { (k : ℕ) → slice_index stops.old.items k ≡ 0 }
-    ensures counts { (l : ℕ) → sum (take (l + 1) begins.new.items) ≡ sum (take (l + 1) stops.new.items) + crossings reference l list.now }
+    ensures counts { (l : ℕ) → sum (take (l + 1) begins.new.items) ≡
+        sum (take (l + 1) stops.new.items) + crossings reference l list.now }
     ensures enough { (i : ℕ) → sum (take (i + 1) stops.new.items) ≤ sum (take i begins.new.items) }
     ensures begins_length { length begins.new.items ≡ length begins.old.items }
     ensures stops_length { length stops.new.items ≡ length stops.old.items }

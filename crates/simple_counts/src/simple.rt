@@ -32,9 +32,21 @@ impl Model for Simple {
 
     ghost Value = { Counted };
 
-    ghost view = { λ s. record { classes = s.classes; reference = s.reference; ends = end_points s.ends; decided = s.decided.items; extremes = s.extremes.items } };
+    ghost view = { λ s. record {
+      classes = s.classes;
+      reference = s.reference;
+      ends = end_points s.ends;
+      decided = s.decided.items;
+      extremes = s.extremes.items;
+    } };
 
-    ghost invariant = { λ s. IsCounted (record { classes = s.classes; reference = s.reference; ends = end_points s.ends; decided = s.decided.items; extremes = s.extremes.items }) };
+    ghost invariant = { λ s. IsCounted (record {
+      classes = s.classes;
+      reference = s.reference;
+      ends = end_points s.ends;
+      decided = s.decided.items;
+      extremes = s.extremes.items;
+    }) };
 }
 
 /// Whether `level` is greater than both, or less than both.
@@ -68,7 +80,8 @@ pub fn range(a: u16, b: u16) -> usize
 fn decide(decided: &mut [u64], level: u16, e: &Ends)
     requires ends { IsEnds (length decided.old) (end_points e.now) }
     requires level { level < length decided.old }
-    requires first { 3 ≤ e.now.points → 1 ≤ slice_index decided.old (range (end_points e.now).first (end_points e.now).second) }
+    requires first { 3 ≤ e.now.points →
+        1 ≤ slice_index decided.old (range (end_points e.now).first (end_points e.now).second) }
     requires room { (k : ℕ) → slice_index decided.old k < 2 ^ 62 }
     ensures { decided.new ≡ decide level (end_points e.now) decided.old }
 {
@@ -111,13 +124,17 @@ fn join_tables(decided: &mut [u64], extremes: &mut [u64], reference: u16, left: 
     requires left { IsEnds (length decided.old) (end_points left.now) }
     requires right { IsEnds (length decided.old) (end_points right.now) }
     requires same { length extremes.old ≡ length decided.old }
-    requires first { 3 ≤ right.now.points → 1 ≤ slice_index decided.old (range (end_points right.now).first (end_points right.now).second) }
+    requires first { 3 ≤ right.now.points →
+        1 ≤ slice_index decided.old (range (end_points right.now).first (end_points
+        right.now).second) }
     requires enough { right.now.points - 2 ≤ sum decided.old }
     requires few { right.now.points < 2 ^ 61 }
     requires room { sum decided.old < 2 ^ 61 }
     requires space { sum extremes.old < 2 ^ 61 }
-    ensures decided { decided.new ≡ decide_join (end_points left.now) (end_points right.now) decided.old }
-    ensures extremes { extremes.new ≡ mark_join reference (end_points left.now) (end_points right.now) extremes.old }
+    ensures decided { decided.new ≡
+        decide_join (end_points left.now) (end_points right.now) decided.old }
+    ensures extremes { extremes.new ≡
+        mark_join reference (end_points left.now) (end_points right.now) extremes.old }
 {
     if left.points == 0 {
         return;
@@ -145,13 +162,17 @@ fn join_in(
     requires left { IsEnds (length decided.old.items) (end_points left.now) }
     requires right { IsEnds (length decided.old.items) (end_points right.now) }
     requires same { length extremes.old.items ≡ length decided.old.items }
-    requires first { 3 ≤ right.now.points → 1 ≤ slice_index decided.old.items (range (end_points right.now).first (end_points right.now).second) }
+    requires first { 3 ≤ right.now.points →
+        1 ≤ slice_index decided.old.items (range (end_points right.now).first (end_points
+        right.now).second) }
     requires enough { right.now.points - 2 ≤ sum decided.old.items }
     requires few { right.now.points < 2 ^ 61 }
     requires room { sum decided.old.items < 2 ^ 61 }
     requires space { sum extremes.old.items < 2 ^ 61 }
-    ensures decided { decided.new.items ≡ decide_join (end_points left.now) (end_points right.now) decided.old.items }
-    ensures extremes { extremes.new.items ≡ mark_join reference (end_points left.now) (end_points right.now) extremes.old.items }
+    ensures decided { decided.new.items ≡
+        decide_join (end_points left.now) (end_points right.now) decided.old.items }
+    ensures extremes { extremes.new.items ≡
+        mark_join reference (end_points left.now) (end_points right.now) extremes.old.items }
 {
     join_tables(decided, extremes, reference, left, right);
 }
@@ -165,7 +186,8 @@ fn turns(level: u16, e: &Ends) -> bool
 
 /// Whether it makes the last point an extreme.
 fn decides_extreme(reference: u16, level: u16, e: &Ends) -> bool
-    ensures { result ≡ (nat_le 2 e.now.points && is_extreme reference (end_points e.now).before (end_points e.now).last level) }
+    ensures { result ≡ (nat_le 2 e.now.points && is_extreme reference (end_points e.now).before
+        (end_points e.now).last level) }
 {
     e.points >= 2 && is_extreme(reference, e.last[0], e.last[1], level)
 }
@@ -176,7 +198,8 @@ fn load_ranges(table: &mut Vec<u64>, ends: &Ends, ranges: &[Bin])
     requires last { 2 ≤ ends.now.points →
         1 ≤ slice_index (filled 0 (replicate (length table.old.items) 0) ranges.now) (last_range (end_points ends.now)) }
     requires below { last_range (end_points ends.now) < length table.old.items }
-    ensures { table.new.items ≡ decided_of (length table.old.items) (end_points ends.now) ranges.now }
+    ensures { table.new.items ≡
+        decided_of (length table.old.items) (end_points ends.now) ranges.now }
 {
     empty(table);
     fill_bins(table, 0, ranges);
@@ -188,7 +211,8 @@ fn load_ranges(table: &mut Vec<u64>, ends: &Ends, ranges: &[Bin])
 fn load_extremes(table: &mut Vec<u64>, peaks: &[Bin], valleys: &[Bin])
     requires peaks { All (λ b. b.key + 0 < length table.old.items) peaks.now }
     requires valleys { All (λ b. b.key + 0 < length table.old.items) valleys.now }
-    ensures { table.new.items ≡ filled 0 (filled 0 (replicate (length table.old.items) 0) valleys.now) peaks.now }
+    ensures { table.new.items ≡
+        filled 0 (filled 0 (replicate (length table.old.items) 0) valleys.now) peaks.now }
 {
     empty(table);
     fill_bins(table, 0, valleys);
@@ -231,10 +255,12 @@ impl Simple {
         requires classes { self.old.classes ≡ right.now.classes }
         requires reference { self.old.reference ≡ right.now.reference }
         requires room { self.old.ends.points + right.now.ends.points ≤ 2 ^ 41 }
-        ensures grid { (self.new.classes ≡ self.old.classes) × (self.new.reference ≡ self.old.reference) }
+        ensures grid { (self.new.classes ≡ self.old.classes)
+            × (self.new.reference ≡ self.old.reference) }
         ensures ends { self.new.ends ≡ meets self.old.ends right.now.ends }
         ensures rules { IsCounted self.new }
-        ensures histories { (u v : List ℕ) → Counts self.old u → Counts right.now v → Counts self.new (u ++ v) }
+        ensures histories { (u v : List ℕ) → Counts self.old u → Counts right.now v →
+            Counts self.new (u ++ v) }
     {
         self.joined(right)
     }
@@ -259,7 +285,8 @@ impl Simple {
     pub fn push(&mut self, level: u16)
         requires level { level < self.old.classes }
         requires room { self.old.ends.points + 1 ≤ 2 ^ 41 }
-        ensures grid { (self.new.classes ≡ self.old.classes) × (self.new.reference ≡ self.old.reference) }
+        ensures grid { (self.new.classes ≡ self.old.classes)
+            × (self.new.reference ≡ self.old.reference) }
         ensures ends { self.new.ends ≡ ends_push level self.old.ends }
         ensures rules { IsCounted self.new }
         ensures histories { (u : List ℕ) → Counts self.old u → Counts self.new (u ++ level ∷ []) }
@@ -273,7 +300,8 @@ impl Simple {
         requires own { points list.now ≡ list.now }
         requires below { All (λ level. level < self.old.classes) list.now }
         requires few { length list.now ≤ 2 ^ 41 }
-        ensures grid { (self.new.classes ≡ self.old.classes) × (self.new.reference ≡ self.old.reference) }
+        ensures grid { (self.new.classes ≡ self.old.classes)
+            × (self.new.reference ≡ self.old.reference) }
         ensures ends { self.new.ends ≡ ends_of list.now }
         ensures rules { IsCounted self.new }
         ensures histories { (h : List ℕ) → points h ≡ list.now → Counts self.new h }
@@ -284,8 +312,10 @@ impl Simple {
 
     // Takes ends and counts in place of its own; what the value is then.
     fn loaded(&mut self, ends: &Ends, peaks: &[Bin], valleys: &[Bin], ranges: &[Bin])
-        requires { CanLoad self.old.classes self.old.reference (end_points ends.now) peaks.now valleys.now ranges.now }
-        ensures value { self.new ≡ loaded_of self.old.classes self.old.reference (end_points ends.now)
+        requires { CanLoad self.old.classes self.old.reference (end_points ends.now) peaks.now
+            valleys.now ranges.now }
+        ensures value { self.new ≡ loaded_of self.old.classes self.old.reference (end_points
+            ends.now)
             peaks.now valleys.now ranges.now }
         ensures rules { IsCounted self.old }
     {
@@ -296,8 +326,10 @@ impl Simple {
 
     /// Takes the ends of a history and its counts in place of its own.
     pub fn load(&mut self, ends: &Ends, peaks: &[Bin], valleys: &[Bin], ranges: &[Bin])
-        requires { CanLoad self.old.classes self.old.reference (end_points ends.now) peaks.now valleys.now ranges.now }
-        ensures grid { (self.new.classes ≡ self.old.classes) × (self.new.reference ≡ self.old.reference) }
+        requires { CanLoad self.old.classes self.old.reference (end_points ends.now) peaks.now
+            valleys.now ranges.now }
+        ensures grid { (self.new.classes ≡ self.old.classes)
+            × (self.new.reference ≡ self.old.reference) }
         ensures ends { self.new.ends ≡ end_points ends.now }
         ensures ranges { (k : ℕ) → range_count self.new k ≡ count_at k ranges.now }
         ensures peaks { (l : ℕ) → peak_count self.new l ≡ count_at l peaks.now }
@@ -348,7 +380,8 @@ impl Simple {
     pub fn peaks(&self, level: u16) -> u64
         requires { level < self.now.classes }
         ensures value { result ≡ peak_count self.now level }
-        ensures histories { (u : List ℕ) → Counts self.now u → result ≡ peaks_at self.now.reference level (points u) }
+        ensures histories { (u : List ℕ) → Counts self.now u →
+            result ≡ peaks_at self.now.reference level (points u) }
     {
         self.peaks_there(level)
     }
@@ -357,7 +390,8 @@ impl Simple {
     pub fn valleys(&self, level: u16) -> u64
         requires { level < self.now.classes }
         ensures value { result ≡ valley_count self.now level }
-        ensures histories { (u : List ℕ) → Counts self.now u → result ≡ valleys_at self.now.reference level (points u) }
+        ensures histories { (u : List ℕ) → Counts self.now u →
+            result ≡ valleys_at self.now.reference level (points u) }
     {
         self.valleys_there(level)
     }
