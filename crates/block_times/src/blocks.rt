@@ -1,11 +1,12 @@
 ghost use Rattle.std.specs.Prelude.{◌≡◌, ◌+◌, ◌*◌, ◌<◌, ◌≤◌, ◌⊎◌, [], length};
 ghost use Rattle.std.specs.Bool.{OnTrue};
 ghost use Rattle.tally.specs.Counts.{HasGreatestRoom, total_of};
+ghost use Rattle.calibration.specs.declared.grid.TheConstants.{MAX_CLASSES};
 
 use crate::plan::{Form, Plan};
 use four_point::Reducer;
 use std::alloc::{AllocError, Global};
-use tally::{MAX_CLASSES, Tally, room_for};
+use tally::{Tally, room_for};
 
 /// How many blocks go to one board one after another.
 const BLOCKS_PER_BOARD: usize = 16;

@@ -1,6 +1,7 @@
 ghost use Rattle.std.specs.Prelude.{◌≡◌, ℕ, ◌+◌, ◌-◌, ◌<◌, ◌≤◌, ◌∷◌, ◌++◌, [], List, IfOk};
 ghost use Rattle.tally.specs.Counts.{count_of, total_of, most_cells};
-ghost use Rattle.tally.specs.declared.cells.TheConstants.{MIN_CLASSES, MAX_CLASSES, MAX_TOTAL};
+ghost use Rattle.calibration.specs.declared.grid.TheConstants.{MIN_CLASSES, MAX_CLASSES};
+ghost use Rattle.tally.specs.declared.cells.TheConstants.{MAX_TOTAL};
 ghost use Rattle.three_point.specs.Run.{CountedRange, half_units_of_pair};
 ghost use Rattle.three_point.specs.Ranges.{counted_range_of};
 ghost use Rattle.three_point.specs.Bounds.{IsWithin};

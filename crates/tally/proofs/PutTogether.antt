@@ -8,7 +8,7 @@ use Rattle.std.proofs.lemmas.List.{take_more, take_more_set, length-take-le, get
 use Rattle.std.proofs.lemmas.List.Sums.{sum_by_more_le, get_or-le-sum_by}
 use Rattle.turning_points.specs.Pairs.{is_pair}
 use Rattle.tally.specs.declared.cells.Cell.{Cell}
-use Rattle.tally.specs.declared.cells.TheConstants.{MAX_CLASSES}
+use Rattle.calibration.specs.declared.grid.TheConstants.{MAX_CLASSES}
 use Rattle.tally.specs.Counts.{pair_of, total_of, Before, IsAscending, IsCell}
 use Rattle.tally.specs.Log.{with_more, with_cell, cells_of, rank}
 use Rattle.tally.proofs.Places.{UpTo}

@@ -10,7 +10,8 @@
 use Rattle.std.specs.Prelude.{◌≡◌, ℕ, ◌+◌, ◌*◌, ◌<◌, ◌≤◌, if◌then◌else◌, List, [], ◌∷◌, All, Option, Some, None, length, sum_by}
 use Rattle.turning_points.specs.Pairs.{is_pair}
 use Rattle.tally.specs.declared.cells.Cell.{Cell}
-use Rattle.tally.specs.declared.cells.TheConstants.{MIN_CLASSES, MAX_CLASSES, MAX_TOTAL}
+use Rattle.calibration.specs.declared.grid.TheConstants.{MIN_CLASSES, MAX_CLASSES}
+use Rattle.tally.specs.declared.cells.TheConstants.{MAX_TOTAL}
 use Rattle.tally.specs.Counts.{IsCell, is_from, pair_of, most_cells, total_of}
 
 abbrev pub with_more : Cell → ℕ → Cell

@@ -1,6 +1,7 @@
 ghost use Rattle.std.specs.Prelude.{◌≡◌, ℕ, ◌+◌, ◌^◌, ◌<◌, ◌≤◌, ◌⊎◌, ◌==◌, ◌&&◌, if◌then◌else◌, [], IfOk, find, length, take};
+ghost use Rattle.calibration.specs.declared.grid.TheConstants.{MAX_CLASSES, MIN_CLASSES};
 
-use crate::cells::{Cell, MAX_CLASSES, MAX_TOTAL, MIN_CLASSES};
+use crate::cells::{Cell, MAX_TOTAL};
 use crate::layout::{empty, first_from, order, place, raise, raise_all, write_cells};
 use std::alloc::{AllocError, Global};
 use std::marker::Model;

@@ -3,8 +3,9 @@ ghost use Rattle.std.specs.List.Sorted.{IsNonDecreasingBy};
 ghost use Rattle.turning_points.specs.Pairs.{is_pair};
 ghost use Rattle.tally.specs.Counts.{IsCell, total_of, is_from, pair_of};
 ghost use Rattle.tally.specs.Log.{amount, first_with, cells_of, rank};
+ghost use Rattle.calibration.specs.declared.grid.TheConstants.{MAX_CLASSES};
 
-use crate::cells::{Cell, MAX_CLASSES};
+use crate::cells::Cell;
 
 /// Whether the pair of a cell is this one.
 #[inline(always)]

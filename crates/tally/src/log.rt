@@ -2,8 +2,9 @@ ghost use Rattle.std.specs.Prelude.{◌≡◌, ℕ, ◌+◌, ◌*◌, ◌^◌, �
 ghost use Rattle.std.specs.Bool.{OnTrue, OnFalse};
 ghost use Rattle.tally.specs.Counts.{IsCell, IsCounts, count_of, total_of, is_from, most_cells, HasPlace, HasGreatestRoom};
 ghost use Rattle.tally.specs.Log.{cells_of};
+ghost use Rattle.calibration.specs.declared.grid.TheConstants.{MAX_CLASSES, MIN_CLASSES};
 
-use crate::cells::{Cell, MAX_CLASSES, MAX_TOTAL, MIN_CLASSES};
+use crate::cells::{Cell, MAX_TOTAL};
 use crate::entries::{amount_in, first_in, gather, pairs_in, put_first};
 use std::alloc::{AllocError, Global};
 use std::marker::Model;

@@ -1,8 +1,7 @@
 ghost use Rattle.std.specs.Prelude.{◌≡◌, ◌≤◌};
 ghost use Rattle.tally.specs.Counts.{most_cells};
 ghost use Rattle.tally.specs.Room.{room_for};
-
-use crate::cells::{MAX_CLASSES, MIN_CLASSES};
+ghost use Rattle.calibration.specs.declared.grid.TheConstants.{MAX_CLASSES, MIN_CLASSES};
 
 /// How many different cells a segment of at most `longest` samples can come to: the lesser of all
 /// pairs of the classes and half of the samples ([`crate::laws::room`]).

@@ -1,8 +1,9 @@
 ghost use Rattle.std.specs.Prelude.{◌≡◌, ℕ, take, ◌+◌, ◌^◌, ◌<◌, ◌≤◌, ◌⊎◌, ◌==◌, ◌&&◌, if◌then◌else◌, [], All, IfOk, find, length};
 ghost use Rattle.tally.specs.Counts.{IsCell, IsCounts, count_of, total_of, is_from, most_cells, HasGreatestRoom, HasPlace};
 ghost use Rattle.tally.specs.Log.{cells_of};
+ghost use Rattle.calibration.specs.declared.grid.TheConstants.{MAX_CLASSES, MIN_CLASSES};
 
-use crate::cells::{Cell, MAX_CLASSES, MAX_TOTAL, MIN_CLASSES};
+use crate::cells::{Cell, MAX_TOTAL};
 use crate::dense::Dense;
 use crate::log::Log;
 use std::alloc::{AllocError, Global};

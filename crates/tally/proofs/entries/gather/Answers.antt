@@ -3,7 +3,7 @@ use Rattle.std.specs.Prelude.{All, sum_by}
 use Rattle.std.specs.List.Sorted.{IsNonDecreasingBy}
 use Rattle.std.proofs.lemmas.List.{with_items_is}
 use Rattle.std.proofs.lemmas.List.Sorted.{IsNonDecreasingBy-from_sort_by_key, All-permutation, sum_by-IsPermutation}
-use Rattle.tally.specs.declared.cells.TheConstants.{MAX_CLASSES}
+use Rattle.calibration.specs.declared.grid.TheConstants.{MAX_CLASSES}
 use Rattle.tally.specs.Counts.{IsCell}
 use Rattle.tally.specs.Log.{cells_of, rank}
 use Rattle.tally.proofs.LogCells.{cells_of-permutation}

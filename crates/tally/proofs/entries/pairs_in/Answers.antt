@@ -1,7 +1,7 @@
 use Rattle.std.proofs.Common.{◌≡◌, ◌<◌, ◌≤◌, ◌+◌, ◌∙◌, ◌⊎◌, inl, inr, ℕ, refl, ap, sym, subst, length, get_or, arith}
 use Rattle.std.specs.Prelude.{Some, None, Option}
 use Rattle.std.proofs.lemmas.Bool.{cases_lt}
-use Rattle.tally.specs.declared.cells.TheConstants.{MAX_CLASSES}
+use Rattle.calibration.specs.declared.grid.TheConstants.{MAX_CLASSES}
 use Rattle.tally.specs.declared.cells.Cell.{Cell}
 use Rattle.tally.specs.Counts.{IsCell}
 use Rattle.tally.specs.Log.{cells_of}
