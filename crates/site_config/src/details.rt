@@ -82,7 +82,7 @@ fn curve_of(part: &Table, i: usize) -> Result<Detail, ConfigFault>
 {
     let kind = kind_of(part, key_of(i, KeyName::Kind))?;
     let category = natural_at(part, key_of(i, KeyName::Category), 0, 65535)? as u16;
-    if Detail::new(kind, category, 100).is_err() {
+    if !is_category(kind, category) {
         return Err(ConfigFault::Limit(key_of(i, KeyName::Category)));
     }
     let gamma = natural_at(part, key_of(i, KeyName::Gamma), 0, 65535)? as u16;
@@ -90,6 +90,14 @@ fn curve_of(part: &Table, i: usize) -> Result<Detail, ConfigFault>
         Ok(detail) => Ok(detail),
         Err(_) => Err(ConfigFault::Limit(key_of(i, KeyName::Gamma))),
     }
+}
+
+// Whether details of this kind may have the category. It is told before the factor is looked at, so
+// one that each detail may have stands for it.
+fn is_category(kind: Kind, category: u16) -> bool
+    ensures { result ≡ is_among category (categories kind) }
+{
+    Detail::new(kind, category, 100).is_ok()
 }
 
 #[tactic(auto, unfolding(crate::specs::Configuration::kind_at))]
