@@ -104,7 +104,7 @@ all='samples 1000000 used 1000000 missing 0 refused 0
 rainflow'
 wanting=0
 wrong=
-for limit in $(seq 1000 100 24000); do
+for limit in $(seq 1000 20 4000; seq 4000 500 24000); do
     printed=$( (ulimit -v "$limit" && exec "$program" table long) 2>/dev/null)
     got=$?
     case $got:$printed in

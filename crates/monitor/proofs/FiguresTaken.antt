@@ -16,9 +16,9 @@ use Rattle.turning_points.proofs.Given.{All-next_given}
 use Rattle.turning_points.proofs.Levels.{All-points}
 use Rattle.three_point.specs.Live.{HasCounted}
 use Rattle.three_point.specs.Run.{run, half_units}
-use Rattle.monitor.specs.Counts.{counts_of, sum_of}
+use Rattle.report.specs.Counts.{counts_of, sum_of}
 use Rattle.monitor.specs.Figures.{AreFigures, HoldHalfUnits}
-use Rattle.monitor.specs.declared.counts.SampleCounts.{SampleCounts}
+use Rattle.report.specs.declared.counts.SampleCounts.{SampleCounts}
 use Rattle.monitor.specs.declared.figures.Figures.{Figures}
 
 abbrev pub counts : ℕ → ℕ → ℕ → ℕ → SampleCounts

@@ -6,7 +6,7 @@ use Rattle.calibration.specs.History.{history}
 use Rattle.turning_points.specs.Turned.{Turned}
 use Rattle.three_point.specs.Run.{CountedRange, half_units_at_range}
 use Rattle.three_point.specs.Live.{HasCounted}
-use Rattle.monitor.specs.Counts.{counts_of}
+use Rattle.report.specs.Counts.{counts_of}
 use Rattle.monitor.specs.declared.figures.Figures.{Figures}
 
 -- these half units are those of a list of ranges, at each range

@@ -1,12 +1,9 @@
 pub mod Line
-pub mod Words
 pub mod Status
 pub mod StatusText
 pub mod FileState
 pub mod Answer
-pub mod Counts
 pub mod Figures
-pub mod Text
 pub mod Printed
 pub mod Run
 pub use Rattle.outside.specs.Fault

@@ -1,17 +1,15 @@
--- The words of a command line.
-use Rattle.std.specs.Prelude.{ℕ, Bool, false, not, ◌&&◌, List, [], ◌∷◌, Option, Some, None, if◌then◌else◌, codes, ◌==◌}
-use Rattle.std.specs.Cmp.Lexicographic.{pointwise}
+-- The commands that are built. The words of another command are still no command.
+use Rattle.std.specs.Prelude.{ℕ, List, Option, Some, None}
+use Rattle.command_words.specs.Line.{Command, Table, Init, Count, Report, Audit, Demo, command_of}
 
--- a command, with the values of its words
-pub data Command : Type 0 where
-  Table : List ℕ → Command
+abbrev pub built : Option Command → Option Command
+built None = None
+built (Some (Table file)) = Some (Table file)
+built (Some Init) = None
+built (Some (Count workers)) = None
+built (Some Report) = None
+built (Some Audit) = None
+built (Some (Demo seed samples workers)) = None
 
--- the word begins with a dash
-abbrev pub is_dashed : List ℕ → Bool
-is_dashed [] = false
-is_dashed (byte ∷ bytes) = byte == 45
-
--- `table FILE`, where FILE begins with no dash
-abbrev pub command_of : List (List ℕ) → Option Command
-command_of (first ∷ file ∷ []) = if pointwise ◌==◌ first (codes "table") && not (is_dashed file) then Some (Table file) else None
-command_of words = None
+abbrev pub built_command_of : List (List ℕ) → Option Command
+built_command_of words = built (command_of words)

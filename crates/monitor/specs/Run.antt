@@ -3,6 +3,7 @@
 --   Task       what a command has to do
 --   Runs       that a run did it
 --   table_task, usage_task, task_of    the tasks of the words of a command line
+--   no_memory_task                     what is left where memory ran out while the words were read
 use Rattle.std.specs.Prelude.{◌≡◌, ◌≢◌, ℕ, List, [], ◌∷◌, ◌++◌, Option, Some, None, option_map, IsSomeAnd}
 use Rattle.outside.specs.Fault.{Rose}
 use Rattle.outside.specs.Sink.{AppendsPrefix}
@@ -11,10 +12,10 @@ use Rattle.outside.specs.declared.site.Site as site
 use Rattle.outside.specs.declared.sink.Sink as sink
 use Rattle.monitor.specs.Answer.{MayAnswer, IsAnswer}
 use Rattle.monitor.specs.FileState.{file_state}
-use Rattle.monitor.specs.Line.{Command, Table}
+use Rattle.command_words.specs.Line.{Command, Table, Init, Count, Report, Audit, Demo}
 use Rattle.monitor.specs.Printed.{text_of}
 use Rattle.monitor.specs.declared.status.Status.{Status}
-use Rattle.monitor.specs.declared.status.Status.TheVariants.{Done, Usage, ReadFault, WriteFault}
+use Rattle.monitor.specs.declared.status.Status.TheVariants.{Done, Usage, ReadFault, WriteFault, OutOfMemory}
 
 pub record Outside : Type 1 where
   -- whether the site tells what its files hold, and the output what is written
@@ -87,6 +88,20 @@ usage_task = record {
   names = [];
 }
 
+-- nothing is asked for and nothing printed
+abbrev pub no_memory_task : Task
+no_memory_task = record {
+  text = None;
+  MayAnswer = λ answer. answer ≡ OutOfMemory;
+  IsAnswer = λ answer. answer ≡ OutOfMemory;
+  names = [];
+}
+
 abbrev pub task_of : Option Command → Files → Task
 task_of None files = usage_task
 task_of (Some (Table name)) files = table_task name files
+task_of (Some Init) files = usage_task
+task_of (Some (Count workers)) files = usage_task
+task_of (Some Report) files = usage_task
+task_of (Some Audit) files = usage_task
+task_of (Some (Demo seed samples workers)) files = usage_task

@@ -8,7 +8,7 @@ ghost use Rattle.monitor.specs.Run.{Runs, table_task, outside};
 ghost use Rattle.monitor.specs.Answer.{IsPrinting};
 
 use crate::Status;
-use crate::counting::table_of;
+use crate::counting::table_page;
 use crate::figures::Figures;
 use crate::read::read_recording;
 use outside::{Sink, Site};
@@ -16,7 +16,8 @@ use std::alloc::Global;
 
 /// Prints the rainflow table of a recording (ASTM E1049-85, 5.4.4).
 ///
-/// The file is read to its end, in pieces. All its sources are back at the site when the call returns, and no file is changed.
+/// The file is read to its end, in pieces. All its sources are back at the site when the call
+/// returns, and no file is changed.
 pub fn table_command<T: Site, O: Sink>(
     alloc: Global,
     file: &str,
@@ -55,10 +56,10 @@ fn print_table<O: Sink>(alloc: Global, figures: Figures, out: &mut O) -> Status
     ensures write { result ≡ Status.WriteFault → Rose (O.faults out.old) (O.faults out.new) }
     ensures printing { IsPrinting result }
 {
-    let Ok(text) = table_of(alloc, figures) else {
+    let Ok(page) = table_page(alloc, figures) else {
         return Status::OutOfMemory;
     };
-    match out.put(text.as_bytes()) {
+    match out.put(page.bytes()) {
         Ok(()) => Status::Done,
         Err(_) => Status::WriteFault,
     }

@@ -3,14 +3,14 @@ ghost use Rattle.calibration.specs.History.{history};
 ghost use Rattle.three_point.specs.Run.{half_units as half_units_of};
 ghost use Rattle.recording.specs.declared.TheConstants.{MAX_SAMPLES};
 
-use crate::counts::SampleCounts;
 use calibration::Classifier;
+use report::SampleCounts;
 use std::alloc::{AllocError, Global};
 use three_point::{HalfUnits, Run};
 use turning_points::Turner;
 
-/// What a table tells of samples that come in pieces: how many there are of each kind, and the half units of the points that are
-/// decided. It takes memory once, 10 bytes for each class.
+/// What a table tells of samples that come in pieces: how many there are of each kind, and the half
+/// units of the points that are decided. It takes memory once, 10 bytes for each class.
 #[derive(Drop)]
 pub struct Figures {
     pub counts: SampleCounts,
@@ -20,7 +20,8 @@ pub struct Figures {
     ghost all: { counts.used + counts.missing + counts.refused ≡ counts.samples },
     ghost places: { length half_units ≡ run.classes },
     // A place takes no more half units than there are samples.
-    ghost room: { 2 ^ 64 - 1 + length run.live ≤ (2 ^ 64 - 1 - sum half_units) + counts.used },
+    ghost room: { 2 ^ 64 - 1 + length run.live
+        ≤ (2 ^ 64 - 1 - sum half_units) + counts.used },
 }
 
 impl Figures {
@@ -42,7 +43,8 @@ impl Figures {
         })
     }
 
-    /// Takes the next samples, by way of `levels`, which has a place for each of them. It takes no memory.
+    /// Takes the next samples, by way of `levels`, which has a place for each of them. It takes no
+    /// memory.
     pub fn take(&mut self, classifier: &Classifier, raws: &[i32], levels: &mut [u16])
         requires samples { self.old.counts.samples ≤ MAX_SAMPLES }
         requires few { length raws.now ≤ 2 ^ 20 }
@@ -69,10 +71,13 @@ impl Figures {
     /// The half units at each range, of the whole history of the samples.
     pub fn finish(self) -> HalfUnits
         requires few { self.counts.samples ≤ MAX_SAMPLES }
-        requires figures { (grid : GridValue) × ((gain : GainValue) × ((w : List ℤ) × AreFigures grid gain self w)) }
-        ensures { (grid : GridValue) (gain : GainValue) (w : List ℤ) → AreFigures grid gain self w →
-            (length result ≡ grid.classes) ×
-            ((k : ℕ) → k < length result → slice_index result k ≡ half_units_of (history grid gain w) k) }
+        requires figures { (grid : GridValue) × ((gain : GainValue) ×
+            ((w : List ℤ) × AreFigures grid gain self w)) }
+        ensures figures { (grid : GridValue) (gain : GainValue) (w : List ℤ) →
+            AreFigures grid gain self w → (length result ≡ grid.classes) ×
+            ((k : ℕ) → k < length result →
+            slice_index result k ≡ half_units_of (history grid gain w) k) }
+        ensures few { sum result ≤ MAX_SAMPLES + 1 }
     {
         let Figures {
             turner,

@@ -9,13 +9,23 @@ pub const CLASSES: u16 = 64;
 /// How many half MPa a class of `table` is wide.
 pub const WIDTH: u16 = 2;
 
+/// The grid of `table`: 64 classes of 1 MPa from 0 MPa on.
+pub fn grid_of_table() -> Grid
+    ensures { result ≡ table_grid }
+{
+    match Grid::new(CLASSES, WIDTH, 0, 32) {
+        Ok(grid) => grid,
+        Err(_) => unreachable!(),
+    }
+}
+
 /// The grid and the gain of `table`: a raw value from 0 to 63 is its own level.
 pub fn table_classifier() -> Classifier
     ensures gain { result.gain ≡ table_gain }
     ensures grid { result.grid ≡ table_grid }
 {
-    match (Gain::new(1000, 1, 0), Grid::new(CLASSES, WIDTH, 0, 32)) {
-        (Ok(gain), Ok(grid)) => Classifier::new(&gain, &grid),
-        _ => unreachable!(),
+    match Gain::new(1000, 1, 0) {
+        Ok(gain) => Classifier::new(&gain, &grid_of_table()),
+        Err(_) => unreachable!(),
     }
 }

@@ -1,27 +1,26 @@
 //! The commands of the program, over a site of recordings and a sink for texts.
 //!
-//! `monitor` reads the words of the command line, and calls the command that they name. Its contract is the theorem of the
-//! program, `specs/Run.antt`: what is printed is the three-point count of ASTM E1049-85, 5.4.4, over the whole level history of
-//! the file, each answer has its cause in what the file is (`specs/FileState.antt`, `specs/Answer.antt`), the named file alone
-//! is asked for, and all sources are back at the site. The text of a table is `specs/Text.antt`, and what `table` prints of a
-//! file `specs/Printed.antt`.
+//! `monitor` reads the words of the command line, and calls the command that they name. Its
+//! contract is the theorem of the program, `specs/Run.antt`: what is printed is the three-point
+//! count of ASTM E1049-85, 5.4.4, over the whole level history of the file, each answer has its
+//! cause in what the file is (`specs/FileState.antt`, `specs/Answer.antt`), the named file alone is
+//! asked for, and all sources are back at the site. What `table` prints of a file is
+//! `specs/Printed.antt`, over the crate `report`'s text of a table.
 //!
-//! A recording is read in pieces of 64 KiB. The levels of a piece are put into a buffer, its points are found in their place and
-//! read by the run, which hands over the half units as it counts them: nothing of the recording is kept. `table` takes 96 KiB for
-//! the pieces and 10 bytes for each class, all before the first sample, and each sample takes constant time.
+//! A recording is read in pieces of 64 KiB. The levels of a piece are put into a buffer, its points
+//! are found in their place and read by the run, which hands over the half units as it counts them:
+//! nothing of the recording is kept. `table` takes 96 KiB for the pieces and 10 bytes for each
+//! class, all before the first sample, and each sample takes constant time.
 #![tactic(auto)]
 
 mod command;
 mod counting;
-mod counts;
 mod figures;
 mod grid;
 mod read;
 mod refusal;
 mod status;
-mod text;
 mod top;
-mod words;
 
 pub use command::table_command;
 pub use status::{RecordingFault, Status};

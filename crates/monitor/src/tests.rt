@@ -166,7 +166,8 @@ fn faults_of_the_outside(rt: HostRuntime) -> Result<(), Fail> {
     assert_eq!(rt; status, Status::WriteFault);
     assert_eq!(rt; out.written().len(), 0);
 
-    // Takes of 7 bytes: the head ends in the fifth, the body in the tenth, and the eleventh finds the end.
+    // Takes of 7 bytes: the head ends in the fifth, the body in the tenth, and the eleventh finds
+    // the end.
     let words = words_of(alloc, &["table", "t"])?;
     for failing in [0, 4, 5, 9, 10] {
         let mut site = FaultySite::new(alloc, file_of(alloc, &EXAMPLE)?, failing);

@@ -1,7 +1,8 @@
 //! The program: the command line, the current folder and standard output, handed to `monitor`.
 //!
-//! The adapters are the trusted edge. They meet the contracts of the outside, and tell nothing of what a real file
-//! or a terminal holds: no contract can. Each counts the errors of the system that it met.
+//! The adapters are the trusted edge. They meet the contracts of the outside, and tell nothing of
+//! what a real file or a terminal holds: no contract can. Each counts the errors of the system that
+//! it met.
 #![tactic(auto)]
 
 mod adapters;

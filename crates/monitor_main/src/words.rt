@@ -23,7 +23,8 @@ impl From<AllocError> for WordFault {
     }
 }
 
-/// The words behind the program's name, in order. The name is not read: it is a path, and need not be text.
+/// The words behind the program's name, in order. The name is not read: it is a path, and need not
+/// be text.
 pub fn words_of<R: Env>(rt: &R, alloc: Global) -> Result<Vec<String>, WordFault> {
     let mut words = Vec::new(alloc);
     for i in 1..usize::MAX {

@@ -43,6 +43,7 @@ pub fn count_left<C: RangeCounter>(live: &[u16], len: usize, counter: &mut C)
     requires room { len ≤ C.room counter.old }
     ensures holds { (given : List CountedRange) → C.holds counter.old given →
         C.holds counter.new (given ++ ranges_left (reverse (take len live.now))) }
+    ensures room { C.room counter.old ≤ C.room counter.new + len }
     ensures classes { C.classes counter.new ≡ C.classes counter.old }
 {
     for i in 1..len {

@@ -98,6 +98,7 @@ impl Run {
             C.holds counter.new (run [] points) }
         ensures ranges { (given : List CountedRange) → C.holds counter.old given →
             C.holds counter.new (given ++ ranges_left self.live) }
+        ensures room { C.room counter.old ≤ C.room counter.new + length self.live }
         ensures classes { C.classes counter.new ≡ C.classes counter.old }
     {
         count_left(&self.places, self.len, counter);

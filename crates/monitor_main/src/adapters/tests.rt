@@ -28,7 +28,8 @@ fn a_file_is_read_to_its_end(rt: HostRuntime) -> Result<(), Fail> {
     Ok(())
 }
 
-// A folder opens as a file does, and can't be read. A source that failed raises the site's count when it is given back.
+// A folder opens as a file does, and can't be read. A source that failed raises the site's count
+// when it is given back.
 #[test]
 fn a_site_counts_what_is_missing_and_what_fails(rt: HostRuntime) -> Result<(), Fail> {
     let mut site = FolderSite::new(&rt);

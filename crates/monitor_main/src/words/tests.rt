@@ -46,7 +46,8 @@ impl Env for Line {
     }
 }
 
-// A name that is no text is not read, and a word that is none is told. A word may be longer than the first room for it.
+// A name that is no text is not read, and a word that is none is told. A word may be longer than
+// the first room for it.
 #[test]
 fn words_behind_the_name(rt: HostRuntime) -> Result<(), Fail> {
     let mut line = Line::new(rt.alloc());

@@ -12,8 +12,8 @@ push-requires-clause-point c =
     let are = c.requires.figures in
     last_below are.0 are.1.0 c.args.self are.1.1.0 c.in-Some.point c.in-Some.ensures.closed are.1.1.1
 
-pub returns : goal.returns
-returns c = λ grid gain w are.
+pub returns-clause-figures : goal.returns-clause-figures
+returns-clause-figures c = λ grid gain w are.
     let self = c.args.self in
     let read : HasCounted (points (history grid gain w)) c.match-finish.run.live (HoldHalfUnits c.match-finish.half_units) = elim c.match-finish.branch [
       | in-Some last ↦ rw (last.run-is, last.half_units-is) (all_points grid gain self w (last.in-Some.point ∷ []) last.push.new.self.live last.push.new.counter last.in-Some.ensures.closed last.push.ensures.counted are)

@@ -1,0 +1,6 @@
+mod Lengths
+mod Fitting
+mod Written
+mod Billionths
+mod DetailFits
+pub mod SameCounts

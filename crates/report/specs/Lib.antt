@@ -1,0 +1,5 @@
+pub mod Counts
+pub mod Figures
+pub mod Lines
+pub mod Texts
+pub mod Page

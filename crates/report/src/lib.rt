@@ -1,0 +1,22 @@
+//! The printed texts: the table of a recording, the text of a gauge, the line of a detail.
+//!
+//! `specs/Texts.antt` has each text as a function of its numbers. A `Page` reserves room for the
+//! longest text once, and the calls write into it and take no memory: what is left of a text is
+//! known to fit, since the whole does.
+//!
+//! Cost: a decimal and a copy for each number. The matrix asks for each pair of levels.
+#![tactic(auto)]
+
+mod counts;
+mod detail;
+mod lines;
+mod page;
+mod table;
+
+pub use counts::SampleCounts;
+pub use detail::detail_text;
+pub use page::Page;
+pub use table::table_text;
+
+#[cfg(test)]
+mod tests;
