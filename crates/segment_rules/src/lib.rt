@@ -1,10 +1,28 @@
-//! The parts of a segment, and the rules that they keep.
+//! The parts of a segment, and the rules that they keep: as facts (`specs/Rules.antt`), as tests in
+//! a fixed order (`specs/Tests.antt`), and the first that is broken.
+//!
+//! `Parts` are lists: what stands of a segment on a disk. The rules come in three kinds. By the
+//! order rule the entries of each list ascend, so no body has two spellings; by the sum rules the
+//! numbers agree with each other; by the residue rules the residue is one, and the ends of the
+//! history lie beside it. `first_broken` goes once over each list, and twice over the ranges, and
+//! takes no memory. That the lists are short is no condition: ascending keys of 16 bits come to an
+//! end.
 #![tactic(auto)]
 
+mod ends;
 mod lists;
 mod name;
+mod order;
 mod parts;
+mod rule;
+mod rules;
+mod sums;
+#[cfg(test)]
+mod tests;
 
 pub use lists::{Bins, Cells, Levels};
 pub use name::Name;
+pub use order::first_wrong_from;
 pub use parts::Parts;
+pub use rule::BrokenRule;
+pub use rules::first_broken;

@@ -2,8 +2,8 @@ use crate::lists::{Bins, Cells, Levels};
 use crate::name::Name;
 use turning_points::Ends;
 
-/// The parts of a segment, as lists: what stands of it on a disk. The rules that make them a segment's are those of
-/// `specs/Rules.antt`.
+/// The parts of a segment, as lists: what stands of it on a disk. [`crate::first_broken`] tells
+/// whether they are a segment's.
 #[derive(Debug, Drop)]
 pub struct Parts {
     pub name: Name,

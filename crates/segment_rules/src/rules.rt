@@ -1,0 +1,56 @@
+ghost use Rattle.std.specs.Prelude.{◌≡◌, ◌↔◌, IsNone, IsTrue};
+ghost use Rattle.four_point.specs.Residue.{IsResidue};
+ghost use Rattle.segment_rules.specs.Parts.{parts_value};
+ghost use Rattle.segment_rules.specs.Rules.{IsSegment};
+ghost use Rattle.segment_rules.specs.Tests.{first_broken, first_unended, is_residue};
+
+use crate::ends::{has_ends, has_length};
+use crate::order::first_wrong_entry;
+use crate::parts::Parts;
+use crate::rule::BrokenRule;
+use crate::sums::first_wrong_sum;
+use calibration::Grid;
+
+// The first residue rule that the parts break, where `rests` tells the first of them.
+#[tactic(auto, unfolding(crate::specs::Tests::first_unended))]
+fn first_wrong_end(grid: &Grid, parts: &Parts, rests: bool) -> Option<BrokenRule>
+    requires { rests ≡ is_residue grid.now.classes parts.now.residue }
+    ensures { result ≡ first_unended grid.now (parts_value parts.now) }
+{
+    let residue = parts.residue.as_slice();
+    if !rests {
+        return Some(BrokenRule::Residue { rule: 1 });
+    }
+    if !has_length(parts.ends.points, residue.len()) {
+        return Some(BrokenRule::Residue { rule: 2 });
+    }
+    if !has_ends(grid.classes(), &parts.ends, residue) {
+        return Some(BrokenRule::Residue { rule: 3 });
+    }
+    None
+}
+
+// The first of all.
+#[tactic(auto, unfolding(crate::specs::Tests::first_broken))]
+fn first_wrong(grid: &Grid, parts: &Parts, rests: bool) -> Option<BrokenRule>
+    requires { IsTrue rests ↔ IsResidue grid.now.classes parts.now.residue }
+    ensures { result ≡ first_broken grid.now (parts_value parts.now) }
+{
+    if let Some(rule) = first_wrong_entry(grid, parts) {
+        return Some(rule);
+    }
+    if let Some(rule) = first_wrong_sum(parts) {
+        return Some(rule);
+    }
+    first_wrong_end(grid, parts, rests)
+}
+
+/// The first rule that the parts break over a grid. `rests` tells whether the residue is one, as
+/// `four_point::Reducer::load` does when it takes it.
+pub fn first_broken(grid: &Grid, parts: &Parts, rests: bool) -> Option<BrokenRule>
+    requires { IsTrue rests ↔ IsResidue grid.now.classes parts.now.residue }
+    ensures rule { result ≡ first_broken grid.now (parts_value parts.now) }
+    ensures segment { IsNone result ↔ IsSegment grid.now (parts_value parts.now) }
+{
+    first_wrong(grid, parts, rests)
+}
