@@ -10,7 +10,7 @@ use Rattle.calibration.proofs.History.{history-append, missing_count-append, ref
 use Rattle.calibration.proofs.HistoryBelow.{history_below}
 use Rattle.calibration.proofs.Places.{counts_add}
 use Rattle.turning_points.specs.Points.{points}
-use Rattle.turning_points.specs.Turned.{Turned}
+use Rattle.turning_points.specs.Turned.{HasGiven}
 use Rattle.turning_points.specs.declared.turner.Recent.{Recent}
 use Rattle.turning_points.proofs.Given.{All-next_given}
 use Rattle.turning_points.proofs.Levels.{All-points}
@@ -43,10 +43,10 @@ module _ (grid : GridValue) (gain : GainValue) where
     kinds_are : counts (length raws) used missing refused ≡ counts_of grid gain raws
     kinds_are = same_counts _ _ _ _ _ _ _ _ refl u m r
 
-    module _ (old : Figures) (w : List ℤ) (piece more : List ℕ) (turner : Recent) (levels : piece ≡ history grid gain raws) (turned : (h given : List ℕ) → Turned h given old.turner → Turned (h ++ piece) (given ++ more) turner) where
-      turned_more : (are : AreFigures grid gain old w) → Turned (history grid gain (w ++ raws)) (are.decided ++ more) turner
+    module _ (old : Figures) (w : List ℤ) (piece more : List ℕ) (turner : Recent) (levels : piece ≡ history grid gain raws) (turned : (h given : List ℕ) → HasGiven h given old.turner → HasGiven (h ++ piece) (given ++ more) turner) where
+      turned_more : (are : AreFigures grid gain old w) → HasGiven (history grid gain (w ++ raws)) (are.decided ++ more) turner
       turned_more are =
-          subst (λ (h : List ℕ). Turned h (are.decided ++ more) turner)
+          subst (λ (h : List ℕ). HasGiven h (are.decided ++ more) turner)
           (ap (λ (l : List ℕ). history grid gain w ++ l) levels ∙ sym (history-append grid gain w raws)) (turned (history grid gain w) are.decided are.turned)
 
       -- the points that it decides are classes of the grid
@@ -61,13 +61,13 @@ module _ (grid : GridValue) (gain : GainValue) where
       figures_more new t sum counted classes are = record {
         counts = sum ∙ ap (λ (c : SampleCounts). sum_of c (counts (length raws) used missing refused)) are.counts ∙ ap (λ (c : SampleCounts). sum_of (counts_of grid gain w) c) kinds_are ∙ sym (counts_of-append w raws);
         decided = are.decided ++ more;
-        turned = subst (λ (k : Recent). Turned (history grid gain (w ++ raws)) (are.decided ++ more) k) (sym t) (turned_more are);
+        turned = subst (λ (k : Recent). HasGiven (history grid gain (w ++ raws)) (are.decided ++ more) k) (sym t) (turned_more are);
         counted = counted are.decided are.counted;
         classes = classes ∙ are.classes;
       }
 
 -- the last point of a history is a class of the grid
-pub last_below : (grid : GridValue) (gain : GainValue) (f : Figures) (w : List ℤ) (point : ℕ) → ((h given : List ℕ) → Turned h given f.turner → given ++ point ∷ [] ≡ points h) → AreFigures grid gain f w → point < f.run.classes
+pub last_below : (grid : GridValue) (gain : GainValue) (f : Figures) (w : List ℤ) (point : ℕ) → ((h given : List ℕ) → HasGiven h given f.turner → given ++ point ∷ [] ≡ points h) → AreFigures grid gain f w → point < f.run.classes
 last_below grid gain f w point closed are =
     let h = history grid gain w in
     let all : All (λ p. p < grid.classes) (are.decided ++ point ∷ []) = subst (λ (l : List ℕ). All (λ p. p < grid.classes) l) (sym (closed h are.decided are.turned)) (All-points (λ p. p < grid.classes) h (history_below grid gain w)) in
@@ -83,7 +83,7 @@ half_units_whole grid gain w live counted all has finish k inside = finish (poin
 
 -- with the last point, where there is one, all points were read
 pub all_points : (grid : GridValue) (gain : GainValue) (f : Figures) (w : List ℤ) (last live half_units : List ℕ)
-    → ((h given : List ℕ) → Turned h given f.turner → given ++ last ≡ points h)
+    → ((h given : List ℕ) → HasGiven h given f.turner → given ++ last ≡ points h)
     → ((before : List ℕ) → HasCounted before f.run.live (HoldHalfUnits f.half_units) → HasCounted (before ++ last) live (HoldHalfUnits half_units))
     → AreFigures grid gain f w → HasCounted (points (history grid gain w)) live (HoldHalfUnits half_units)
 all_points grid gain f w last live half_units closed push are =

@@ -3,7 +3,7 @@ use Rattle.std.specs.Prelude.{◌≡◌, ◌<◌, ℕ, ℤ, List, length, slice_
 use Rattle.calibration.specs.Gain.{GainValue}
 use Rattle.calibration.specs.Grid.{GridValue}
 use Rattle.calibration.specs.History.{history}
-use Rattle.turning_points.specs.Turned.{Turned}
+use Rattle.turning_points.specs.Turned.{HasGiven}
 use Rattle.three_point.specs.Run.{CountedRange, half_units_at_range}
 use Rattle.three_point.specs.Live.{HasCounted}
 use Rattle.report.specs.Counts.{counts_of}
@@ -18,6 +18,6 @@ HoldHalfUnits half_units ranges = (k : ℕ) → k < length half_units → slice_
 pub record AreFigures (grid : GridValue) (gain : GainValue) (f : Figures) (w : List ℤ) : Type 0 where
   pub counts : f.counts ≡ counts_of grid gain w
   pub decided : List ℕ
-  pub turned : Turned (history grid gain w) decided f.turner
+  pub turned : HasGiven (history grid gain w) decided f.turner
   pub counted : HasCounted decided f.run.live (HoldHalfUnits f.half_units)
   pub classes : f.run.classes ≡ grid.classes

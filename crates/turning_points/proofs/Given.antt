@@ -5,7 +5,7 @@ use Rattle.std.proofs.Common.{ℕ, ◌≤◌, List, [], ◌∷◌, ◌++◌, len
 use Rattle.std.specs.Prelude.{All}
 use Rattle.std.proofs.lemmas.List.Elements.{All-nil, All-cons, All-head, All-tail}
 use Rattle.turning_points.specs.Points.{points}
-use Rattle.turning_points.specs.Turned.{but_last, decided, Turned}
+use Rattle.turning_points.specs.Turned.{but_last, decided, HasGiven}
 use Rattle.turning_points.specs.declared.turner.Recent.{Recent}
 use Rattle.turning_points.proofs.Levels.{All-points, length-points}
 
@@ -29,15 +29,15 @@ length-decided [] = omega arith
 length-decided (x ∷ []) = omega arith
 length-decided (x ∷ y ∷ l) = omega (arith, length-but_last (y ∷ l))
 
-pub All-given : (P : ℕ → Type 0) {h given : List ℕ} {kept : Recent} → All P h → Turned h given kept → All P given
+pub All-given : (P : ℕ → Type 0) {h given : List ℕ} {kept : Recent} → All P h → HasGiven h given kept → All P given
 All-given P {h} a t = subst (All P) (sym t.given_are) (All-decided P (points h) (All-points P h a))
 
 All-behind : (P : ℕ → Type 0) (u v : List ℕ) → All P (u ++ v) → All P v
 All-behind P [] v a = a
 All-behind P (x ∷ u) v a = All-behind P u v (All-tail P x (u ++ v) a)
 
-pub All-next_given : (P : ℕ → Type 0) {h : List ℕ} (given more : List ℕ) {kept : Recent} → All P h → Turned h (given ++ more) kept → All P more
+pub All-next_given : (P : ℕ → Type 0) {h : List ℕ} (given more : List ℕ) {kept : Recent} → All P h → HasGiven h (given ++ more) kept → All P more
 All-next_given P given more a t = All-behind P given more (All-given P a t)
 
-pub length-given : {h given : List ℕ} {kept : Recent} → Turned h given kept → length given ≤ length h
+pub length-given : {h given : List ℕ} {kept : Recent} → HasGiven h given kept → length given ≤ length h
 length-given {h} {given} t = subst (λ l. length l ≤ length h) (sym t.given_are) (omega (arith, length-decided (points h), length-points h))

@@ -2,8 +2,12 @@ ghost use Rattle.std.specs.Prelude.{◌≡◌, ℕ, List, ◌++◌, ◌+◌, ◌
 ghost use Rattle.turning_points.specs.Points.{points};
 ghost use Rattle.turning_points.specs.EndPoints.{ends_of, ends_push, meets, no_ends, put};
 ghost use Rattle.turning_points.specs.Ends.{end_points};
+ghost use Rattle.turning_points.specs.declared.ends.TheConstants.{MAX_POINTS};
 
 use crate::in_place::turns_at;
+
+/// The most points of a history that is joined or counted. The longest recording has fewer than half as many.
+pub const MAX_POINTS: u64 = 1 << 41;
 
 /// The number of points of a history, its first two and its last two. For one point `p` they are `[p, 0]` and `[0, p]`, for none
 /// all are 0.
@@ -137,7 +141,7 @@ pub fn put_behind(level: u16, ends: &Ends) -> Ends
 
 // The left's last two points, put before the right one by one.
 fn met(left: &Ends, right: &Ends) -> Ends
-    requires few { left.now.points + right.now.points ≤ 2 ^ 41 }
+    requires few { left.now.points + right.now.points ≤ MAX_POINTS }
     ensures { end_points result ≡ meets (end_points left.now) (end_points right.now) }
 {
     if left.points == 0 {
@@ -162,7 +166,7 @@ fn met(left: &Ends, right: &Ends) -> Ends
 
 /// The ends of two histories, one after the other.
 pub fn join_ends(left: &Ends, right: &Ends) -> Ends
-    requires few { left.now.points + right.now.points ≤ 2 ^ 41 }
+    requires few { left.now.points + right.now.points ≤ MAX_POINTS }
     ensures meets { end_points result ≡ meets (end_points left.now) (end_points right.now) }
     ensures histories { (u v : List ℕ) → end_points left.now ≡ ends_of (points u) → end_points right.now ≡ ends_of (points v) →
         end_points result ≡ ends_of (points (u ++ v)) }

@@ -24,6 +24,6 @@ mod tests;
 mod turner;
 
 pub use direction::is_between;
-pub use ends::{Ends, ends_of, join_ends, no_ends, put_before, put_behind};
+pub use ends::{Ends, MAX_POINTS, ends_of, join_ends, no_ends, put_before, put_behind};
 pub use in_place::keep_points;
 pub use turner::Turner;

@@ -1,7 +1,7 @@
 use Rattle.std.proofs.Common.{◌≡◌, ◌++◌, take, drop, sym, ap, ◌∙◌, subst, arith}
 use Rattle.std.proofs.lemmas.List.{take-append-le}
 use Rattle.turning_points.specs.Points.{changes}
-use Rattle.turning_points.specs.Turned.{Turned}
+use Rattle.turning_points.specs.Turned.{HasGiven}
 use Rattle.turning_points.specs.Pieces.{last_of, turns_in, recent_of}
 use Rattle.turning_points.proofs.Pieces.{piece}
 use Rattle.turning_points.proofs.turner.Turner.keep_behind.Goals as goal
@@ -18,5 +18,5 @@ returns-clause-turned c h given t =
     let point = c.last_level.ensures ∙ ap (last_of p) turns in
     let newest = c.last_level-newest.ensures ∙ ap (last_of x) c.keep_changes-count.ensures.changes in
     let state = c.new-self-inside.ensures ∙ ap (λ a. recent_of a c.last_level-newest.result) point ∙ ap (recent_of (last_of p (turns_in p x (changes x l)))) newest in
-    subst (λ s. Turned (h ++ l) (given ++ take k.result (k.new.levels ++ rest)) s) (sym state)
-    (subst (λ g. Turned (h ++ l) (given ++ g) (recent_of (last_of p (turns_in p x (changes x l))) (last_of x (changes x l)))) (sym turns) (piece h given p x l t))
+    subst (λ s. HasGiven (h ++ l) (given ++ take k.result (k.new.levels ++ rest)) s) (sym state)
+    (subst (λ g. HasGiven (h ++ l) (given ++ g) (recent_of (last_of p (turns_in p x (changes x l))) (last_of x (changes x l)))) (sym turns) (piece h given p x l t))
