@@ -1,11 +1,12 @@
 -- A value with the tables of a list of points.
-use Rattle.std.proofs.Common.{◌≡◌, ℕ, ◌+◌, ◌^◌, ◌<◌, ◌≤◌, Bool, List, [], ◌∷◌, length, take, sum, sym, subst, arith}
+use Rattle.std.proofs.Common.{◌≡◌, ℕ, ◌+◌, ◌<◌, ◌≤◌, Bool, List, [], ◌∷◌, length, take, sum, sym, subst, arith}
 use Rattle.std.specs.Prelude.{All}
 use Rattle.std.proofs.lemmas.List.Elements.{All-head, All-tail}
 use Rattle.turning_points.specs.Points.{points}
 use Rattle.turning_points.specs.EndPoints.{last_point}
-use Rattle.level_crossing.specs.Crossings.{crossings, first_of, is_some, IsCrossed, Crosses}
+use Rattle.level_crossing.specs.Crossings.{crossings, first_of, is_some, IsCrossings, Crosses}
 use Rattle.level_crossing.proofs.OfPoints.{crossings_few, crosses_points}
+use Rattle.turning_points.specs.declared.ends.TheConstants.{MAX_POINTS}
 
 first_below : (k : ℕ) (p : List ℕ) → 1 ≤ k → All (λ x. x < k) p → first_of p < k
 first_below k [] o a = omega arith
@@ -26,7 +27,7 @@ pub record Parts (k r : ℕ) (p : List ℕ) (some : Bool) (first last : ℕ) (b 
   pub counts : (l : ℕ) → sum (take (l + 1) b) ≡ sum (take (l + 1) s) + crossings r l p
   pub enough : (i : ℕ) → sum (take (i + 1) s) ≤ sum (take i b)
 
-pub filled_rules : {k r : ℕ} {p : List ℕ} {some : Bool} {first last : ℕ} {b s : List ℕ} → Parts k r p some first last b s → (2 ≤ k) × (k ≤ 1024) → (1 ≤ r) × (r < k) → All (λ x. x < k) p → length p ≤ 2 ^ 41 → IsCrossed (record { classes = k; reference = r; some = some; first = first; last = last; begins = b; stops = s })
+pub filled_rules : {k r : ℕ} {p : List ℕ} {some : Bool} {first last : ℕ} {b s : List ℕ} → Parts k r p some first last b s → (2 ≤ k) × (k ≤ 1024) → (1 ≤ r) × (r < k) → All (λ x. x < k) p → length p ≤ MAX_POINTS → IsCrossings (record { classes = k; reference = r; some = some; first = first; last = last; begins = b; stops = s })
 filled_rules {k} {r} {p} g c d a f = record {
   classes = c;
   reference = d;

@@ -1,4 +1,4 @@
-pub mod Crossed
+pub mod PushJoin
 pub mod OfPoints
 pub mod Halves
 pub mod Settled

@@ -1,5 +1,5 @@
 -- Crossings that are loaded: what stops at a place is what began at the place before.
-use Rattle.std.proofs.Common.{◌≡◌, ℕ, zero, suc, ◌+◌, ◌^◌, ◌<◌, ◌≤◌, Bool, true, false, cond, eqb, List, [], ◌∷◌, get_or, take, replicate, sum, not, refl, sym, ap, subst, ◌∙◌, arith}
+use Rattle.std.proofs.Common.{◌≡◌, ℕ, zero, suc, ◌+◌, ◌<◌, ◌≤◌, Bool, true, false, cond, eqb, List, [], ◌∷◌, get_or, take, replicate, sum, not, refl, sym, ap, subst, ◌∙◌, arith}
 use Rattle.std.specs.Prelude.{All}
 use Rattle.std.proofs.lemmas.Bool.Decides.{nat_tests}
 use Rattle.std.proofs.lemmas.List.{length-replicate}
@@ -12,8 +12,9 @@ use Rattle.tables.proofs.Counting.{sum_cons}
 use Rattle.tables.proofs.Filled.{placed, none_before, filled_at, table_at, table_long}
 use Rattle.lemmas.proofs.Lists.{get_or-zeros}
 use Rattle.calibration.specs.declared.grid.TheConstants.{MAX_CLASSES}
-use Rattle.level_crossing.specs.Crossings.{IsCrossed, count_at as crossing_count}
+use Rattle.level_crossing.specs.Crossings.{IsCrossings, count_at as crossing_count}
 use Rattle.level_crossing.specs.Loading.{CanLoad, loaded_of}
+use Rattle.turning_points.specs.declared.ends.TheConstants.{MAX_POINTS}
 
 pub sum_take_more : (t : List ℕ) (i : ℕ) → sum (take (suc i) t) ≡ sum (take i t) + get_or t i 0
 sum_take_more [] zero = refl
@@ -67,7 +68,7 @@ module _ (classes reference : ℕ) (e : EndPoints) (bins : List Bin) (k : IsGrid
   pub crossed_counts : (l : ℕ) → crossing_count (loaded_of classes reference e bins) l ≡ count_at l bins
   crossed_counts l = omega (arith, at_more (filled 0 (replicate (classes + 1) 0) bins) l, behind l, begins_at l)
 
-  pub crossed_is : IsCrossed (loaded_of classes reference e bins)
+  pub crossed_is : IsCrossings (loaded_of classes reference e bins)
   crossed_is = record {
     classes = k.0;
     reference = k.1;
@@ -76,13 +77,13 @@ module _ (classes reference : ℕ) (e : EndPoints) (bins : List Bin) (k : IsGrid
     first = c.first;
     last = c.last;
     enough = λ i. omega (arith, behind i);
-    few = λ i. omega (arith, at_more (filled 0 (replicate (classes + 1) 0) bins) i, behind i, begins_at i, count_few i (2 ^ 41) bins c.few);
+    few = λ i. omega (arith, at_more (filled 0 (replicate (classes + 1) 0) bins) i, behind i, begins_at i, count_few i (MAX_POINTS) bins c.few);
   }
 
 -- tables are loaded in place of two as long
 pub crossed_closed : (classes reference : ℕ) (e : EndPoints) (bins : List Bin) (k : IsGrid classes reference) (c : CanLoad classes e bins) (n m : ℕ) (b s : List ℕ) → n ≡ classes + 1 → m ≡ classes + 1
-    → b ≡ filled 0 (replicate n 0) bins → s ≡ filled 1 (replicate m 0) bins → IsCrossed (record { classes = classes; reference = reference; some = not (eqb e.points 0); first = e.first; last = e.last; begins = b; stops = s })
+    → b ≡ filled 0 (replicate n 0) bins → s ≡ filled 1 (replicate m 0) bins → IsCrossings (record { classes = classes; reference = reference; some = not (eqb e.points 0); first = e.first; last = e.last; begins = b; stops = s })
 crossed_closed classes reference e bins k c n m b s same other is are =
     let b_is : b ≡ filled 0 (replicate (classes + 1) 0) bins = is ∙ ap (λ j. filled 0 (replicate j 0) bins) same in
     let s_is : s ≡ filled 1 (replicate (classes + 1) 0) bins = are ∙ ap (λ j. filled 1 (replicate j 0) bins) other in
-    subst (λ t. IsCrossed (record { classes = classes; reference = reference; some = not (eqb e.points 0); first = e.first; last = e.last; begins = t; stops = s })) (sym b_is) (subst (λ t. IsCrossed (record { classes = classes; reference = reference; some = not (eqb e.points 0); first = e.first; last = e.last; begins = filled 0 (replicate (classes + 1) 0) bins; stops = t })) (sym s_is) (crossed_is classes reference e bins k c))
+    subst (λ t. IsCrossings (record { classes = classes; reference = reference; some = not (eqb e.points 0); first = e.first; last = e.last; begins = t; stops = s })) (sym b_is) (subst (λ t. IsCrossings (record { classes = classes; reference = reference; some = not (eqb e.points 0); first = e.first; last = e.last; begins = filled 0 (replicate (classes + 1) 0) bins; stops = t })) (sym s_is) (crossed_is classes reference e bins k c))

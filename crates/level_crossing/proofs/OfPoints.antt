@@ -6,17 +6,17 @@ use Rattle.std.proofs.lemmas.Bool.Decides.{nat_tests}
 use Rattle.turning_points.specs.Points.{points, IsBetween}
 use Rattle.turning_points.specs.EndPoints.{last_point}
 use Rattle.turning_points.proofs.Zigzag.{Added, first, equal, second, turn, between, is_added, points_cons, zig_points}
-use Rattle.level_crossing.specs.Crossings.{crossed, crossings, first_of, is_some, Crossed, Crosses}
+use Rattle.level_crossing.specs.Crossings.{step_crossings, crossings, first_of, is_some, CrossingsValue, Crosses}
 
 -- the step from x to the first level of p
 abbrev step : ℕ → ℕ → ℕ → List ℕ → ℕ
 step r l x [] = 0
-step r l x (y ∷ p) = crossed r l x y
+step r l x (y ∷ p) = step_crossings r l x y
 
-equal_step : (r l x y : ℕ) → x ≡ y → crossed r l x y ≡ 0
+equal_step : (r l x y : ℕ) → x ≡ y → step_crossings r l x y ≡ 0
 equal_step r l x y e = grind (arith, nat_tests)
 
-passed_step : (r l x y z : ℕ) → IsBetween x y z → crossed r l x z ≡ crossed r l x y + crossed r l y z
+passed_step : (r l x y z : ℕ) → IsBetween x y z → step_crossings r l x z ≡ step_crossings r l x y + step_crossings r l y z
 passed_step r l x y z b = grind (arith, nat_tests)
 
 crossings_added : (r l : ℕ) {x : ℕ} {p m : List ℕ} → Added x p m → crossings r l m ≡ step r l x p + crossings r l p
@@ -51,7 +51,7 @@ first_points : (h : List ℕ) → first_of (points h) ≡ first_of h
 first_points [] = refl
 first_points (x ∷ h) = refl
 
-pub crosses_points : (v : Crossed) (p h : List ℕ) → points h ≡ p → Crosses v p → Crosses v h
+pub crosses_points : (v : CrossingsValue) (p h : List ℕ) → points h ≡ p → Crosses v p → Crosses v h
 crosses_points v p h e c =
     let g = subst (Crosses v) (sym e) c in
     record {
@@ -62,7 +62,7 @@ crosses_points v p h e c =
     }
 
 -- no boundary is crossed at each level
-few_added : (r l x y : ℕ) → crossed r l x y ≤ 1
+few_added : (r l x y : ℕ) → step_crossings r l x y ≤ 1
 few_added r l x y = grind (arith, nat_tests)
 
 pub crossings_few : (r l : ℕ) (h : List ℕ) → crossings r l h ≤ length h - 1

@@ -5,8 +5,9 @@ use Rattle.std.proofs.lemmas.Bool.Decides.{nat_tests}
 use Rattle.turning_points.specs.EndPoints.{last_point}
 use Rattle.tables.specs.Tables.{raise, added as both}
 use Rattle.level_crossing.specs.Halves.{below_at}
-use Rattle.level_crossing.specs.Crossings.{crossed, crossings, first_of, is_some, Crossed, count_at, IsCrossed, Crosses, low, high, begin_step, stop_step, level_of, append_of, between, no_crossings}
+use Rattle.level_crossing.specs.Crossings.{step_crossings, crossings, first_of, is_some, CrossingsValue, count_at, IsCrossings, Crosses, low, high, begin_step, stop_step, level_of, append_of, between, no_crossings}
 use Rattle.tables.proofs.Counting.{sum_cons, length_added, added_at}
+use Rattle.turning_points.specs.declared.ends.TheConstants.{MAX_POINTS}
 
 take_none : (t : List ℕ) → sum (take 0 t) ≡ 0
 take_none t = refl
@@ -44,7 +45,7 @@ sum_take_more (x ∷ t) (suc i) = omega (arith, sum_cons x (take (suc i) t), sum
 pub at_more : (t : List ℕ) (i : ℕ) → sum (take (i + 1) t) ≡ sum (take i t) + get_or t i 0
 at_more t i = let e : i + 1 ≡ suc i = omega arith in ap (λ k. sum (take k t)) e ∙ sum_take_more t i
 
-crossed_is : (r l x y : ℕ) → 1 ≤ r → crossed r l x y ≡ cond (leb (low r x y) l && leb l (high r x y)) 1 0
+crossed_is : (r l x y : ℕ) → 1 ≤ r → step_crossings r l x y ≡ cond (leb (low r x y) l && leb l (high r x y)) 1 0
 crossed_is r l x y h = grind (arith, nat_tests)
 
 within_step : (r x y k : ℕ) → 1 ≤ r → x < k → y < k → (1 ≤ low r x y) × (high r x y < k)
@@ -94,7 +95,7 @@ pub record Stepped (k : ℕ) (b s b' s' : List ℕ) (more : ℕ → ℕ) : Type 
   pub count : (l : ℕ) → sum (take (l + 1) b') - sum (take (l + 1) s') ≡ (sum (take (l + 1) b) - sum (take (l + 1) s)) + more l
 
 module _ (k r x y : ℕ) (b s : List ℕ) (h : 1 ≤ r) (p : x < k) (q : y < k) (g : Sound k b s) where
-  step_yes : low r x y ≤ high r x y → Stepped k b s (raise b (low r x y)) (raise s (high r x y + 1)) (λ l. crossed r l x y)
+  step_yes : low r x y ≤ high r x y → Stepped k b s (raise b (low r x y)) (raise s (high r x y + 1)) (λ l. step_crossings r l x y)
   step_yes o =
       let w = within_step r x y k h p q in
       let m : low r x y < length b = omega (arith, g.begins) in
@@ -108,12 +109,12 @@ module _ (k r x y : ℕ) (b s : List ℕ) (h : 1 ≤ r) (p : x < k) (q : y < k) 
         count = λ l. omega (arith, one_step (sum (take (l + 1) b)) (sum (take (l + 1) s)) _ _ (low r x y) (high r x y) l o (omega (arith, g.enough l, begins_grow b l)) (sum_take_raise b (low r x y) (l + 1) m) (sum_take_raise s (high r x y + 1) (l + 1) n), crossed_is r l x y h);
       }
 
-  step_no : high r x y < low r x y → Stepped k b s b s (λ l. crossed r l x y)
+  step_no : high r x y < low r x y → Stepped k b s b s (λ l. step_crossings r l x y)
   step_no o = record { sound = g; count = λ l. omega (arith, crossed_is r l x y h, no_step (low r x y) (high r x y) l o) }
 
-  step_on : ((high r x y < low r x y) ⊎ (low r x y ≤ high r x y)) → Stepped k b s (begin_step true r x y b) (stop_step true r x y s) (λ l. crossed r l x y)
-  step_on (inl o) = subst (λ t. Stepped k b s t (stop_step true r x y s) (λ l. crossed r l x y)) (sym (begin_no r x y b o)) (subst (λ t. Stepped k b s b t (λ l. crossed r l x y)) (sym (stop_no r x y s o)) (step_no o))
-  step_on (inr o) = subst (λ t. Stepped k b s t (stop_step true r x y s) (λ l. crossed r l x y)) (sym (begin_yes r x y b o)) (subst (λ t. Stepped k b s (raise b (low r x y)) t (λ l. crossed r l x y)) (sym (stop_yes r x y s o)) (step_yes o))
+  step_on : ((high r x y < low r x y) ⊎ (low r x y ≤ high r x y)) → Stepped k b s (begin_step true r x y b) (stop_step true r x y s) (λ l. step_crossings r l x y)
+  step_on (inl o) = subst (λ t. Stepped k b s t (stop_step true r x y s) (λ l. step_crossings r l x y)) (sym (begin_no r x y b o)) (subst (λ t. Stepped k b s b t (λ l. step_crossings r l x y)) (sym (stop_no r x y s o)) (step_no o))
+  step_on (inr o) = subst (λ t. Stepped k b s t (stop_step true r x y s) (λ l. step_crossings r l x y)) (sym (begin_yes r x y b o)) (subst (λ t. Stepped k b s (raise b (low r x y)) t (λ l. step_crossings r l x y)) (sym (stop_yes r x y s o)) (step_yes o))
 
   pub stepped : (c : Bool) → Stepped k b s (begin_step c r x y b) (stop_step c r x y s) (λ l. between c r l x y)
   stepped true = step_on (cases_lt (high r x y) (low r x y))
@@ -143,23 +144,23 @@ crossings_append r l (x ∷ []) [] = omega arith
 crossings_append r l (x ∷ []) (y ∷ v) = omega arith
 crossings_append r l (x ∷ y ∷ u) v = omega (arith, crossings_append r l (y ∷ u) v)
 
-pub stop_small : (v : Crossed) → IsCrossed v → (k : ℕ) → get_or v.stops k 0 < 2 ^ 42
+pub stop_small : (v : CrossingsValue) → IsCrossings v → (k : ℕ) → get_or v.stops k 0 < 2 ^ 42
 stop_small v i zero = omega (arith, at_more v.stops 0, i.enough 0)
 stop_small v i (suc j) =
     let e : j + 1 ≡ suc j = omega arith in
     omega (arith, at_more v.stops (suc j), i.enough (suc j), i.few j, ap (λ k. sum (take k v.begins)) e, ap (λ k. sum (take k v.stops)) e)
 
-sound_of : (v : Crossed) → IsCrossed v → Sound v.classes v.begins v.stops
+sound_of : (v : CrossingsValue) → IsCrossings v → Sound v.classes v.begins v.stops
 sound_of v i = record { begins = i.begins; stops = i.stops; enough = i.enough }
 
-few_of : (v : Crossed) → IsCrossed v → (l : ℕ) → sum (take (l + 1) v.stops) ≤ sum (take (l + 1) v.begins)
+few_of : (v : CrossingsValue) → IsCrossings v → (l : ℕ) → sum (take (l + 1) v.stops) ≤ sum (take (l + 1) v.begins)
 few_of v i l = omega (arith, i.enough l, begins_grow v.begins l)
 
 first_below : (b : Bool) (x y k : ℕ) → x < k → y < k → cond b x y < k
 first_below true x y k p q = p
 first_below false x y k p q = q
 
-pub level_rules : (x : ℕ) (v : Crossed) → IsCrossed v → x < v.classes → ((l : ℕ) → count_at v l + between v.some v.reference l v.last x ≤ 2 ^ 41) → IsCrossed (level_of x v)
+pub level_rules : (x : ℕ) (v : CrossingsValue) → IsCrossings v → x < v.classes → ((l : ℕ) → count_at v l + between v.some v.reference l v.last x ≤ MAX_POINTS) → IsCrossings (level_of x v)
 level_rules x v i h f =
     let s = stepped v.classes v.reference v.last x v.begins v.stops i.reference.0 i.last h (sound_of v i) v.some in
     record {
@@ -196,7 +197,7 @@ cond_first b c x y z p q = cc
 between_same : (b c : Bool) (r l x y x' : ℕ) → b ≡ c → x ≡ x' → between b r l x y ≡ between c r l x' y
 between_same b c r l x y x' p q = cc
 
-pub level_crosses : (x : ℕ) (v : Crossed) (h : List ℕ) → IsCrossed v → x < v.classes → Crosses v h → Crosses (level_of x v) (h ++ (x ∷ []))
+pub level_crosses : (x : ℕ) (v : CrossingsValue) (h : List ℕ) → IsCrossings v → x < v.classes → Crosses v h → Crosses (level_of x v) (h ++ (x ∷ []))
 level_crosses x v h i p g =
     let s = stepped v.classes v.reference v.last x v.begins v.stops i.reference.0 i.last p (sound_of v i) v.some in
     record {
@@ -233,7 +234,7 @@ cond_same b c x y z w p q r = cc
 between_to : (b c : Bool) (r l x y x' y' : ℕ) → b ≡ c → x ≡ x' → y ≡ y' → between b r l x y ≡ between c r l x' y'
 between_to b c r l x y x' y' p q s = cc
 
-module _ (v w : Crossed) (i : IsCrossed v) (j : IsCrossed w) (k : v.classes ≡ w.classes) where
+module _ (v w : CrossingsValue) (i : IsCrossings v) (j : IsCrossings w) (k : v.classes ≡ w.classes) where
   sound_right : Sound v.classes w.begins w.stops
   sound_right = subst (λ n. Sound n w.begins w.stops) (sym k) (sound_of w j)
 
@@ -246,7 +247,7 @@ module _ (v w : Crossed) (i : IsCrossed v) (j : IsCrossed w) (k : v.classes ≡ 
   pub append_count : (l : ℕ) → count_at (append_of v w) l ≡ (count_at v l + count_at w l) + between (v.some && w.some) v.reference l v.last w.first
   append_count l = omega (arith, append_step.count l, count_both v.classes v.begins v.stops w.begins w.stops l (sound_of v i) sound_right)
 
-  pub append_rules : ((l : ℕ) → count_at v l + count_at w l + between (v.some && w.some) v.reference l v.last w.first ≤ 2 ^ 41) → IsCrossed (append_of v w)
+  pub append_rules : ((l : ℕ) → count_at v l + count_at w l + between (v.some && w.some) v.reference l v.last w.first ≤ MAX_POINTS) → IsCrossings (append_of v w)
   append_rules f = record {
     classes = i.classes;
     reference = i.reference;
@@ -266,18 +267,18 @@ module _ (v w : Crossed) (i : IsCrossed v) (j : IsCrossed w) (k : v.classes ≡ 
     counts = λ l p q. omega (arith, append_count l, a.counts l p q, b.counts l p (subst (λ n. l < n) k q), ap (λ r. crossings r l h) e, crossings_append v.reference l g h, between_to (v.some && w.some) (is_some g && is_some h) v.reference l v.last w.first (last_point g) (first_of h) (and_same v.some w.some (is_some g) (is_some h) a.some b.some) a.last b.first);
   }
 
-begin_small : (v : Crossed) → IsCrossed v → (k : ℕ) → get_or v.begins k 0 < 2 ^ 42
+begin_small : (v : CrossingsValue) → IsCrossings v → (k : ℕ) → get_or v.begins k 0 < 2 ^ 42
 begin_small v i k = omega (arith, at_more v.begins k, i.few k, i.enough k)
 
 -- what `join` may assume once the tables were added
-pub record Ready (v w : Crossed) (b s : List ℕ) : Type 0 where
+pub record Ready (v w : CrossingsValue) (b s : List ℕ) : Type 0 where
   pub x : v.last + 1 < length b
   pub y : w.first + 1 < length b
   pub same : length s ≡ length b
   pub room : (k : ℕ) → get_or b k 0 < 2 ^ 62
   pub space : (k : ℕ) → get_or s k 0 < 2 ^ 62
 
-pub ready : {v w : Crossed} {b s : List ℕ} → IsCrossed v → IsCrossed w → v.classes ≡ w.classes → b ≡ both v.begins w.begins → s ≡ both v.stops w.stops → Ready v w b s
+pub ready : {v w : CrossingsValue} {b s : List ℕ} → IsCrossings v → IsCrossings w → v.classes ≡ w.classes → b ≡ both v.begins w.begins → s ≡ both v.stops w.stops → Ready v w b s
 ready {v} {w} {b} {s} i j e p q =
     let l : length v.begins ≡ length w.begins = omega (arith, i.begins, j.begins) in
     let m : length v.stops ≡ length w.stops = omega (arith, i.stops, j.stops) in
@@ -291,19 +292,19 @@ ready {v} {w} {b} {s} i j e p q =
       space = λ k. omega (arith, ap (λ t. get_or t k 0) q, added_at v.stops w.stops k m, stop_small v i k, stop_small w j k);
     }
 
-pub stops_room : {v w : Crossed} {t : List ℕ} → IsCrossed v → IsCrossed w → t ≡ w.stops → (k : ℕ) → get_or v.stops k 0 + get_or t k 0 < 2 ^ 63
+pub stops_room : {v w : CrossingsValue} {t : List ℕ} → IsCrossings v → IsCrossings w → t ≡ w.stops → (k : ℕ) → get_or v.stops k 0 + get_or t k 0 < 2 ^ 63
 stops_room {v} {w} {t} i j p k = omega (arith, stop_small v i k, stop_small w j k, ap (λ u. get_or u k 0) p)
 
-value_same : (K r : ℕ) (a a' : Bool) (f f' l l' : ℕ) (b b' s s' : List ℕ) → a' ≡ a → f' ≡ f → l' ≡ l → b' ≡ b → s' ≡ s → ◌≡◌ {A = Crossed} (record { classes = K; reference = r; some = a; first = f; last = l; begins = b; stops = s }) (record { classes = K; reference = r; some = a'; first = f'; last = l'; begins = b'; stops = s' })
+value_same : (K r : ℕ) (a a' : Bool) (f f' l l' : ℕ) (b b' s s' : List ℕ) → a' ≡ a → f' ≡ f → l' ≡ l → b' ≡ b → s' ≡ s → ◌≡◌ {A = CrossingsValue} (record { classes = K; reference = r; some = a; first = f; last = l; begins = b; stops = s }) (record { classes = K; reference = r; some = a'; first = f'; last = l'; begins = b'; stops = s' })
 value_same K r a a' f f' l l' b b' s s' p q x y z = cc
 
-pub closed : {v w : Crossed} {a c : Bool} {f l : ℕ} {b s b' s' : List ℕ} → IsCrossed v → IsCrossed w → v.classes ≡ w.classes → ((l : ℕ) → count_at v l + count_at w l + between (v.some && w.some) v.reference l v.last w.first ≤ 2 ^ 41) → b ≡ both v.begins w.begins → s ≡ both v.stops w.stops → c ≡ (v.some && w.some) → a ≡ (v.some || w.some) → f ≡ cond v.some v.first w.first → l ≡ cond w.some w.last v.last → b' ≡ begin_step c v.reference v.last w.first b → s' ≡ stop_step c v.reference v.last w.first s → IsCrossed (record { classes = v.classes; reference = v.reference; some = a; first = f; last = l; begins = b'; stops = s' })
+pub closed : {v w : CrossingsValue} {a c : Bool} {f l : ℕ} {b s b' s' : List ℕ} → IsCrossings v → IsCrossings w → v.classes ≡ w.classes → ((l : ℕ) → count_at v l + count_at w l + between (v.some && w.some) v.reference l v.last w.first ≤ MAX_POINTS) → b ≡ both v.begins w.begins → s ≡ both v.stops w.stops → c ≡ (v.some && w.some) → a ≡ (v.some || w.some) → f ≡ cond v.some v.first w.first → l ≡ cond w.some w.last v.last → b' ≡ begin_step c v.reference v.last w.first b → s' ≡ stop_step c v.reference v.last w.first s → IsCrossings (record { classes = v.classes; reference = v.reference; some = a; first = f; last = l; begins = b'; stops = s' })
 closed {v} {w} {a} {c} {f} {l} {b} {s} {b'} {s'} i j e g p q o n m k x y =
     let x' = x ∙ ap (λ t. begin_step c v.reference v.last w.first t) p ∙ ap (λ z. begin_step z v.reference v.last w.first (both v.begins w.begins)) o in
     let y' = y ∙ ap (λ t. stop_step c v.reference v.last w.first t) q ∙ ap (λ z. stop_step z v.reference v.last w.first (both v.stops w.stops)) o in
-    subst IsCrossed (value_same v.classes v.reference _ a _ f _ l _ b' _ s' n m k x' y') (append_rules v w i j e g)
+    subst IsCrossings (value_same v.classes v.reference _ a _ f _ l _ b' _ s' n m k x' y') (append_rules v w i j e g)
 
-pub level_count : (x : ℕ) (v : Crossed) → IsCrossed v → x < v.classes → (l : ℕ) → count_at (level_of x v) l ≡ count_at v l + between v.some v.reference l v.last x
+pub level_count : (x : ℕ) (v : CrossingsValue) → IsCrossings v → x < v.classes → (l : ℕ) → count_at (level_of x v) l ≡ count_at v l + between v.some v.reference l v.last x
 level_count x v i h = (stepped v.classes v.reference v.last x v.begins v.stops i.reference.0 i.last h (sound_of v i) v.some).count
 
 sum_replicate : (i n : ℕ) → sum (take i (replicate n 0)) ≡ 0
@@ -311,5 +312,5 @@ sum_replicate zero n = refl
 sum_replicate (suc i) zero = refl
 sum_replicate (suc i) (suc n) = omega (arith, sum_cons 0 (take i (replicate n 0)), sum_replicate i n)
 
-pub none_counted : (v : Crossed) (k r : ℕ) → v ≡ no_crossings k r → (l : ℕ) → count_at v l ≡ 0
+pub none_counted : (v : CrossingsValue) (k r : ℕ) → v ≡ no_crossings k r → (l : ℕ) → count_at v l ≡ 0
 none_counted v k r e l = omega (arith, ap (λ w. count_at w l) e, sum_replicate (l + 1) (k + 1))

@@ -7,22 +7,22 @@ use mir.Val.{bool_byte}
 use Rattle.turning_points.proofs.Zigzag.{Turn, IsZigzag, inner, ends_differ}
 use Rattle.tables.specs.Tables.{raise, is_at}
 use Rattle.tables.proofs.Counting.{raise_at, sum_cons}
-use Rattle.level_crossing.specs.Crossings.{crossed, crossings}
+use Rattle.level_crossing.specs.Crossings.{step_crossings, crossings}
 use Rattle.level_crossing.specs.Halves.{below_at, from_at, last_begin, last_stop, IsOpen}
-use Rattle.level_crossing.proofs.Crossed.{sum_take_raise}
+use Rattle.level_crossing.proofs.PushJoin.{sum_take_raise}
 use Rattle.level_crossing.proofs.Halves.{halves, at_bottom, at_top, one_more, none_at}
 
-crossings_more : (r l : ℕ) (p : List ℕ) (i : ℕ) → i + 1 < length p → crossings r l (take (suc (suc i)) p) ≡ crossings r l (take (suc i) p) + crossed r l (get_or p i 0) (get_or p (suc i) 0)
+crossings_more : (r l : ℕ) (p : List ℕ) (i : ℕ) → i + 1 < length p → crossings r l (take (suc (suc i)) p) ≡ crossings r l (take (suc i) p) + step_crossings r l (get_or p i 0) (get_or p (suc i) 0)
 crossings_more r l [] i h = absurd (omega arith)
 crossings_more r l (x ∷ []) i h = absurd (omega arith)
 crossings_more r l (x ∷ y ∷ p) zero h = omega arith
 crossings_more r l (x ∷ y ∷ p) (suc i) h = omega (arith, crossings_more r l (y ∷ p) i (omega arith))
 
-crossings_next : (r l : ℕ) (p : List ℕ) (i j : ℕ) → i ≡ suc j → i + 1 < length p → crossings r l (take (i + 1 + 1) p) ≡ crossings r l (take (i + 1) p) + crossed r l (get_or p i 0) (get_or p (i + 1) 0)
+crossings_next : (r l : ℕ) (p : List ℕ) (i j : ℕ) → i ≡ suc j → i + 1 < length p → crossings r l (take (i + 1 + 1) p) ≡ crossings r l (take (i + 1) p) + step_crossings r l (get_or p i 0) (get_or p (i + 1) 0)
 crossings_next r l p i j e h =
     let a : i + 1 ≡ suc i = omega arith in
     let b : i + 1 + 1 ≡ suc (suc i) = omega arith in
-    omega (arith, crossings_more r l p i h, ap (λ k. crossings r l (take k p)) a, ap (λ k. crossings r l (take k p)) b, ap (λ k. crossed r l (get_or p i 0) (get_or p k 0)) a)
+    omega (arith, crossings_more r l p i h, ap (λ k. crossings r l (take k p)) a, ap (λ k. crossings r l (take k p)) b, ap (λ k. step_crossings r l (get_or p i 0) (get_or p k 0)) a)
 
 turn_at : (p : List ℕ) (i : ℕ) → IsZigzag p → i + 2 < length p → Turn (get_or p i 0) (get_or p (suc i) 0) (get_or p (suc (suc i)) 0)
 turn_at [] i z h = absurd (omega arith)
@@ -54,7 +54,7 @@ module _ (r : ℕ) (p b s b' s' : List ℕ) (nb i k place : ℕ) (z : IsZigzag p
   same_end : (l : ℕ) → (last_begin r l (get_or p (i + 1 - 1) 0) (get_or p (i + 1) 0) ≡ last_begin r l (get_or p i 0) (get_or p (i + 1) 0)) × (last_stop r l (get_or p (i + 1 - 1) 0) (get_or p (i + 1) 0) ≡ last_stop r l (get_or p i 0) (get_or p (i + 1) 0))
   same_end l = let a : i + 1 - 1 ≡ i = omega arith in (ap (λ j. last_begin r l (get_or p j 0) (get_or p (i + 1) 0)) a, ap (λ j. last_stop r l (get_or p j 0) (get_or p (i + 1) 0)) a)
 
-  next : (l : ℕ) → crossings r l (take (i + 1 + 1) p) ≡ crossings r l (take (i + 1) p) + crossed r l (get_or p i 0) (get_or p (i + 1) 0)
+  next : (l : ℕ) → crossings r l (take (i + 1 + 1) p) ≡ crossings r l (take (i + 1) p) + step_crossings r l (get_or p i 0) (get_or p (i + 1) 0)
   next l = crossings_next r l p i (i - 1) (omega arith) more
 
   bottom : ltb (get_or p i 0) (get_or p (i - 1) 0) ≡ true → b' ≡ raise b place → s' ≡ s → k ≡ 1 → IsOpen r b' s' (nb + k) (i + 1 - 1 - (nb + k)) p (i + 1)
@@ -124,7 +124,7 @@ two_differ [] z h = absurd (omega arith)
 two_differ (x ∷ []) z h = absurd (omega arith)
 two_differ (x ∷ y ∷ l) z h = ends_differ z
 
-two_crossed : (r l : ℕ) (p : List ℕ) → 2 ≤ length p → crossings r l (take 2 p) ≡ crossed r l (get_or p 0 0) (get_or p 1 0)
+two_crossed : (r l : ℕ) (p : List ℕ) → 2 ≤ length p → crossings r l (take 2 p) ≡ step_crossings r l (get_or p 0 0) (get_or p 1 0)
 two_crossed r l [] h = absurd (omega arith)
 two_crossed r l (x ∷ []) h = absurd (omega arith)
 two_crossed r l (x ∷ y ∷ q) h = omega arith

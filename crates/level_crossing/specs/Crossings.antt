@@ -1,25 +1,26 @@
 -- Level crossings (ASTM E1049-85, 5.1): how often a history crosses a boundary in the counted direction, upwards from the reference on
 -- and downwards below it. Boundary l lies below level l.
---   crossed      whether the step from x to y crosses boundary l
---   crossings    how often a history does
---   Crossed      what contracts see of a `Crossings`: its first and last level, and the counts as differences of two sums
---   count_at     the count of a boundary
---   IsCrossed    what holds of every `Crossings`
---   Crosses      a value stands for a history
+--   step_crossings   1 where the step from x to y crosses boundary l
+--   crossings        how often a history does
+--   CrossingsValue   what contracts see of a `Crossings`: its first and last level, and the counts as differences of two sums
+--   count_at         the count of a boundary
+--   IsCrossings      what holds of every `Crossings`
+--   Crosses          a value stands for a history
 --   level_of, append_of   a value after one level more, and two values one after the other
-use Rattle.std.specs.Prelude.{◌≡◌, ℕ, ◌+◌, ◌-◌, ◌^◌, ◌<◌, ◌≤◌, Bool, true, false, ◌&&◌, ◌||◌, nat_lt, nat_le, if◌then◌else◌, List, [], ◌∷◌, length, take, sum, replicate, max, min}
+use Rattle.std.specs.Prelude.{◌≡◌, ℕ, ◌+◌, ◌-◌, ◌<◌, ◌≤◌, Bool, true, false, ◌&&◌, ◌||◌, nat_lt, nat_le, if◌then◌else◌, List, [], ◌∷◌, length, take, sum, replicate, max, min}
 use Rattle.turning_points.specs.Points.{points}
 use Rattle.turning_points.specs.EndPoints.{last_point}
 use Rattle.tables.specs.Tables.{raise, added}
 use Rattle.calibration.specs.declared.grid.TheConstants.{MIN_CLASSES, MAX_CLASSES}
+use Rattle.turning_points.specs.declared.ends.TheConstants.{MAX_POINTS}
 
-abbrev pub crossed : ℕ → ℕ → ℕ → ℕ → ℕ
-crossed r l x y = if nat_le r l then (if nat_lt x l && nat_le l y then 1 else 0) else (if nat_le l x && nat_lt y l then 1 else 0)
+abbrev pub step_crossings : ℕ → ℕ → ℕ → ℕ → ℕ
+step_crossings r l x y = if nat_le r l then (if nat_lt x l && nat_le l y then 1 else 0) else (if nat_le l x && nat_lt y l then 1 else 0)
 
 abbrev pub crossings : ℕ → ℕ → List ℕ → ℕ
 crossings r l [] = 0
 crossings r l (x ∷ []) = 0
-crossings r l (x ∷ y ∷ h) = crossed r l x y + crossings r l (y ∷ h)
+crossings r l (x ∷ y ∷ h) = step_crossings r l x y + crossings r l (y ∷ h)
 
 abbrev pub first_of : List ℕ → ℕ
 first_of [] = 0
@@ -29,7 +30,7 @@ abbrev pub is_some : List ℕ → Bool
 is_some [] = false
 is_some (x ∷ h) = true
 
-pub record Crossed : Type 0 where
+pub record CrossingsValue : Type 0 where
   pub classes : ℕ
   pub reference : ℕ
   pub some : Bool
@@ -38,15 +39,15 @@ pub record Crossed : Type 0 where
   pub begins : List ℕ
   pub stops : List ℕ
 
-abbrev pub no_crossings : ℕ → ℕ → Crossed
+abbrev pub no_crossings : ℕ → ℕ → CrossingsValue
 no_crossings k r = record { classes = k; reference = r; some = false; first = 0; last = 0; begins = replicate (k + 1) 0; stops = replicate (k + 1) 0 }
 
 -- the runs over a boundary: those that begin at or below it, less those that stop there
-abbrev pub count_at : Crossed → ℕ → ℕ
+abbrev pub count_at : CrossingsValue → ℕ → ℕ
 count_at v l = sum (take (l + 1) v.begins) - sum (take (l + 1) v.stops)
 
 -- no sum of stops passes the sum of what began before
-pub record IsCrossed (v : Crossed) : Type 0 where
+pub record IsCrossings (v : CrossingsValue) : Type 0 where
   pub classes : (MIN_CLASSES ≤ v.classes) × (v.classes ≤ MAX_CLASSES)
   pub reference : (1 ≤ v.reference) × (v.reference < v.classes)
   pub begins : length v.begins ≡ v.classes + 1
@@ -54,9 +55,9 @@ pub record IsCrossed (v : Crossed) : Type 0 where
   pub first : v.first < v.classes
   pub last : v.last < v.classes
   pub enough : (i : ℕ) → sum (take (i + 1) v.stops) ≤ sum (take i v.begins)
-  pub few : (i : ℕ) → sum (take (i + 1) v.begins) ≤ 2 ^ 41 + sum (take (i + 1) v.stops)
+  pub few : (i : ℕ) → sum (take (i + 1) v.begins) ≤ MAX_POINTS + sum (take (i + 1) v.stops)
 
-pub record Crosses (v : Crossed) (h : List ℕ) : Type 0 where
+pub record Crosses (v : CrossingsValue) (h : List ℕ) : Type 0 where
   pub some : v.some ≡ is_some h
   pub first : v.first ≡ first_of h
   pub last : v.last ≡ last_point h
@@ -78,12 +79,12 @@ stop_step b r x y t = if b && nat_le (low r x y) (high r x y) then raise t (high
 
 -- one crossing more where there is a step
 abbrev pub between : Bool → ℕ → ℕ → ℕ → ℕ → ℕ
-between b r l x y = if b then crossed r l x y else 0
+between b r l x y = if b then step_crossings r l x y else 0
 
-abbrev pub level_of : ℕ → Crossed → Crossed
+abbrev pub level_of : ℕ → CrossingsValue → CrossingsValue
 level_of x v = record { classes = v.classes; reference = v.reference; some = true; first = if v.some then v.first else x; last = x; begins = begin_step v.some v.reference v.last x v.begins; stops = stop_step v.some v.reference v.last x v.stops }
 
-abbrev pub append_of : Crossed → Crossed → Crossed
+abbrev pub append_of : CrossingsValue → CrossingsValue → CrossingsValue
 append_of v w = record {
   classes = v.classes;
   reference = v.reference;

@@ -2,21 +2,22 @@
 --   CanLoad    ends and counts of boundaries that it can take over
 --   loaded_of  the value with them
 --   HasEnds    whether there is a level, the first one and the last one
-use Rattle.std.specs.Prelude.{◌≡◌, ◌<◌, ◌≤◌, ◌^◌, ℕ, ◌+◌, ◌==◌, not, List, All, replicate}
+use Rattle.std.specs.Prelude.{◌≡◌, ◌<◌, ◌≤◌, ℕ, ◌+◌, ◌==◌, not, List, All, replicate}
 use Rattle.tally.specs.declared.cells.Bin.{Bin}
 use Rattle.turning_points.specs.EndPoints.{EndPoints}
 use Rattle.tables.specs.Tables.{filled}
 use Rattle.tables.specs.Bins.{AreBinsFrom}
-use Rattle.level_crossing.specs.Crossings.{Crossed}
+use Rattle.level_crossing.specs.Crossings.{CrossingsValue}
+use Rattle.turning_points.specs.declared.ends.TheConstants.{MAX_POINTS}
 
--- levels below `classes`; the keys are boundaries and ascend, and no count is 0 or past 2^41
+-- levels below `classes`; the keys are boundaries and ascend, and no count is 0 or above `MAX_POINTS`
 pub record CanLoad (classes : ℕ) (e : EndPoints) (bins : List Bin) : Type 0 where
   pub first : e.first < classes
   pub last : e.last < classes
   pub bins_are : AreBinsFrom 1 classes bins
-  pub few : All (λ b. b.n ≤ 2 ^ 41) bins
+  pub few : All (λ b. b.n ≤ MAX_POINTS) bins
 
-abbrev pub loaded_of : ℕ → ℕ → EndPoints → List Bin → Crossed
+abbrev pub loaded_of : ℕ → ℕ → EndPoints → List Bin → CrossingsValue
 loaded_of classes reference e bins = record {
   classes = classes;
   reference = reference;
@@ -27,5 +28,5 @@ loaded_of classes reference e bins = record {
   stops = filled 1 (replicate (classes + 1) 0) bins;
 }
 
-abbrev pub HasEnds : Crossed → EndPoints → Type 0
+abbrev pub HasEnds : CrossingsValue → EndPoints → Type 0
 HasEnds v e = (v.some ≡ not (e.points == 0)) × (v.first ≡ e.first) × (v.last ≡ e.last)

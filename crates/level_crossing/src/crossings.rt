@@ -4,7 +4,8 @@ ghost use Rattle.tables.specs.Tables.{filled};
 ghost use Rattle.tables.specs.Bins.{count_at as count_of_bins};
 ghost use Rattle.turning_points.specs.Ends.{end_points};
 ghost use Rattle.level_crossing.specs.Loading.{CanLoad, HasEnds, loaded_of};
-ghost use Rattle.level_crossing.specs.Crossings.{Crosses, IsCrossed, append_of, begin_step, between, count_at, crossings, high, is_some, level_of, low, no_crossings, stop_step};
+ghost use Rattle.level_crossing.specs.Crossings.{Crosses, IsCrossings, append_of, begin_step, between, count_at, crossings, high, is_some, level_of, low, no_crossings, stop_step};
+ghost use Rattle.turning_points.specs.declared.ends.TheConstants.{MAX_POINTS};
 
 use crate::points::{fill, first_level, has_some, last_level};
 use calibration::Grid;
@@ -27,9 +28,9 @@ pub struct Crossings {
 }
 
 impl Model for Crossings {
-    ghost use Rattle.level_crossing.specs.Crossings.{Crossed, IsCrossed};
+    ghost use Rattle.level_crossing.specs.Crossings.{CrossingsValue, IsCrossings};
 
-    ghost Value = { Crossed };
+    ghost Value = { CrossingsValue };
 
     ghost view = { λ s. record {
       classes = s.classes;
@@ -41,7 +42,7 @@ impl Model for Crossings {
       stops = s.stops.items;
     } };
 
-    ghost invariant = { λ s. IsCrossed (record {
+    ghost invariant = { λ s. IsCrossings (record {
       classes = s.classes;
       reference = s.reference;
       some = s.some;
@@ -116,7 +117,7 @@ fn count_to(begins: &[u64], stops: &[u64], boundary: usize) -> u64
     requires begins { boundary < length begins.now }
     requires stops { boundary < length stops.now }
     requires enough { (i : ℕ) → sum (take (i + 1) stops.now) ≤ sum (take i begins.now) }
-    requires few { (i : ℕ) → sum (take (i + 1) begins.now) ≤ 2 ^ 41 + sum (take (i + 1) stops.now) }
+    requires few { (i : ℕ) → sum (take (i + 1) begins.now) ≤ MAX_POINTS + sum (take (i + 1) stops.now) }
     ensures { result ≡ sum (take (boundary + 1) begins.now) - sum (take (boundary + 1) stops.now) }
 {
     let mut count = 0;
@@ -159,7 +160,7 @@ impl Crossings {
     pub fn at(&self, boundary: u16) -> u64
         requires { boundary < self.now.classes }
         ensures value { result ≡ count_at self.now boundary }
-        ensures rules { IsCrossed self.now }
+        ensures rules { IsCrossings self.now }
     {
         count_to(&self.begins, &self.stops, usize::from(boundary))
     }
@@ -167,9 +168,9 @@ impl Crossings {
     fn pushed(&mut self, level: u16)
         requires level { level < self.old.classes }
         requires few { (l : ℕ) → count_at self.old l
-            + between self.old.some self.old.reference l self.old.last level ≤ 2 ^ 41 }
+            + between self.old.some self.old.reference l self.old.last level ≤ MAX_POINTS }
         ensures value { self.new ≡ level_of level self.old }
-        ensures rules { IsCrossed self.old }
+        ensures rules { IsCrossings self.old }
     {
         step_in(
             &mut self.begins,
@@ -189,13 +190,13 @@ impl Crossings {
     pub fn push(&mut self, level: u16)
         requires level { level < self.old.classes }
         requires few { (l : ℕ) → count_at self.old l
-            + between self.old.some self.old.reference l self.old.last level ≤ 2 ^ 41 }
+            + between self.old.some self.old.reference l self.old.last level ≤ MAX_POINTS }
         ensures grid { (self.new.classes ≡ self.old.classes)
             × (self.new.reference ≡ self.old.reference) }
         ensures some { self.new.some ≡ true }
         ensures counts { (l : ℕ) → count_at self.new l ≡
             count_at self.old l + between self.old.some self.old.reference l self.old.last level }
-        ensures rules { IsCrossed self.new }
+        ensures rules { IsCrossings self.new }
         ensures histories { (h : List ℕ) → Crosses self.old h → Crosses self.new (h ++ level ∷ []) }
     {
         self.pushed(level)
@@ -205,10 +206,10 @@ impl Crossings {
         requires classes { self.old.classes ≡ right.now.classes }
         requires few { (l : ℕ) → count_at self.old l + count_at right.now l
             + between (self.old.some && right.now.some) self.old.reference l
-            self.old.last right.now.first ≤ 2 ^ 41 }
+            self.old.last right.now.first ≤ MAX_POINTS }
         ensures value { self.new ≡ append_of self.old right.now }
-        ensures left { IsCrossed self.old }
-        ensures right { IsCrossed right.now }
+        ensures left { IsCrossings self.old }
+        ensures right { IsCrossings right.now }
     {
         add_to(&mut self.begins, &right.begins);
         add_to(&mut self.stops, &right.stops);
@@ -235,13 +236,13 @@ impl Crossings {
         requires reference { self.old.reference ≡ right.now.reference }
         requires few { (l : ℕ) → count_at self.old l + count_at right.now l
             + between (self.old.some && right.now.some) self.old.reference l
-            self.old.last right.now.first ≤ 2 ^ 41 }
+            self.old.last right.now.first ≤ MAX_POINTS }
         ensures grid { (self.new.classes ≡ self.old.classes)
             × (self.new.reference ≡ self.old.reference) }
         ensures some { self.new.some ≡ (self.old.some || right.now.some) }
         ensures counts { (l : ℕ) → count_at self.new l ≡ count_at self.old l + count_at right.now l
             + between (self.old.some && right.now.some) self.old.reference l self.old.last right.now.first }
-        ensures rules { IsCrossed self.new }
+        ensures rules { IsCrossings self.new }
         ensures histories { (g h : List ℕ) → Crosses self.old g → Crosses right.now h →
             Crosses self.new (g ++ h) }
     {
@@ -253,12 +254,12 @@ impl Crossings {
         requires empty { self.old ≡ no_crossings self.old.classes self.old.reference }
         requires own { points list.now ≡ list.now }
         requires below { All (λ level. level < self.old.classes) list.now }
-        requires few { length list.now ≤ 2 ^ 41 }
+        requires few { length list.now ≤ MAX_POINTS }
         ensures grid { (self.new.classes ≡ self.old.classes)
             × (self.new.reference ≡ self.old.reference) }
         ensures some { self.new.some ≡ is_some list.now }
         ensures counts { (l : ℕ) → count_at self.new l ≡ crossings self.old.reference l list.now }
-        ensures rules { IsCrossed self.new }
+        ensures rules { IsCrossings self.new }
         ensures histories { (h : List ℕ) → points h ≡ list.now → Crosses self.new h }
     {
         fill(
@@ -277,7 +278,7 @@ impl Crossings {
         requires { CanLoad self.old.classes (end_points ends.now) bins.now }
         ensures value { self.new ≡ loaded_of self.old.classes self.old.reference
             (end_points ends.now) bins.now }
-        ensures rules { IsCrossed self.old }
+        ensures rules { IsCrossings self.old }
     {
         load_bins(&mut self.begins, 0, bins);
         load_bins(&mut self.stops, 1, bins);
@@ -294,7 +295,7 @@ impl Crossings {
             × (self.new.reference ≡ self.old.reference) }
         ensures ends { HasEnds self.new (end_points ends.now) }
         ensures counts { (l : ℕ) → count_at self.new l ≡ count_of_bins l bins.now }
-        ensures rules { IsCrossed self.new }
+        ensures rules { IsCrossings self.new }
     {
         self.loaded(ends, bins)
     }
@@ -313,7 +314,7 @@ impl Crossings {
     /// Nothing counted.
     pub fn new(alloc: Global, grid: &Grid) -> Result<Crossings, AllocError>
         ensures value { IfOk result (λ s. s ≡ no_crossings grid.now.classes grid.now.reference) }
-        ensures rules { IfOk result IsCrossed }
+        ensures rules { IfOk result IsCrossings }
     {
         let classes = grid.classes();
         let reference = grid.reference();

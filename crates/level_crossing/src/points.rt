@@ -4,6 +4,7 @@ ghost use Rattle.turning_points.specs.EndPoints.{last_point};
 ghost use Rattle.tables.specs.Tables.{raise};
 ghost use Rattle.level_crossing.specs.Crossings.{crossings, first_of, is_some};
 ghost use Rattle.level_crossing.specs.Halves.{IsOpen, IsSettled};
+ghost use Rattle.turning_points.specs.declared.ends.TheConstants.{MAX_POINTS};
 
 /// One more in one of two tables.
 #[inline(always)]
@@ -28,7 +29,7 @@ fn count_inner(begins: &mut [u64], stops: &mut [u64], reference: usize, list: &[
     requires below { All (λ level. level + 1 < length begins.old) list.now }
     requires same { length stops.old ≡ length begins.old }
     requires many { 2 ≤ length list.now }
-    requires few { length list.now ≤ 2 ^ 41 }
+    requires few { length list.now ≤ MAX_POINTS }
     requires begins { (k : ℕ) → slice_index begins.old k ≤ 1 }
     requires stops { (k : ℕ) → slice_index stops.old k ≤ 1 }
     requires first { IsOpen reference begins.old stops.old 0 0 list.now 1 }
@@ -37,8 +38,8 @@ fn count_inner(begins: &mut [u64], stops: &mut [u64], reference: usize, list: &[
     ensures bottoms { result + 2 ≤ length list.now }
     ensures begins_length { length begins.new ≡ length begins.old }
     ensures stops_length { length stops.new ≡ length stops.old }
-    ensures begins_few { (k : ℕ) → slice_index begins.new k ≤ 2 ^ 41 }
-    ensures stops_few { (k : ℕ) → slice_index stops.new k ≤ 2 ^ 41 }
+    ensures begins_few { (k : ℕ) → slice_index begins.new k ≤ MAX_POINTS }
+    ensures stops_few { (k : ℕ) → slice_index stops.new k ≤ MAX_POINTS }
 {
     let mut bottoms = 0;
     for i in 1..list.len() - 1 {
@@ -56,7 +57,7 @@ fn count_steps(begins: &mut [u64], stops: &mut [u64], reference: usize, list: &[
     requires below { All (λ level. level + 1 < length begins.old) list.now }
     requires same { length stops.old ≡ length begins.old }
     requires reference { reference < length begins.old }
-    requires few { length list.now ≤ 2 ^ 41 }
+    requires few { length list.now ≤ MAX_POINTS }
     requires begins { (k : ℕ) → slice_index begins.old k ≡ 0 }
     requires stops { (k : ℕ) → slice_index stops.old k ≡ 0 }
     ensures counts { (l : ℕ) → sum (take (l + 1) begins.new) ≡
@@ -110,7 +111,7 @@ fn fill_slices(begins: &mut [u64], stops: &mut [u64], reference: usize, list: &[
     requires below { All (λ level. level + 1 < length begins.old) list.now }
     requires same { length stops.old ≡ length begins.old }
     requires reference { reference < length begins.old }
-    requires few { length list.now ≤ 2 ^ 41 }
+    requires few { length list.now ≤ MAX_POINTS }
     requires begins { (k : ℕ) → slice_index begins.old k ≡ 0 }
     requires stops { (k : ℕ) → slice_index stops.old k ≡ 0 }
     ensures counts { (l : ℕ) → sum (take (l + 1) begins.new) ≡
@@ -129,7 +130,7 @@ pub fn fill(begins: &mut Vec<u64>, stops: &mut Vec<u64>, reference: usize, list:
     requires below { All (λ level. level + 1 < length begins.old.items) list.now }
     requires same { length stops.old.items ≡ length begins.old.items }
     requires reference { reference < length begins.old.items }
-    requires few { length list.now ≤ 2 ^ 41 }
+    requires few { length list.now ≤ MAX_POINTS }
     requires begins { (k : ℕ) → slice_index begins.old.items k ≡ 0 }
     requires stops { (k : ℕ) → slice_index stops.old.items k ≡ 0 }
     ensures counts { (l : ℕ) → sum (take (l + 1) begins.new.items) ≡

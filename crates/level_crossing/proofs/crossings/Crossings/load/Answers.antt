@@ -1,7 +1,7 @@
 use Rattle.std.proofs.Common.{◌≡◌, sym, subst}
 use Rattle.turning_points.specs.Ends.{end_points}
 use Rattle.tables.specs.Bins.{count_at as count_of_bins}
-use Rattle.level_crossing.specs.Crossings.{IsCrossed, count_at}
+use Rattle.level_crossing.specs.Crossings.{IsCrossings, count_at}
 use Rattle.level_crossing.proofs.Loaded.{crossed_counts, crossed_is}
 use Rattle.level_crossing.proofs.crossings.Crossings.load.Goals as goal
 
@@ -14,5 +14,5 @@ returns-clause-counts c = λ l.
 pub returns-clause-rules : goal.returns-clause-rules
 returns-clause-rules c =
     let limits = c.loaded.ensures.rules in
-    subst (λ v. IsCrossed v) (sym c.loaded.ensures.value)
+    subst (λ v. IsCrossings v) (sym c.loaded.ensures.value)
     (crossed_is c.args.self.now.classes c.args.self.now.reference (end_points c.args.ends.now) c.args.bins.now (limits.classes, limits.reference) c.requires)
