@@ -1,19 +1,20 @@
 -- Two values joined: the rules, and the histories.
-use Rattle.std.proofs.Common.{◌≡◌, ℕ, ◌+◌, ◌^◌, ◌<◌, ◌≤◌, List, ◌++◌, length, sym, ap, ◌∙◌, subst, arith}
+use Rattle.std.proofs.Common.{◌≡◌, ℕ, ◌+◌, ◌<◌, ◌≤◌, List, ◌++◌, length, sym, ap, ◌∙◌, subst, arith}
 use Rattle.turning_points.specs.Points.{points}
 use Rattle.turning_points.specs.EndPoints.{EndPoints, ends_of, last_point, last_but_one, IsEnds, put}
 use Rattle.turning_points.proofs.Zigzag.{IsZigzag, zig_points}
 use Rattle.turning_points.proofs.Over.{over, over_points, over_of_points}
 use Rattle.tables.specs.Tables.{added as both}
-use Rattle.simple_counts.specs.Simple.{decide, decided_at, extremes_at, Counted, Counts, IsCounted, decide_join, mark_join, join_of}
+use Rattle.simple_counts.specs.Simple.{decide, decided_at, extremes_at, SimpleValue, Counts, IsSimple, decide_join, mark_join, join_of}
 use Rattle.tables.proofs.Counting.{added_at, length_added}
 use Rattle.simple_counts.proofs.PutLists.{At}
 use Rattle.simple_counts.proofs.MeetsLists.{at_zero, at_one, at_many}
 use Rattle.turning_points.proofs.MeetEnds.{Left, left_zero, left_one, left_two, left_long, left_of, meets_ends, meets_few, meets_histories}
 use Rattle.simple_counts.proofs.Meets.{decide_join_zero, decide_join_one, decide_join_more, mark_join_zero, mark_join_one, mark_join_more, meets_agrees, length_join}
+use Rattle.turning_points.specs.declared.ends.TheConstants.{MAX_POINTS}
 
 -- the rules are kept by joining any two values that meet them
-pub joined_counted : (s t : Counted) → IsCounted s → IsCounted t → s.classes ≡ t.classes → s.ends.points + t.ends.points ≤ 2 ^ 41 → IsCounted (join_of s t)
+pub joined_counted : (s t : SimpleValue) → IsSimple s → IsSimple t → s.classes ≡ t.classes → s.ends.points + t.ends.points ≤ MAX_POINTS → IsSimple (join_of s t)
 joined_counted s t i j k p =
     let lt : length t.decided ≡ s.classes = omega (arith, j.decided) in
     let mt : length t.extremes ≡ s.classes = omega (arith, j.extremes) in
@@ -52,7 +53,7 @@ module _ (K r : ℕ) (e f : EndPoints) (d m l s : List ℕ) (ld : length d ≡ K
       (subst (λ w. At K r (λ k. 0) (λ k. 0) (over l s) (decide_join (ends_of l) w d) (mark_join r (ends_of l) w m)) (sym q) (join_lists (left_of (length l))))
 
 -- two histories
-pub joined_counts : (s t : Counted) (u v : List ℕ) → IsCounted s → IsCounted t → s.classes ≡ t.classes → s.reference ≡ t.reference → Counts s u → Counts t v → Counts (join_of s t) (u ++ v)
+pub joined_counts : (s t : SimpleValue) (u v : List ℕ) → IsSimple s → IsSimple t → s.classes ≡ t.classes → s.reference ≡ t.reference → Counts s u → Counts t v → Counts (join_of s t) (u ++ v)
 joined_counts s t u v i j k o g h =
     let K = s.classes in
     let lt : length t.decided ≡ s.classes = omega (arith, j.decided) in

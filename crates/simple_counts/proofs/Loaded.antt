@@ -10,7 +10,7 @@ use Rattle.tables.specs.Tables.{lower, filled, is_at}
 use Rattle.tables.specs.Bins.{count_at, sum_of}
 use Rattle.tables.proofs.Counting.{lower_at, sum_lower}
 use Rattle.tables.proofs.Filled.{filled_at, filled_sum, filled_long, table_at, table_sum, table_long, placed_counts, count_below, count_above}
-use Rattle.simple_counts.specs.Simple.{IsCounted, open_at, range_count, peak_count, valley_count}
+use Rattle.simple_counts.specs.Simple.{IsSimple, open_at, range_count, peak_count, valley_count}
 use Rattle.simple_counts.specs.Loading.{CountsEnds, CanLoad, first_range, last_range, decided_of, loaded_of}
 
 apart : (k x y : ℕ) → x < k → y < k → range x y < k
@@ -117,7 +117,7 @@ module _ (classes reference : ℕ) (e : EndPoints) (peaks valleys ranges : List 
 
     -- the whole
 
-    pub loaded_counted : IsCounted (loaded_of classes reference e peaks valleys ranges)
+    pub loaded_counted : IsSimple (loaded_of classes reference e peaks valleys ranges)
     loaded_counted = record {
       classes = grid.0;
       reference = grid.1;
@@ -161,11 +161,11 @@ module _ (classes reference : ℕ) (e : EndPoints) (peaks valleys ranges : List 
 
 -- a table is loaded in place of one as long
 pub loaded_closed : (classes reference : ℕ) (e : EndPoints) (peaks valleys ranges : List Bin) (c : CanLoad classes reference e peaks valleys ranges) (grid : IsGrid classes reference) (n m : ℕ) (d x : List ℕ) → n ≡ classes → m ≡ classes
-    → d ≡ decided_of n e ranges → x ≡ filled 0 (filled 0 (replicate m 0) valleys) peaks → IsCounted (record { classes = classes; reference = reference; ends = e; decided = d; extremes = x })
+    → d ≡ decided_of n e ranges → x ≡ filled 0 (filled 0 (replicate m 0) valleys) peaks → IsSimple (record { classes = classes; reference = reference; ends = e; decided = d; extremes = x })
 loaded_closed classes reference e peaks valleys ranges c grid n m d x same other is are =
     let d_is : d ≡ decided_of classes e ranges = is ∙ ap (λ k. decided_of k e ranges) same in
     let x_is : x ≡ filled 0 (filled 0 (replicate classes 0) valleys) peaks = are ∙ ap (λ k. filled 0 (filled 0 (replicate k 0) valleys) peaks) other in
-    subst (λ t. IsCounted (record { classes = classes; reference = reference; ends = e; decided = t; extremes = x })) (sym d_is) (subst (λ t. IsCounted (record { classes = classes; reference = reference; ends = e; decided = decided_of classes e ranges; extremes = t })) (sym x_is) (loaded_counted classes reference e peaks valleys ranges c grid))
+    subst (λ t. IsSimple (record { classes = classes; reference = reference; ends = e; decided = t; extremes = x })) (sym d_is) (subst (λ t. IsSimple (record { classes = classes; reference = reference; ends = e; decided = decided_of classes e ranges; extremes = t })) (sym x_is) (loaded_counted classes reference e peaks valleys ranges c grid))
 
 pub last_in : (classes reference : ℕ) (e : EndPoints) (peaks valleys ranges : List Bin) (c : CanLoad classes reference e peaks valleys ranges) (n : ℕ) → n ≡ classes → 2 ≤ e.points → 1 ≤ get_or (filled 0 (replicate n 0) ranges) (last_range e) 0
 last_in classes reference e peaks valleys ranges c n same le = subst (λ k. 1 ≤ get_or (filled 0 (replicate k 0) ranges) (last_range e) 0) (sym same) (last_there classes reference e peaks valleys ranges c le)

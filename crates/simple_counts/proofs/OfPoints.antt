@@ -1,5 +1,5 @@
 -- The tables of a list of points, point by point: each is a push.
-use Rattle.std.proofs.Common.{◌≡◌, ℕ, zero, suc, ◌+◌, ◌-◌, ◌^◌, ◌<◌, ◌≤◌, Bool, true, false, cond, leb, ◌&&◌, List, [], ◌∷◌, ◌++◌, length, take, sum, get_or, get_or-take, refl, sym, ap, ◌∙◌, subst, arith}
+use Rattle.std.proofs.Common.{◌≡◌, ℕ, zero, suc, ◌+◌, ◌-◌, ◌<◌, ◌≤◌, Bool, true, false, cond, leb, ◌&&◌, List, [], ◌∷◌, ◌++◌, length, take, sum, get_or, get_or-take, refl, sym, ap, ◌∙◌, subst, arith}
 use Rattle.std.specs.Prelude.{All}
 use Rattle.std.proofs.lemmas.Bool.Decides.{nat_tests}
 use Rattle.std.proofs.lemmas.List.{take_all, take_more, length-take-le}
@@ -13,8 +13,9 @@ use Rattle.turning_points.proofs.PushEnds.{list_ends}
 use Rattle.turning_points.proofs.EndPlaces.{last_place, before_place}
 use Rattle.tables.specs.Tables.{raise}
 use Rattle.tables.proofs.Counting.{sum_cons}
-use Rattle.simple_counts.specs.Simple.{Counted, Counts, Fills, IsCounted, decided_at, extremes_at, is_extreme, push_of, value_of}
+use Rattle.simple_counts.specs.Simple.{SimpleValue, Counts, Fills, IsSimple, decided_at, extremes_at, is_extreme, push_of, value_of}
 use Rattle.simple_counts.proofs.Pushed.{pushed_counted, pushed_counts}
+use Rattle.turning_points.specs.declared.ends.TheConstants.{MAX_POINTS}
 
 -- a part of a list of points is one
 pub zig_take : (n : ℕ) {l : List ℕ} → IsZigzag l → IsZigzag (take n l)
@@ -49,7 +50,7 @@ turn_true a b c t = grind (arith, nat_tests)
 leb_true : (n : ℕ) → 2 ≤ n → leb 2 n ≡ true
 leb_true n h = grind (arith, nat_tests)
 
-value_same : (K r : ℕ) (e e' : EndPoints) (d d' m m' : List ℕ) → e ≡ e' → d ≡ d' → m ≡ m' → ◌≡◌ {A = Counted} (record { classes = K; reference = r; ends = e; decided = d; extremes = m }) (record { classes = K; reference = r; ends = e'; decided = d'; extremes = m' })
+value_same : (K r : ℕ) (e e' : EndPoints) (d d' m m' : List ℕ) → e ≡ e' → d ≡ d' → m ≡ m' → ◌≡◌ {A = SimpleValue} (record { classes = K; reference = r; ends = e; decided = d; extremes = m }) (record { classes = K; reference = r; ends = e'; decided = d'; extremes = m' })
 value_same K r e e' d d' m m' p q s = cc
 
 yes_and : {A : Type 0} (a b : Bool) (x y : A) → a ≡ true → cond (a && b) x y ≡ cond b x y
@@ -66,7 +67,7 @@ level_below k [] i a h = absurd (omega arith)
 level_below k (x ∷ p) zero a h = All-head (λ y. y < k) x p a
 level_below k (x ∷ p) (suc i) a h = level_below k p i (All-tail (λ y. y < k) x p a) (omega arith)
 
-module _ (k r : ℕ) (l d m d' m' : List ℕ) (i : ℕ) (z : IsZigzag l) (a : All (λ x. x < k) l) (f : length l ≤ 2 ^ 41) (o : 2 ≤ i) (h : i < length l) (g : Fills k r l i d m) where
+module _ (k r : ℕ) (l d m d' m' : List ℕ) (i : ℕ) (z : IsZigzag l) (a : All (λ x. x < k) l) (f : length l ≤ MAX_POINTS) (o : 2 ≤ i) (h : i < length l) (g : Fills k r l i d m) where
   length_i : length (take i l) ≡ i
   length_i = length-take-le i l (omega arith)
 
@@ -76,7 +77,7 @@ module _ (k r : ℕ) (l d m d' m' : List ℕ) (i : ℕ) (z : IsZigzag l) (a : Al
   is_last : last_point (take i l) ≡ get_or l (i - 1) 0
   is_last = sym (last_place (take i l) (i - 1) (omega (arith, length_i))) ∙ get_or-take i l (i - 1) 0 (omega arith)
 
-  abbrev v : Counted
+  abbrev v : SimpleValue
   v = value_of k r (take i l) d m
 
   abbrev x : ℕ
@@ -109,7 +110,7 @@ module _ (k r : ℕ) (l d m d' m' : List ℕ) (i : ℕ) (z : IsZigzag l) (a : Al
   fills_more p q =
       let e = is_value p q in
       record {
-        rules = subst IsCounted e (pushed_counted v x g.rules level (omega (arith, length_i)));
+        rules = subst IsSimple e (pushed_counted v x g.rules level (omega (arith, length_i)));
         counts = subst (λ w. Counts w (take (i + 1) l)) e (subst (Counts (push_of x v)) (sym more) pushed);
       }
 
@@ -166,15 +167,15 @@ pub fills_all : (k r : ℕ) (l d m : List ℕ) (i : ℕ) → Fills k r l i d m �
 fills_all k r l d m i g h =
     let e : take i l ≡ take (length l) l = take_all i l h ∙ sym (take_all (length l) l (omega arith)) in
     record {
-      rules = subst (λ q. IsCounted (value_of k r q d m)) e g.rules;
+      rules = subst (λ q. IsSimple (value_of k r q d m)) e g.rules;
       counts = subst (λ q. Counts (value_of k r q d m) q) e g.counts;
     }
 
 -- the value with the tables of all points
-pub filled : {k r : ℕ} {l d m : List ℕ} {e : EndPoints} → Fills k r l (length l) d m → e ≡ ends_of l → IsCounted (record { classes = k; reference = r; ends = e; decided = d; extremes = m })
+pub filled : {k r : ℕ} {l d m : List ℕ} {e : EndPoints} → Fills k r l (length l) d m → e ≡ ends_of l → IsSimple (record { classes = k; reference = r; ends = e; decided = d; extremes = m })
 filled {k} {r} {l} {d} {m} {e} g p =
     let q = take_all (length l) l (omega arith) in
-    subst IsCounted (value_same k r _ _ d d m m (ap ends_of q ∙ sym p) refl refl) g.rules
+    subst IsSimple (value_same k r _ _ d d m m (ap ends_of q ∙ sym p) refl refl) g.rules
 
 pub filled_counts : {k r : ℕ} {l d m : List ℕ} {e : EndPoints} → points l ≡ l → Fills k r l (length l) d m → e ≡ ends_of l → (h : List ℕ) → points h ≡ l → Counts (record { classes = k; reference = r; ends = e; decided = d; extremes = m }) h
 filled_counts {k} {r} {l} {d} {m} {e} o g p h s =

@@ -1,5 +1,5 @@
 -- One level more behind a value: the rules, and the histories.
-use Rattle.std.proofs.Common.{◌≡◌, ◌≢◌, ℕ, ◌+◌, ◌^◌, ◌<◌, ◌≤◌, ◌⊎◌, inl, inr, Bool, true, false, cond, eqb, List, [], ◌∷◌, ◌++◌, length, get_or, sum, refl, sym, ap, ◌∙◌, subst, arith, length-set, length-append, append_assoc}
+use Rattle.std.proofs.Common.{◌≡◌, ◌≢◌, ℕ, ◌+◌, ◌<◌, ◌≤◌, ◌⊎◌, inl, inr, Bool, true, false, cond, eqb, List, [], ◌∷◌, ◌++◌, length, get_or, sum, refl, sym, ap, ◌∙◌, subst, arith, length-set, length-append, append_assoc}
 use Rattle.std.proofs.lemmas.Bool.{cases_eq, cases_lt}
 use Rattle.std.proofs.lemmas.Bool.Decides.{nat_tests}
 use Rattle.turning_points.specs.Points.{points, IsBetween}
@@ -10,10 +10,11 @@ use Rattle.turning_points.proofs.Over.{points_inside}
 use Rattle.turning_points.proofs.Joining.{Same, tail, last_behind, before_behind, ends_apart}
 use Rattle.turning_points.proofs.Push.{push_turn, push_between, push_equal}
 use Rattle.tables.specs.Tables.{raise, is_at}
-use Rattle.simple_counts.specs.Simple.{is_extreme, decided_at, extremes_at, Counted, Counts, IsCounted, push_of}
+use Rattle.simple_counts.specs.Simple.{is_extreme, decided_at, extremes_at, SimpleValue, Counts, IsSimple, push_of}
 use Rattle.tables.proofs.Counting.{raise_at, sum_raise}
 use Rattle.simple_counts.proofs.Triples.{triples_join, range_side, extreme_side}
 use Rattle.simple_counts.proofs.PutLists.{range_below}
+use Rattle.turning_points.specs.declared.ends.TheConstants.{MAX_POINTS}
 
 pub data PushCase (x : ℕ) (e : EndPoints) : Type 0 where
   on_none : e.points ≡ 0 → PushCase x e
@@ -45,26 +46,26 @@ push_case x e d = pick_none (cases_lt e.points 1)
     pick_none (inr h) = pick_some h (cases_eq x e.last)
 
 -- what a push makes of a value, by cases
-abbrev value : ℕ → ℕ → EndPoints → List ℕ → List ℕ → Counted
+abbrev value : ℕ → ℕ → EndPoints → List ℕ → List ℕ → SimpleValue
 value K r e d m = record { classes = K; reference = r; ends = e; decided = d; extremes = m }
 
-pub push_none : (x : ℕ) (v : Counted) → v.ends.points ≡ 0 → push_of x v ≡ value v.classes v.reference (record { points = 1; first = x; second = 0; before = 0; last = x }) v.decided v.extremes
+pub push_none : (x : ℕ) (v : SimpleValue) → v.ends.points ≡ 0 → push_of x v ≡ value v.classes v.reference (record { points = 1; first = x; second = 0; before = 0; last = x }) v.decided v.extremes
 push_none x v h = grind (arith, nat_tests)
 
-pub push_equal_to : (x : ℕ) (v : Counted) → 1 ≤ v.ends.points → x ≡ v.ends.last → push_of x v ≡ v
+pub push_equal_to : (x : ℕ) (v : SimpleValue) → 1 ≤ v.ends.points → x ≡ v.ends.last → push_of x v ≡ v
 push_equal_to x v h q = grind (arith, nat_tests)
 
-pub push_second : (x : ℕ) (v : Counted) → v.ends.points ≡ 1 → x ≢ v.ends.last → push_of x v ≡ value v.classes v.reference (record { points = 2; first = v.ends.first; second = x; before = v.ends.last; last = x }) v.decided v.extremes
+pub push_second : (x : ℕ) (v : SimpleValue) → v.ends.points ≡ 1 → x ≢ v.ends.last → push_of x v ≡ value v.classes v.reference (record { points = 2; first = v.ends.first; second = x; before = v.ends.last; last = x }) v.decided v.extremes
 push_second x v h q = grind (arith, nat_tests)
 
-pub push_at_turn : (x : ℕ) (v : Counted) → 2 ≤ v.ends.points → IsTurn v.ends.before v.ends.last x → push_of x v ≡ value v.classes v.reference (record { points = v.ends.points + 1; first = v.ends.first; second = v.ends.second; before = v.ends.last; last = x }) (raise v.decided (range v.ends.before v.ends.last)) (cond (is_extreme v.reference v.ends.before v.ends.last x) (raise v.extremes v.ends.last) v.extremes)
+pub push_at_turn : (x : ℕ) (v : SimpleValue) → 2 ≤ v.ends.points → IsTurn v.ends.before v.ends.last x → push_of x v ≡ value v.classes v.reference (record { points = v.ends.points + 1; first = v.ends.first; second = v.ends.second; before = v.ends.last; last = x }) (raise v.decided (range v.ends.before v.ends.last)) (cond (is_extreme v.reference v.ends.before v.ends.last x) (raise v.extremes v.ends.last) v.extremes)
 push_at_turn x v h q = grind (arith, nat_tests)
 
-pub push_on : (x : ℕ) (v : Counted) → 2 ≤ v.ends.points → IsBetween v.ends.before v.ends.last x → push_of x v ≡ value v.classes v.reference (record { points = v.ends.points; first = v.ends.first; second = cond (eqb v.ends.points 2) x v.ends.second; before = v.ends.before; last = x }) v.decided v.extremes
+pub push_on : (x : ℕ) (v : SimpleValue) → 2 ≤ v.ends.points → IsBetween v.ends.before v.ends.last x → push_of x v ≡ value v.classes v.reference (record { points = v.ends.points; first = v.ends.first; second = cond (eqb v.ends.points 2) x v.ends.second; before = v.ends.before; last = x }) v.decided v.extremes
 push_on x v h q = grind (arith, nat_tests)
 
-module _ (v : Counted) (x : ℕ) (i : IsCounted v) (h : x < v.classes) (p : v.ends.points + 1 ≤ 2 ^ 41) where
-  rules_none : v.ends.points ≡ 0 → IsCounted (value v.classes v.reference (record { points = 1; first = x; second = 0; before = 0; last = x }) v.decided v.extremes)
+module _ (v : SimpleValue) (x : ℕ) (i : IsSimple v) (h : x < v.classes) (p : v.ends.points + 1 ≤ MAX_POINTS) where
+  rules_none : v.ends.points ≡ 0 → IsSimple (value v.classes v.reference (record { points = 1; first = x; second = 0; before = 0; last = x }) v.decided v.extremes)
   rules_none q = record {
     classes = i.classes;
     reference = i.reference;
@@ -82,7 +83,7 @@ module _ (v : Counted) (x : ℕ) (i : IsCounted v) (h : x < v.classes) (p : v.en
     few = omega arith;
   }
 
-  rules_second : v.ends.points ≡ 1 → x ≢ v.ends.last → IsCounted (value v.classes v.reference (record { points = 2; first = v.ends.first; second = x; before = v.ends.last; last = x }) v.decided v.extremes)
+  rules_second : v.ends.points ≡ 1 → x ≢ v.ends.last → IsSimple (value v.classes v.reference (record { points = 2; first = v.ends.first; second = x; before = v.ends.last; last = x }) v.decided v.extremes)
   rules_second q n =
       let o = i.ends.one q in
       record {
@@ -116,7 +117,7 @@ module _ (v : Counted) (x : ℕ) (i : IsCounted v) (h : x < v.classes) (p : v.en
   last_differs : (a b y : ℕ) → IsTurn a b y → b ≢ y
   last_differs a b y t = grind arith
 
-  rules_turn : 2 ≤ v.ends.points → IsTurn v.ends.before v.ends.last x → IsCounted (value v.classes v.reference (record { points = v.ends.points + 1; first = v.ends.first; second = v.ends.second; before = v.ends.last; last = x }) (raise v.decided (range v.ends.before v.ends.last)) (cond (is_extreme v.reference v.ends.before v.ends.last x) (raise v.extremes v.ends.last) v.extremes))
+  rules_turn : 2 ≤ v.ends.points → IsTurn v.ends.before v.ends.last x → IsSimple (value v.classes v.reference (record { points = v.ends.points + 1; first = v.ends.first; second = v.ends.second; before = v.ends.last; last = x }) (raise v.decided (range v.ends.before v.ends.last)) (cond (is_extreme v.reference v.ends.before v.ends.last x) (raise v.extremes v.ends.last) v.extremes))
   rules_turn q t =
       let w = i.ends.below in
       let u : range v.ends.before v.ends.last < length v.decided = omega (arith, i.decided, range_below v.classes v.ends.before v.ends.last w.2 w.3) in
@@ -178,7 +179,7 @@ module _ (v : Counted) (x : ℕ) (i : IsCounted v) (h : x < v.classes) (p : v.en
       on_three : s ≡ v.ends.second → (v.ends.before ≡ v.ends.second) × IsTurn v.ends.first v.ends.second v.ends.last → (v.ends.before ≡ s) × IsTurn v.ends.first s x
       on_three e g = (g.0 ∙ sym e, subst (λ w. IsTurn v.ends.first w x) (sym e) (turn_far v.ends.first v.ends.second v.ends.last x g.1 (subst (λ w. IsBetween w v.ends.last x) g.0 t)))
 
-  rules_on : 2 ≤ v.ends.points → IsBetween v.ends.before v.ends.last x → (s : ℕ) → (v.ends.points ≡ 2 → s ≡ x) → (3 ≤ v.ends.points → s ≡ v.ends.second) → s < v.classes → IsCounted (value v.classes v.reference (record { points = v.ends.points; first = v.ends.first; second = s; before = v.ends.before; last = x }) v.decided v.extremes)
+  rules_on : 2 ≤ v.ends.points → IsBetween v.ends.before v.ends.last x → (s : ℕ) → (v.ends.points ≡ 2 → s ≡ x) → (3 ≤ v.ends.points → s ≡ v.ends.second) → s < v.classes → IsSimple (value v.classes v.reference (record { points = v.ends.points; first = v.ends.first; second = s; before = v.ends.before; last = x }) v.decided v.extremes)
   rules_on q t s a b c = record {
     classes = i.classes;
     reference = i.reference;
@@ -193,24 +194,24 @@ module _ (v : Counted) (x : ℕ) (i : IsCounted v) (h : x < v.classes) (p : v.en
   second_below true = h
   second_below false = i.ends.below.1
 
-  rules_case : PushCase x v.ends → IsCounted (push_of x v)
-  rules_case (on_none q) = subst IsCounted (sym (push_none x v q)) (rules_none q)
-  rules_case (on_equal q n) = subst IsCounted (sym (push_equal_to x v q n)) i
-  rules_case (on_second q n) = subst IsCounted (sym (push_second x v q n)) (rules_second q n)
-  rules_case (on_turn q t) = subst IsCounted (sym (push_at_turn x v q t)) (rules_turn q t)
-  rules_case (on_passed q t) = subst IsCounted (sym (push_on x v q t)) (rules_on q t _ second_two second_long (second_below (eqb v.ends.points 2)))
+  rules_case : PushCase x v.ends → IsSimple (push_of x v)
+  rules_case (on_none q) = subst IsSimple (sym (push_none x v q)) (rules_none q)
+  rules_case (on_equal q n) = subst IsSimple (sym (push_equal_to x v q n)) i
+  rules_case (on_second q n) = subst IsSimple (sym (push_second x v q n)) (rules_second q n)
+  rules_case (on_turn q t) = subst IsSimple (sym (push_at_turn x v q t)) (rules_turn q t)
+  rules_case (on_passed q t) = subst IsSimple (sym (push_on x v q t)) (rules_on q t _ second_two second_long (second_below (eqb v.ends.points 2)))
 
   -- the rules are kept by a push onto any value that meets them
-  pub pushed_counted : IsCounted (push_of x v)
+  pub pushed_counted : IsSimple (push_of x v)
   pushed_counted = rules_case (push_case x v.ends (λ q. (i.ends.differ q).1))
 
 -- a value stands for a list of points
-pub record On (v : Counted) (l : List ℕ) : Type 0 where
+pub record On (v : SimpleValue) (l : List ℕ) : Type 0 where
   pub ends : v.ends ≡ ends_of l
   pub decided : (k : ℕ) → k < v.classes → get_or v.decided k 0 ≡ decided_at k l
   pub extremes : (k : ℕ) → k < v.classes → get_or v.extremes k 0 ≡ extremes_at v.reference k l
 
-on_to : (v w : Counted) (l : List ℕ) → w ≡ v → On v l → On w l
+on_to : (v w : SimpleValue) (l : List ℕ) → w ≡ v → On v l → On w l
 on_to v w l e o = subst (λ z. On z l) (sym e) o
 
 ends_six : (a b c d e a' b' c' d' e' : ℕ) → a ≡ a' → b ≡ b' → c ≡ c' → d ≡ d' → e ≡ e' → ◌≡◌ {A = EndPoints} (record { points = a; first = b; second = c; before = d; last = e }) (record { points = a'; first = b'; second = c'; before = d'; last = e' })
@@ -240,7 +241,7 @@ same_refl p z n = grind arith
 same_on : (p z x : ℕ) → IsBetween p z x → Same p z x
 same_on p z x n = grind arith
 
-module _ (v : Counted) (x : ℕ) (i : IsCounted v) (h : x < v.classes) where
+module _ (v : SimpleValue) (x : ℕ) (i : IsSimple v) (h : x < v.classes) where
   on_empty : On v [] → On (push_of x v) (x ∷ [])
   on_empty o =
       let p = ap (λ e. e.points) o.ends in

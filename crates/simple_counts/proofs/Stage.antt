@@ -5,12 +5,13 @@ use Rattle.turning_points.specs.EndPoints.{EndPoints, IsEnds, put, meets, ends_p
 use Rattle.tables.specs.Tables.{added as both, raise}
 use Rattle.simple_counts.proofs.Joined.{joined_counted}
 use Rattle.simple_counts.proofs.Pushed.{pushed_counted}
-use Rattle.simple_counts.specs.Simple.{Counted, IsCounted, Agrees, none_at, decide, mark, decide_join, mark_join, turns_at, is_extreme}
+use Rattle.simple_counts.specs.Simple.{SimpleValue, IsSimple, Agrees, none_at, decide, mark, decide_join, mark_join, turns_at, is_extreme}
 use Rattle.lemmas.proofs.Sums.{get_or-le-sum}
 use Rattle.tables.proofs.Counting.{added_at, sum_added, length_added}
 use Rattle.turning_points.proofs.Put.{put_first}
 use Rattle.simple_counts.proofs.PutLists.{range_below, put_agrees, decide_length, mark_length}
 use Rattle.turning_points.proofs.PutEnds.{case_of, put_ends}
+use Rattle.turning_points.specs.declared.ends.TheConstants.{MAX_POINTS}
 
 pub record Stage (e : EndPoints) (d m : List ℕ) : Type 0 where
   pub ends : IsEnds (length d) e
@@ -38,7 +39,7 @@ stage r x e e' d m d' m' i h l f n p sd sm q s t =
     }
 
 -- what `join` may assume once the tables were added
-pub record Ready (s t : Counted) (d m : List ℕ) : Type 0 where
+pub record Ready (s t : SimpleValue) (d m : List ℕ) : Type 0 where
   pub left : IsEnds (length d) s.ends
   pub right : IsEnds (length d) t.ends
   pub same : length m ≡ length d
@@ -47,7 +48,7 @@ pub record Ready (s t : Counted) (d m : List ℕ) : Type 0 where
   pub room : sum d < 2 ^ 61
   pub space : sum m < 2 ^ 61
 
-pub ready : {s t : Counted} {d m : List ℕ} → IsCounted s → IsCounted t → s.classes ≡ t.classes → s.ends.points + t.ends.points ≤ 2 ^ 41 → d ≡ both s.decided t.decided → m ≡ both s.extremes t.extremes → Ready s t d m
+pub ready : {s t : SimpleValue} {d m : List ℕ} → IsSimple s → IsSimple t → s.classes ≡ t.classes → s.ends.points + t.ends.points ≤ MAX_POINTS → d ≡ both s.decided t.decided → m ≡ both s.extremes t.extremes → Ready s t d m
 ready {s} {t} {d} {m} i j k p q r =
     let a : length s.decided ≡ length t.decided = omega (arith, i.decided, j.decided) in
     let b : length s.extremes ≡ length t.extremes = omega (arith, i.extremes, j.extremes) in
@@ -65,18 +66,18 @@ ready {s} {t} {d} {m} i j k p q r =
       space = omega (arith, y, i.agrees.few, j.agrees.few);
     }
 
-value_same : (K r : ℕ) (e e' : EndPoints) (d d' m m' : List ℕ) → e' ≡ e → d' ≡ d → m' ≡ m → ◌≡◌ {A = Counted} (record { classes = K; reference = r; ends = e; decided = d; extremes = m }) (record { classes = K; reference = r; ends = e'; decided = d'; extremes = m' })
+value_same : (K r : ℕ) (e e' : EndPoints) (d d' m m' : List ℕ) → e' ≡ e → d' ≡ d → m' ≡ m → ◌≡◌ {A = SimpleValue} (record { classes = K; reference = r; ends = e; decided = d; extremes = m }) (record { classes = K; reference = r; ends = e'; decided = d'; extremes = m' })
 value_same K r e e' d d' m m' p q s = cc
 
 -- the value with these parts meets the rules
-pub closed : {s t : Counted} {e : EndPoints} {d m d' m' : List ℕ} → IsCounted s → IsCounted t → s.classes ≡ t.classes → s.ends.points + t.ends.points ≤ 2 ^ 41 → d ≡ both s.decided t.decided → m ≡ both s.extremes t.extremes → e ≡ meets s.ends t.ends → d' ≡ decide_join s.ends t.ends d → m' ≡ mark_join s.reference s.ends t.ends m → IsCounted (record { classes = s.classes; reference = s.reference; ends = e; decided = d'; extremes = m' })
+pub closed : {s t : SimpleValue} {e : EndPoints} {d m d' m' : List ℕ} → IsSimple s → IsSimple t → s.classes ≡ t.classes → s.ends.points + t.ends.points ≤ MAX_POINTS → d ≡ both s.decided t.decided → m ≡ both s.extremes t.extremes → e ≡ meets s.ends t.ends → d' ≡ decide_join s.ends t.ends d → m' ≡ mark_join s.reference s.ends t.ends m → IsSimple (record { classes = s.classes; reference = s.reference; ends = e; decided = d'; extremes = m' })
 closed {s} {t} {e} {d} {m} {d'} {m'} i j k p q r x y z =
-    subst IsCounted (value_same s.classes s.reference _ e _ d' _ m' x (y ∙ ap (decide_join s.ends t.ends) q) (z ∙ ap (mark_join s.reference s.ends t.ends) r)) (joined_counted s t i j k p)
+    subst IsSimple (value_same s.classes s.reference _ e _ d' _ m' x (y ∙ ap (decide_join s.ends t.ends) q) (z ∙ ap (mark_join s.reference s.ends t.ends) r)) (joined_counted s t i j k p)
 
-pub closed_push : {v : Counted} {e : EndPoints} {d m : List ℕ} (x : ℕ) → IsCounted v → x < v.classes → v.ends.points + 1 ≤ 2 ^ 41 → e ≡ ends_push x v.ends → d ≡ cond (turns_at x v.ends) (raise v.decided (range v.ends.before v.ends.last)) v.decided → m ≡ cond (leb 2 v.ends.points && is_extreme v.reference v.ends.before v.ends.last x) (raise v.extremes v.ends.last) v.extremes → IsCounted (record { classes = v.classes; reference = v.reference; ends = e; decided = d; extremes = m })
-closed_push {v} {e} {d} {m} x i h p q r s = subst IsCounted (value_same v.classes v.reference _ e _ d _ m q r s) (pushed_counted v x i h p)
+pub closed_push : {v : SimpleValue} {e : EndPoints} {d m : List ℕ} (x : ℕ) → IsSimple v → x < v.classes → v.ends.points + 1 ≤ MAX_POINTS → e ≡ ends_push x v.ends → d ≡ cond (turns_at x v.ends) (raise v.decided (range v.ends.before v.ends.last)) v.decided → m ≡ cond (leb 2 v.ends.points && is_extreme v.reference v.ends.before v.ends.last x) (raise v.extremes v.ends.last) v.extremes → IsSimple (record { classes = v.classes; reference = v.reference; ends = e; decided = d; extremes = m })
+closed_push {v} {e} {d} {m} x i h p q r s = subst IsSimple (value_same v.classes v.reference _ e _ d _ m q r s) (pushed_counted v x i h p)
 
-pub ranges_within : {v : Counted} → IsCounted v → (range v.ends.before v.ends.last < length v.decided) × (v.ends.last < length v.extremes) × (sum v.decided < 2 ^ 61) × (sum v.extremes < 2 ^ 61)
+pub ranges_within : {v : SimpleValue} → IsSimple v → (range v.ends.before v.ends.last < length v.decided) × (v.ends.last < length v.extremes) × (sum v.decided < 2 ^ 61) × (sum v.extremes < 2 ^ 61)
 ranges_within {v} i =
     let b = i.ends.below in
     (omega (arith, i.decided, range_below v.classes v.ends.before v.ends.last b.2 b.3), omega (arith, i.extremes), omega (arith, i.agrees.sum_of, i.few), omega (arith, i.agrees.few, i.few))

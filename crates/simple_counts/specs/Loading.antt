@@ -3,13 +3,14 @@
 --   CountsEnds    both are among the ranges, of three or more points as two half units
 --   CanLoad       ends, peaks, valleys and ranges that it can take over
 --   loaded_of     the value with them
-use Rattle.std.specs.Prelude.{◌≡◌, ◌≤◌, ◌^◌, ℕ, ◌+◌, ◌-◌, nat_le, if◌then◌else◌, List, replicate}
+use Rattle.std.specs.Prelude.{◌≡◌, ◌≤◌, ℕ, ◌+◌, ◌-◌, nat_le, if◌then◌else◌, List, replicate}
 use Rattle.tally.specs.declared.cells.Bin.{Bin}
 use Rattle.turning_points.specs.Pairs.{range}
 use Rattle.turning_points.specs.EndPoints.{EndPoints, IsEnds}
 use Rattle.tables.specs.Tables.{filled, lower}
 use Rattle.tables.specs.Bins.{AreBinsFrom, count_at, sum_of}
-use Rattle.simple_counts.specs.Simple.{Counted}
+use Rattle.simple_counts.specs.Simple.{SimpleValue}
+use Rattle.turning_points.specs.declared.ends.TheConstants.{MAX_POINTS}
 
 abbrev pub first_range : EndPoints → ℕ
 first_range e = range e.first e.second
@@ -25,7 +26,7 @@ pub record CountsEnds (e : EndPoints) (ranges : List Bin) : Type 0 where
 -- the three lists ascend by key and count nothing as 0, and their sums are those of so many points
 pub record CanLoad (classes reference : ℕ) (e : EndPoints) (peaks valleys ranges : List Bin) : Type 0 where
   pub ends : IsEnds classes e
-  pub few : e.points ≤ 2 ^ 41
+  pub few : e.points ≤ MAX_POINTS
   pub peaks_are : AreBinsFrom reference classes peaks
   pub valleys_are : AreBinsFrom 0 reference valleys
   pub ranges_are : AreBinsFrom 1 classes ranges
@@ -37,7 +38,7 @@ pub record CanLoad (classes reference : ℕ) (e : EndPoints) (peaks valleys rang
 abbrev pub decided_of : ℕ → EndPoints → List Bin → List ℕ
 decided_of k e ranges = if nat_le 2 e.points then lower (filled 0 (replicate k 0) ranges) (last_range e) else filled 0 (replicate k 0) ranges
 
-abbrev pub loaded_of : ℕ → ℕ → EndPoints → List Bin → List Bin → List Bin → Counted
+abbrev pub loaded_of : ℕ → ℕ → EndPoints → List Bin → List Bin → List Bin → SimpleValue
 loaded_of classes reference e peaks valleys ranges = record {
   classes = classes;
   reference = reference;

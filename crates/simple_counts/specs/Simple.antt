@@ -2,17 +2,19 @@
 --   ranges_at        how many neighbours are k apart
 --   peaks_at         how many inner levels at l, at or above the reference, are greater than both neighbours
 --   valleys_at       how many inner levels at l, below the reference, are less than both neighbours
---   Counted          what contracts see of a `Simple`: the ranges but the last, which may still grow, and one table for peaks and valleys
+--   SimpleValue      what contracts see of a `Simple`: the ranges but the last, which may still grow, and one table for peaks and
+--                    valleys
 --   range_count, peak_count, valley_count   what the readers tell
---   IsCounted        what holds of every `Simple`
+--   IsSimple         what holds of every `Simple`
 --   Counts           a value stands for a history
 --   push_of, join_of   a value after one level more, and two values one after the other
-use Rattle.std.specs.Prelude.{◌≡◌, ℕ, ◌+◌, ◌-◌, ◌^◌, ◌<◌, ◌≤◌, Bool, ◌&&◌, ◌||◌, nat_lt, nat_le, ◌==◌, if◌then◌else◌, List, [], ◌∷◌, length, slice_index, sum, take, replicate}
+use Rattle.std.specs.Prelude.{◌≡◌, ℕ, ◌+◌, ◌-◌, ◌<◌, ◌≤◌, Bool, ◌&&◌, ◌||◌, nat_lt, nat_le, ◌==◌, if◌then◌else◌, List, [], ◌∷◌, length, slice_index, sum, take, replicate}
 use Rattle.turning_points.specs.Points.{is_turn, points}
 use Rattle.turning_points.specs.Pairs.{range}
 use Rattle.turning_points.specs.EndPoints.{EndPoints, IsEnds, ends_of, ends_push, meets, no_ends, put}
 use Rattle.tables.specs.Tables.{added, is_at, lower, raise}
 use Rattle.calibration.specs.declared.grid.TheConstants.{MIN_CLASSES, MAX_CLASSES}
+use Rattle.turning_points.specs.declared.ends.TheConstants.{MAX_POINTS}
 
 abbrev pub ranges_at : ℕ → List ℕ → ℕ
 ranges_at k [] = 0
@@ -53,23 +55,23 @@ extremes_at r k l = triples (λ x y z. if is_extreme r x y z then is_at k y else
 abbrev pub open_at : ℕ → EndPoints → ℕ
 open_at k e = if nat_le 2 e.points then is_at k (range e.before e.last) else 0
 
-pub record Counted : Type 0 where
+pub record SimpleValue : Type 0 where
   pub classes : ℕ
   pub reference : ℕ
   pub ends : EndPoints
   pub decided : List ℕ
   pub extremes : List ℕ
 
-abbrev pub nothing : ℕ → ℕ → Counted
+abbrev pub nothing : ℕ → ℕ → SimpleValue
 nothing k r = record { classes = k; reference = r; ends = no_ends; decided = replicate k 0; extremes = replicate k 0 }
 
-abbrev pub range_count : Counted → ℕ → ℕ
+abbrev pub range_count : SimpleValue → ℕ → ℕ
 range_count v k = slice_index v.decided k + open_at k v.ends
 
-abbrev pub peak_count : Counted → ℕ → ℕ
+abbrev pub peak_count : SimpleValue → ℕ → ℕ
 peak_count v l = if nat_le v.reference l then slice_index v.extremes l else 0
 
-abbrev pub valley_count : Counted → ℕ → ℕ
+abbrev pub valley_count : SimpleValue → ℕ → ℕ
 valley_count v l = if nat_le v.reference l then 0 else slice_index v.extremes l
 
 -- tables agree with ends, over what another part has in them: the sums, and the first range is counted besides
@@ -82,16 +84,16 @@ pub record Agrees (sum_a sum_b : ℕ) (a : ℕ → ℕ) (e : EndPoints) (decided
 abbrev pub none_at : ℕ → ℕ
 none_at k = 0
 
-pub record IsCounted (v : Counted) : Type 0 where
+pub record IsSimple (v : SimpleValue) : Type 0 where
   pub classes : (MIN_CLASSES ≤ v.classes) × (v.classes ≤ MAX_CLASSES)
   pub reference : (1 ≤ v.reference) × (v.reference < v.classes)
   pub decided : length v.decided ≡ v.classes
   pub extremes : length v.extremes ≡ v.classes
   pub ends : IsEnds v.classes v.ends
   pub agrees : Agrees 0 0 none_at v.ends v.decided v.extremes
-  pub few : v.ends.points ≤ 2 ^ 41
+  pub few : v.ends.points ≤ MAX_POINTS
 
-pub record Counts (v : Counted) (h : List ℕ) : Type 0 where
+pub record Counts (v : SimpleValue) (h : List ℕ) : Type 0 where
   pub ends : v.ends ≡ ends_of (points h)
   pub decided : (k : ℕ) → k < v.classes → slice_index v.decided k ≡ decided_at k (points h)
   pub extremes : (l : ℕ) → l < v.classes → slice_index v.extremes l ≡ extremes_at v.reference l (points h)
@@ -114,7 +116,7 @@ decide_join e f d = if e.points == 0 then d else if e.points == 1 then decide e.
 abbrev pub mark_join : ℕ → EndPoints → EndPoints → List ℕ → List ℕ
 mark_join r e f m = if e.points == 0 then m else if e.points == 1 then mark r e.last f m else mark r e.before (put e.last f) (mark r e.last f m)
 
-abbrev pub join_of : Counted → Counted → Counted
+abbrev pub join_of : SimpleValue → SimpleValue → SimpleValue
 join_of s t = record {
   classes = s.classes;
   reference = s.reference;
@@ -126,7 +128,7 @@ join_of s t = record {
 abbrev pub turns_at : ℕ → EndPoints → Bool
 turns_at x e = nat_le 2 e.points && is_turn e.before e.last x
 
-abbrev pub push_of : ℕ → Counted → Counted
+abbrev pub push_of : ℕ → SimpleValue → SimpleValue
 push_of x v = record {
   classes = v.classes;
   reference = v.reference;
@@ -136,12 +138,12 @@ push_of x v = record {
 }
 
 -- the value with the ends of a list and these tables
-abbrev pub value_of : ℕ → ℕ → List ℕ → List ℕ → List ℕ → Counted
+abbrev pub value_of : ℕ → ℕ → List ℕ → List ℕ → List ℕ → SimpleValue
 value_of k r l d m = record { classes = k; reference = r; ends = ends_of l; decided = d; extremes = m }
 
 -- the tables of the first n points of a list
 pub record Fills (k r : ℕ) (l : List ℕ) (n : ℕ) (d m : List ℕ) : Type 0 where
-  pub rules : IsCounted (value_of k r (take n l) d m)
+  pub rules : IsSimple (value_of k r (take n l) d m)
   pub counts : Counts (value_of k r (take n l) d m) (take n l)
 
 -- the peaks, the valleys and the ranges of a history are those of its points

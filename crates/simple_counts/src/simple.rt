@@ -6,7 +6,8 @@ ghost use Rattle.turning_points.specs.Ends.{end_points};
 ghost use Rattle.tables.specs.Tables.{filled, raise};
 ghost use Rattle.tables.specs.Bins.{count_at};
 ghost use Rattle.simple_counts.specs.Loading.{CanLoad, decided_of, last_range, loaded_of};
-ghost use Rattle.simple_counts.specs.Simple.{Agrees, Counted, Counts, IsCounted, decide, decide_join, extremes_at, is_extreme, join_of, mark, mark_join, none_at, nothing, peak_count, peaks_at, push_of, range_count, ranges_at, turns_at, valley_count, valleys_at};
+ghost use Rattle.simple_counts.specs.Simple.{Agrees, SimpleValue, Counts, IsSimple, decide, decide_join, extremes_at, is_extreme, join_of, mark, mark_join, none_at, nothing, peak_count, peaks_at, push_of, range_count, ranges_at, turns_at, valley_count, valleys_at};
+ghost use Rattle.turning_points.specs.declared.ends.TheConstants.{MAX_POINTS};
 
 use crate::points::fill;
 use calibration::Grid;
@@ -27,10 +28,10 @@ pub struct Simple {
 }
 
 impl Model for Simple {
-    ghost use Rattle.simple_counts.specs.Simple.{Counted, IsCounted};
+    ghost use Rattle.simple_counts.specs.Simple.{SimpleValue, IsSimple};
     ghost use Rattle.turning_points.specs.Ends.{end_points};
 
-    ghost Value = { Counted };
+    ghost Value = { SimpleValue };
 
     ghost view = { λ s. record {
       classes = s.classes;
@@ -40,7 +41,7 @@ impl Model for Simple {
       extremes = s.extremes.items;
     } };
 
-    ghost invariant = { λ s. IsCounted (record {
+    ghost invariant = { λ s. IsSimple (record {
       classes = s.classes;
       reference = s.reference;
       ends = end_points s.ends;
@@ -223,7 +224,7 @@ impl Simple {
     /// The ends of the history.
     pub fn ends(&self) -> Ends
         ensures ends { end_points result ≡ self.now.ends }
-        ensures rules { IsCounted self.now }
+        ensures rules { IsSimple self.now }
     {
         self.ends
     }
@@ -231,10 +232,10 @@ impl Simple {
     /// The two, one after the other; what the value is then.
     fn joined(&mut self, right: &Simple)
         requires classes { self.old.classes ≡ right.now.classes }
-        requires room { self.old.ends.points + right.now.ends.points ≤ 2 ^ 41 }
+        requires room { self.old.ends.points + right.now.ends.points ≤ MAX_POINTS }
         ensures value { self.new ≡ join_of self.old right.now }
-        ensures left { IsCounted self.old }
-        ensures right { IsCounted right.now }
+        ensures left { IsSimple self.old }
+        ensures right { IsSimple right.now }
     {
         let left = self.ends;
         add_to(&mut self.decided, &right.decided);
@@ -254,11 +255,11 @@ impl Simple {
     pub fn join(&mut self, right: &Simple)
         requires classes { self.old.classes ≡ right.now.classes }
         requires reference { self.old.reference ≡ right.now.reference }
-        requires room { self.old.ends.points + right.now.ends.points ≤ 2 ^ 41 }
+        requires room { self.old.ends.points + right.now.ends.points ≤ MAX_POINTS }
         ensures grid { (self.new.classes ≡ self.old.classes)
             × (self.new.reference ≡ self.old.reference) }
         ensures ends { self.new.ends ≡ meets self.old.ends right.now.ends }
-        ensures rules { IsCounted self.new }
+        ensures rules { IsSimple self.new }
         ensures histories { (u v : List ℕ) → Counts self.old u → Counts right.now v →
             Counts self.new (u ++ v) }
     {
@@ -268,9 +269,9 @@ impl Simple {
     /// One level more; what the value is then.
     fn pushed(&mut self, level: u16)
         requires level { level < self.old.classes }
-        requires room { self.old.ends.points + 1 ≤ 2 ^ 41 }
+        requires room { self.old.ends.points + 1 ≤ MAX_POINTS }
         ensures value { self.new ≡ push_of level self.old }
-        ensures rules { IsCounted self.old }
+        ensures rules { IsSimple self.old }
     {
         let e = self.ends;
         let turns = turns(level, &e);
@@ -284,11 +285,11 @@ impl Simple {
     /// One level more.
     pub fn push(&mut self, level: u16)
         requires level { level < self.old.classes }
-        requires room { self.old.ends.points + 1 ≤ 2 ^ 41 }
+        requires room { self.old.ends.points + 1 ≤ MAX_POINTS }
         ensures grid { (self.new.classes ≡ self.old.classes)
             × (self.new.reference ≡ self.old.reference) }
         ensures ends { self.new.ends ≡ ends_push level self.old.ends }
-        ensures rules { IsCounted self.new }
+        ensures rules { IsSimple self.new }
         ensures histories { (u : List ℕ) → Counts self.old u → Counts self.new (u ++ level ∷ []) }
     {
         self.pushed(level)
@@ -299,11 +300,11 @@ impl Simple {
         requires empty { self.old ≡ nothing self.old.classes self.old.reference }
         requires own { points list.now ≡ list.now }
         requires below { All (λ level. level < self.old.classes) list.now }
-        requires few { length list.now ≤ 2 ^ 41 }
+        requires few { length list.now ≤ MAX_POINTS }
         ensures grid { (self.new.classes ≡ self.old.classes)
             × (self.new.reference ≡ self.old.reference) }
         ensures ends { self.new.ends ≡ ends_of list.now }
-        ensures rules { IsCounted self.new }
+        ensures rules { IsSimple self.new }
         ensures histories { (h : List ℕ) → points h ≡ list.now → Counts self.new h }
     {
         fill(&mut self.decided, &mut self.extremes, self.reference, list);
@@ -317,7 +318,7 @@ impl Simple {
         ensures value { self.new ≡ loaded_of self.old.classes self.old.reference (end_points
             ends.now)
             peaks.now valleys.now ranges.now }
-        ensures rules { IsCounted self.old }
+        ensures rules { IsSimple self.old }
     {
         load_ranges(&mut self.decided, ends, ranges);
         load_extremes(&mut self.extremes, peaks, valleys);
@@ -334,7 +335,7 @@ impl Simple {
         ensures ranges { (k : ℕ) → range_count self.new k ≡ count_at k ranges.now }
         ensures peaks { (l : ℕ) → peak_count self.new l ≡ count_at l peaks.now }
         ensures valleys { (l : ℕ) → valley_count self.new l ≡ count_at l valleys.now }
-        ensures rules { IsCounted self.new }
+        ensures rules { IsSimple self.new }
     {
         self.loaded(ends, peaks, valleys, ranges)
     }
@@ -342,7 +343,7 @@ impl Simple {
     /// Nothing counted any more.
     pub fn clear(&mut self)
         ensures empty { self.new ≡ nothing self.old.classes self.old.reference }
-        ensures rules { IsCounted self.new }
+        ensures rules { IsSimple self.new }
     {
         empty(&mut self.decided);
         empty(&mut self.extremes);
@@ -352,7 +353,7 @@ impl Simple {
     /// Nothing counted.
     pub fn new(alloc: Global, grid: &Grid) -> Result<Simple, AllocError>
         ensures value { IfOk result (λ s. s ≡ nothing grid.now.classes grid.now.reference) }
-        ensures rules { IfOk result (λ s. IsCounted s) }
+        ensures rules { IfOk result (λ s. IsSimple s) }
     {
         let classes = grid.classes();
         let reference = grid.reference();

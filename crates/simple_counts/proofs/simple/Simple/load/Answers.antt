@@ -1,7 +1,7 @@
 use Rattle.std.proofs.Common.{◌≡◌, sym, subst}
 use Rattle.turning_points.specs.Ends.{end_points}
 use Rattle.tables.specs.Bins.{count_at}
-use Rattle.simple_counts.specs.Simple.{IsCounted, range_count, peak_count, valley_count}
+use Rattle.simple_counts.specs.Simple.{IsSimple, range_count, peak_count, valley_count}
 use Rattle.simple_counts.proofs.Loaded.{loaded_counted, loaded_ranges, loaded_peaks, loaded_valleys}
 use Rattle.simple_counts.proofs.simple.Simple.load.Goals as goal
 
@@ -21,4 +21,4 @@ returns-clause-valleys c = λ l.
 pub returns-clause-rules : goal.returns-clause-rules
 returns-clause-rules c =
     let limits = c.loaded.ensures.rules in
-    subst IsCounted (sym c.loaded.ensures.value) (loaded_counted c.args.self.now.classes c.args.self.now.reference (end_points c.args.ends.now) c.args.peaks.now c.args.valleys.now c.args.ranges.now c.requires (limits.classes, limits.reference))
+    subst IsSimple (sym c.loaded.ensures.value) (loaded_counted c.args.self.now.classes c.args.self.now.reference (end_points c.args.ends.now) c.args.peaks.now c.args.valleys.now c.args.ranges.now c.requires (limits.classes, limits.reference))
