@@ -19,9 +19,9 @@ pub struct Reducer {
 // Clauses see the number of classes and the residue.
 impl Model for Reducer {
     ghost use Rattle.std.specs.Prelude.{take};
-    ghost use Rattle.four_point.specs.Residue.{Reduced, IsStack};
+    ghost use Rattle.four_point.specs.Residue.{ReducerValue, IsStack};
 
-    ghost Value = { Reduced };
+    ghost Value = { ReducerValue };
 
     ghost view = { λ r. record { classes = r.classes; residue = take r.len r.levels.items } };
 
