@@ -1,0 +1,6 @@
+pub mod Decoding
+pub mod Fields
+pub mod Grammar
+pub mod Rows
+pub mod Sizes
+pub mod Views

@@ -1,0 +1,241 @@
+ghost use Rattle.std.specs.Prelude.{◌≡◌, ◌+◌, ◌-◌, ◌≤◌, ◌<◌, ◌^◌, length, IfOk};
+ghost use Rattle.std.specs.Int.{w16, w32};
+ghost use Rattle.segment_bytes.specs.Fields.{Gives, number_at, times, counted, both};
+ghost use Rattle.segment_bytes.specs.Grammar.{cell_at, bin_at, row_at, back_at};
+ghost use Rattle.segment_bytes.specs.Views.{lists, row_lists, four, see_row, see_rows};
+
+use crate::fault::BytesFault;
+use crate::numbers::{bin_of, cell_of, u16_at, u32_at};
+use crate::row_reading::Row;
+use std::alloc::Global;
+use tally::{Bin, Cell};
+
+fn levels_of(
+    alloc: Global,
+    have: usize,
+    count: u16,
+    bytes: &[u8],
+) -> Result<(Vec<u16>, &[u8]), BytesFault>
+    requires within { length bytes.now ≤ have }
+    requires small { have < 2 ^ 63 }
+    ensures reads { Gives (λ x. (x.0.items, x.1.now)) result
+        (times (number_at w16) count have bytes.now) }
+    ensures rest { IfOk result (λ x. length x.1.now ≤ length bytes.now) }
+{
+    let mut levels = Vec::new(alloc);
+    let mut rest = bytes;
+    for _ in 0..count {
+        let (level, after) = u16_at(have, rest)?;
+        levels.push(level)?;
+        rest = after;
+    }
+    Ok((levels, rest))
+}
+
+fn cells_of(
+    alloc: Global,
+    have: usize,
+    count: u32,
+    bytes: &[u8],
+) -> Result<(Vec<Cell>, &[u8]), BytesFault>
+    requires within { length bytes.now ≤ have }
+    requires small { have < 2 ^ 63 }
+    ensures reads { Gives (λ x. (x.0.items, x.1.now)) result (times cell_at count have bytes.now) }
+    ensures rest { IfOk result (λ x. length x.1.now ≤ length bytes.now) }
+{
+    let mut cells = Vec::new(alloc);
+    let mut rest = bytes;
+    for _ in 0..count {
+        let (cell, after) = cell_of(have, rest)?;
+        cells.push(cell)?;
+        rest = after;
+    }
+    Ok((cells, rest))
+}
+
+fn bins_of(
+    alloc: Global,
+    have: usize,
+    count: u16,
+    bytes: &[u8],
+) -> Result<(Vec<Bin>, &[u8]), BytesFault>
+    requires within { length bytes.now ≤ have }
+    requires small { have < 2 ^ 63 }
+    ensures reads { Gives (λ x. (x.0.items, x.1.now)) result (times bin_at count have bytes.now) }
+    ensures rest { IfOk result (λ x. length x.1.now ≤ length bytes.now) }
+{
+    let mut bins = Vec::new(alloc);
+    let mut rest = bytes;
+    for _ in 0..count {
+        let (bin, after) = bin_of(have, rest)?;
+        bins.push(bin)?;
+        rest = after;
+    }
+    Ok((bins, rest))
+}
+
+fn row_of(alloc: Global, have: usize, bytes: &[u8]) -> Result<(Row, &[u8]), BytesFault>
+    requires within { length bytes.now ≤ have }
+    requires small { have < 2 ^ 63 }
+    ensures reads { Gives (λ x. (see_row x.0, x.1.now)) result (row_at have bytes.now) }
+    ensures rest { IfOk result (λ x. length x.1.now ≤ length bytes.now) }
+{
+    let (lo, rest) = u16_at(have, bytes)?;
+    let (bins, rest) = bins_in(alloc, have, rest)?;
+    Ok((Row { lo, bins }, rest))
+}
+
+fn rows_of(
+    alloc: Global,
+    have: usize,
+    count: u16,
+    bytes: &[u8],
+) -> Result<(Vec<Row>, &[u8]), BytesFault>
+    requires within { length bytes.now ≤ have }
+    requires small { have < 2 ^ 63 }
+    ensures reads { Gives (λ x. (see_rows x.0.items, x.1.now)) result
+        (times row_at count have bytes.now) }
+    ensures rest { IfOk result (λ x. length x.1.now ≤ length bytes.now) }
+{
+    let mut rows = Vec::new(alloc);
+    let mut rest = bytes;
+    for _ in 0..count {
+        let (row, after) = row_of(alloc, have, rest)?;
+        rows.push(row)?;
+        rest = after;
+    }
+    Ok((rows, rest))
+}
+
+fn levels_in(alloc: Global, have: usize, bytes: &[u8]) -> Result<(Vec<u16>, &[u8]), BytesFault>
+    requires within { length bytes.now ≤ have }
+    requires small { have < 2 ^ 63 }
+    ensures reads { Gives (λ x. (x.0.items, x.1.now)) result
+        (counted w16 (number_at w16) have bytes.now) }
+    ensures rest { IfOk result (λ x. length x.1.now ≤ length bytes.now) }
+{
+    let (count, rest) = u16_at(have, bytes)?;
+    levels_of(alloc, have, count, rest)
+}
+
+fn cells_in(alloc: Global, have: usize, bytes: &[u8]) -> Result<(Vec<Cell>, &[u8]), BytesFault>
+    requires within { length bytes.now ≤ have }
+    requires small { have < 2 ^ 63 }
+    ensures reads { Gives (λ x. (x.0.items, x.1.now)) result
+        (counted w32 cell_at have bytes.now) }
+    ensures rest { IfOk result (λ x. length x.1.now ≤ length bytes.now) }
+{
+    let (count, rest) = u32_at(have, bytes)?;
+    cells_of(alloc, have, count, rest)
+}
+
+fn bins_in(alloc: Global, have: usize, bytes: &[u8]) -> Result<(Vec<Bin>, &[u8]), BytesFault>
+    requires within { length bytes.now ≤ have }
+    requires small { have < 2 ^ 63 }
+    ensures reads { Gives (λ x. (x.0.items, x.1.now)) result
+        (counted w16 bin_at have bytes.now) }
+    ensures rest { IfOk result (λ x. length x.1.now ≤ length bytes.now) }
+{
+    let (count, rest) = u16_at(have, bytes)?;
+    bins_of(alloc, have, count, rest)
+}
+
+fn rows_in(alloc: Global, have: usize, bytes: &[u8]) -> Result<(Vec<Row>, &[u8]), BytesFault>
+    requires within { length bytes.now ≤ have }
+    requires small { have < 2 ^ 63 }
+    ensures reads { Gives (λ x. (see_rows x.0.items, x.1.now)) result
+        (counted w16 row_at have bytes.now) }
+    ensures rest { IfOk result (λ x. length x.1.now ≤ length bytes.now) }
+{
+    let (count, rest) = u16_at(have, bytes)?;
+    rows_of(alloc, have, count, rest)
+}
+
+// The four lists at the end.
+#[derive(Drop)]
+pub(crate) struct Four {
+    pub(crate) crossings: Vec<Bin>,
+    pub(crate) peaks: Vec<Bin>,
+    pub(crate) valleys: Vec<Bin>,
+    pub(crate) ranges: Vec<Bin>,
+}
+
+fn four_of(alloc: Global, have: usize, bytes: &[u8]) -> Result<(Four, &[u8]), BytesFault>
+    requires within { length bytes.now ≤ have }
+    requires small { have < 2 ^ 63 }
+    ensures reads { Gives (λ x. (four x.0, x.1.now)) result
+        (both (counted w16 bin_at) (both (counted w16 bin_at)
+        (both (counted w16 bin_at) (counted w16 bin_at))) have bytes.now) }
+{
+    let (crossings, rest) = bins_in(alloc, have, bytes)?;
+    let (peaks, rest) = bins_in(alloc, have, rest)?;
+    let (valleys, rest) = bins_in(alloc, have, rest)?;
+    let (ranges, rest) = bins_in(alloc, have, rest)?;
+    let four = Four {
+        crossings,
+        peaks,
+        valleys,
+        ranges,
+    };
+    Ok((four, rest))
+}
+
+// The lists behind the ends.
+#[derive(Drop)]
+pub(crate) struct Lists {
+    pub(crate) residue: Vec<u16>,
+    pub(crate) cells: Vec<Cell>,
+    pub(crate) four: Four,
+}
+
+// The same with the cells in rows.
+#[derive(Drop)]
+pub(crate) struct RowLists {
+    pub(crate) residue: Vec<u16>,
+    pub(crate) rows: Vec<Row>,
+    pub(crate) four: Four,
+}
+
+#[tactic(auto, unfolding(crate::specs::Grammar::back_at))]
+pub(crate) fn lists_of(
+    alloc: Global,
+    have: usize,
+    bytes: &[u8],
+) -> Result<(Lists, &[u8]), BytesFault>
+    requires within { length bytes.now ≤ have }
+    requires small { have < 2 ^ 63 }
+    ensures reads { Gives (λ x. (lists x.0, x.1.now)) result
+        (back_at (counted w32 cell_at) have bytes.now) }
+{
+    let (residue, rest) = levels_in(alloc, have, bytes)?;
+    let (cells, rest) = cells_in(alloc, have, rest)?;
+    let (four, rest) = four_of(alloc, have, rest)?;
+    let lists = Lists {
+        residue,
+        cells,
+        four,
+    };
+    Ok((lists, rest))
+}
+
+#[tactic(auto, unfolding(crate::specs::Grammar::back_at))]
+pub(crate) fn row_lists_of(
+    alloc: Global,
+    have: usize,
+    bytes: &[u8],
+) -> Result<(RowLists, &[u8]), BytesFault>
+    requires within { length bytes.now ≤ have }
+    requires small { have < 2 ^ 63 }
+    ensures reads { Gives (λ x. (row_lists x.0, x.1.now)) result
+        (back_at (counted w16 row_at) have bytes.now) }
+{
+    let (residue, rest) = levels_in(alloc, have, bytes)?;
+    let (rows, rest) = rows_in(alloc, have, rest)?;
+    let (four, rest) = four_of(alloc, have, rest)?;
+    let lists = RowLists {
+        residue,
+        rows,
+        four,
+    };
+    Ok((lists, rest))
+}

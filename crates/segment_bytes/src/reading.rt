@@ -1,0 +1,91 @@
+ghost use Rattle.std.specs.Prelude.{◌≡◌, ◌≤◌, ◌<◌, ◌^◌, length};
+ghost use Rattle.std.specs.Int.{w16, w32};
+ghost use Rattle.turning_points.specs.Ends.{end_points};
+ghost use Rattle.segment_rules.specs.Parts.{parts_value};
+ghost use Rattle.segment_bytes.specs.Fields.{Gives, counted};
+ghost use Rattle.segment_bytes.specs.Grammar.{body_at, cell_at, joined as joined_is, row_at};
+ghost use Rattle.segment_bytes.specs.Views.{cells_body, four, rows_body, six};
+
+use crate::entries::{Four, lists_of, row_lists_of};
+use crate::fault::BytesFault;
+use crate::numbers::{Six, ends_of, six_of};
+use crate::row_reading::Row;
+use segment_rules::{Bins, Cells, Levels, Name, Parts};
+use std::alloc::Global;
+use tally::Cell;
+use turning_points::Ends;
+
+fn joined(front: &Six, ends: &Ends, residue: Vec<u16>, cells: Vec<Cell>, back: Four) -> Parts
+    ensures { parts_value result ≡ joined_is ((
+      (six front.now, end_points ends.now),
+      (residue.items, (cells.items, four back)),
+    )) }
+{
+    let name = Name {
+        gauge: front.gauge,
+        from: front.from,
+        to: front.to,
+    };
+    Parts {
+        name,
+        used: front.used,
+        missing: front.missing,
+        refused: front.refused,
+        ends: *ends,
+        residue: Levels::from_vec(residue),
+        cells: Cells::from_vec(cells),
+        crossings: Bins::from_vec(back.crossings),
+        peaks: Bins::from_vec(back.peaks),
+        valleys: Bins::from_vec(back.valleys),
+        ranges: Bins::from_vec(back.ranges),
+    }
+}
+
+/// Parts from the front of the bytes, and what is behind them.
+#[tactic(auto, unfolding(crate::specs::Grammar::body_at))]
+pub(crate) fn parts_of(
+    alloc: Global,
+    have: usize,
+    bytes: &[u8],
+) -> Result<(Parts, &[u8]), BytesFault>
+    requires within { length bytes.now ≤ have }
+    requires small { have < 2 ^ 63 }
+    ensures { Gives (λ x. (cells_body x.0, x.1.now)) result
+        (body_at (counted w32 cell_at) have bytes.now) }
+{
+    let (front, rest) = six_of(have, bytes)?;
+    let (ends, rest) = ends_of(have, rest)?;
+    let (lists, rest) = lists_of(alloc, have, rest)?;
+    let parts = joined(&front, &ends, lists.residue, lists.cells, lists.four);
+    Ok((parts, rest))
+}
+
+// Parts whose cells are still in rows.
+#[derive(Drop)]
+pub(crate) struct RowParts {
+    pub(crate) parts: Parts,
+    pub(crate) rows: Vec<Row>,
+}
+
+/// The same, with the cells in rows.
+#[tactic(auto, unfolding(crate::specs::Grammar::body_at))]
+pub(crate) fn row_parts_of(
+    alloc: Global,
+    have: usize,
+    bytes: &[u8],
+) -> Result<(RowParts, &[u8]), BytesFault>
+    requires within { length bytes.now ≤ have }
+    requires small { have < 2 ^ 63 }
+    ensures { Gives (λ x. (rows_body x.0, x.1.now)) result
+        (body_at (counted w16 row_at) have bytes.now) }
+{
+    let (front, rest) = six_of(have, bytes)?;
+    let (ends, rest) = ends_of(have, rest)?;
+    let (lists, rest) = row_lists_of(alloc, have, rest)?;
+    let parts = joined(&front, &ends, lists.residue, Vec::new(alloc), lists.four);
+    let row_parts = RowParts {
+        parts,
+        rows: lists.rows,
+    };
+    Ok((row_parts, rest))
+}
