@@ -1,0 +1,9 @@
+pub mod Alikeness
+pub mod Deleted
+pub mod Residues
+pub mod Room
+pub mod Rules
+pub mod Standing
+pub mod OfPoints
+pub mod Kept
+pub mod HalfUnits

@@ -1,0 +1,12 @@
+pub mod Alike
+pub mod Segment
+pub mod Joining
+pub mod Readings
+pub mod Figures
+pub use Rattle.turning_points.specs.Points
+pub use Rattle.turning_points.specs.Pairs
+pub use Rattle.three_point.specs.Run
+pub use Rattle.four_point.specs.Reduction
+pub use Rattle.level_crossing.specs.Crossings
+pub use Rattle.simple_counts.specs.Simple
+pub use Rattle.calibration.specs.History

@@ -1,0 +1,127 @@
+ghost use Rattle.std.specs.Prelude.{◌≡◌, ◌≤◌, IfOk};
+ghost use Rattle.recording.specs.declared.TheConstants.{MAX_SAMPLES};
+ghost use Rattle.segment.specs.Segment.{IsSegment, empty_at};
+
+mod counts;
+mod halves;
+mod join;
+mod readers;
+mod take;
+
+use calibration::Grid;
+use four_point::Reducer;
+pub use join::JoinRefusal;
+use level_crossing::Crossings;
+use recording::MAX_SAMPLES;
+use simple_counts::Simple;
+use std::alloc::{AllocError, Global};
+use std::marker::Model;
+use tally::{Tally, room_for};
+
+/// What is kept of the samples `from` up to and without `to` of a gauge.
+#[derive(Drop)]
+pub struct Segment {
+    grid: Grid,
+    gauge: u16,
+    from: u64,
+    to: u64,
+    longest: u64,
+    used: u64,
+    missing: u64,
+    refused: u64,
+    tally: Tally,
+    reducer: Reducer,
+    crossings: Crossings,
+    simple: Simple,
+}
+
+impl Model for Segment {
+    ghost use Rattle.segment.specs.Segment.{SegmentValue, IsSegment};
+
+    ghost Value = { SegmentValue };
+
+    ghost view = { λ s. record {
+      grid = s.grid;
+      gauge = s.gauge;
+      from = s.from;
+      to = s.to;
+      longest = s.longest;
+      used = s.used;
+      missing = s.missing;
+      refused = s.refused;
+      tally = s.tally;
+      reducer = s.reducer;
+      crossings = s.crossings;
+      simple = s.simple;
+    } };
+
+    ghost invariant = { λ s. IsSegment (record {
+      grid = s.grid;
+      gauge = s.gauge;
+      from = s.from;
+      to = s.to;
+      longest = s.longest;
+      used = s.used;
+      missing = s.missing;
+      refused = s.refused;
+      tally = s.tally;
+      reducer = s.reducer;
+      crossings = s.crossings;
+      simple = s.simple;
+    }) };
+}
+
+impl Segment {
+    /// Of no samples, at the place `from` of the gauge's recording. It may come to `longest`
+    /// samples. This takes all memory that the segment will need.
+    pub fn new(
+        alloc: Global,
+        grid: &Grid,
+        gauge: u16,
+        from: u64,
+        longest: u64,
+    ) -> Result<Segment, AllocError>
+        requires from { from ≤ MAX_SAMPLES }
+        requires some { 1 ≤ longest }
+        requires longest { longest ≤ MAX_SAMPLES }
+        ensures empty { IfOk result (λ s. s ≡ empty_at grid.now gauge from longest) }
+        ensures rules { IfOk result IsSegment }
+    {
+        let classes = grid.classes();
+        let tally = Tally::new(alloc, classes, room_for(classes, longest))?;
+        let reducer = Reducer::new(alloc, classes)?;
+        let crossings = Crossings::new(alloc, grid)?;
+        let simple = Simple::new(alloc, grid)?;
+        Ok(Segment {
+            grid: *grid,
+            gauge,
+            from,
+            to: from,
+            longest,
+            used: 0,
+            missing: 0,
+            refused: 0,
+            tally,
+            reducer,
+            crossings,
+            simple,
+        })
+    }
+
+    /// Makes it one of no samples, of this gauge and at this place. Grid and longest length stay.
+    pub fn clear(&mut self, gauge: u16, from: u64)
+        requires { from ≤ MAX_SAMPLES }
+        ensures { self.new ≡ empty_at self.old.grid gauge from self.old.longest }
+    {
+        self.gauge = gauge;
+        self.from = from;
+        self.to = from;
+        self.used = 0;
+        self.missing = 0;
+        self.refused = 0;
+        self.tally.clear();
+        self.reducer.clear();
+        self.crossings.clear();
+        self.simple.clear();
+    }
+}

@@ -1,0 +1,70 @@
+ghost use Rattle.std.specs.Prelude.{◌≡◌, ◌≤◌, ◌<◌, ◌-◌, ◌^◌, ℕ, ℤ, List, length, slice_index};
+ghost use Rattle.calibration.specs.Gain.{GainValue};
+ghost use Rattle.calibration.specs.History.{history};
+ghost use Rattle.three_point.specs.Run.{half_units, three_point};
+ghost use Rattle.three_point.specs.Sums.{sum_at_range};
+ghost use Rattle.segment.specs.Segment.{Stands};
+ghost use Rattle.segment.specs.Figures.{halves_of};
+
+use super::Segment;
+use crate::neighbours::neighbours;
+
+impl Segment {
+    /// The half units of a pair of levels in the rainflow count (5.4.4): two for each full cycle,
+    /// and one for each two neighbours in the residue that are this pair.
+    pub fn halves(&self, lo: u16, hi: u16) -> u64
+        ensures value { result ≡ halves_of self.now lo hi }
+        ensures few { result ≤ 2 ^ 42 }
+        ensures stands { (gain : GainValue) (w : List ℤ) → Stands self.now gain w →
+            result ≡ three_point (history self.now.grid gain w) lo hi }
+    {
+        self.halves_there(lo, hi)
+    }
+
+    fn halves_there(&self, lo: u16, hi: u16) -> u64
+        ensures value { result ≡ halves_of self.now lo hi }
+        ensures few { result ≤ 2 ^ 42 }
+    {
+        2 * self.tally.get(lo, hi) + neighbours(self.reducer.residue(), lo, hi)
+    }
+
+    fn halves_at(&self, k: u16) -> u64
+        requires { k < self.now.grid.classes }
+        ensures { result ≡ sum_at_range (halves_of self.now) k (self.now.grid.classes - k) }
+    {
+        let mut sum = 0;
+        for lo in 0..self.grid.classes() - k {
+            sum += self.halves_there(lo, lo + k);
+        }
+        sum
+    }
+
+    fn put_half_units(&self, out: &mut [u64])
+        requires { length out.old ≡ self.now.grid.classes }
+        ensures none { slice_index out.new 0 ≡ 0 }
+        ensures each { (k : ℕ) → 1 ≤ k → k < self.now.grid.classes → slice_index out.new k ≡
+            sum_at_range (halves_of self.now) k (self.now.grid.classes - k) }
+        ensures length { length out.new ≡ length out.old }
+    {
+        let classes = self.grid.classes();
+        out[0] = 0;
+        for k in 1..classes {
+            out[usize::from(k)] = self.halves_at(k);
+        }
+    }
+
+    /// The half units at each range of the rainflow count: place `k` becomes those of all pairs `k`
+    /// classes apart, and place 0 becomes 0.
+    pub fn half_units(&self, out: &mut [u64])
+        requires { length out.old ≡ self.now.grid.classes }
+        ensures none { slice_index out.new 0 ≡ 0 }
+        ensures each { (k : ℕ) → 1 ≤ k → k < self.now.grid.classes → slice_index out.new k ≡
+            sum_at_range (halves_of self.now) k (self.now.grid.classes - k) }
+        ensures stands { (gain : GainValue) (w : List ℤ) → Stands self.now gain w →
+            (k : ℕ) → 1 ≤ k → k < self.now.grid.classes →
+            slice_index out.new k ≡ half_units (history self.now.grid gain w) k }
+        ensures length { length out.new ≡ length out.old }
+    {
+        self.put_half_units(out)
+    }
+}
