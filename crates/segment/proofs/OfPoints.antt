@@ -17,13 +17,13 @@ use Rattle.turning_points.proofs.Over.{own, zig_own}
 use Rattle.turning_points.proofs.PushEnds.{list_ends}
 use Rattle.tally.specs.Counts.{Counts as Tallied, count_of, total_of}
 use Rattle.four_point.specs.Reduction.{IsFourPointResult}
-use Rattle.four_point.specs.Residue.{AddsCycles, IsResidue, Reduced}
+use Rattle.four_point.specs.Residue.{AddsCycles, IsResidue, ReducerValue}
 use Rattle.four_point.proofs.Unique.{chain_of}
 use Rattle.calibration.proofs.HistoryBelow.{history_below}
 use Rattle.turning_points.proofs.Levels.{All-points}
-use Rattle.level_crossing.specs.Crossings.{Crossed, count_at, crossings, is_some}
+use Rattle.level_crossing.specs.Crossings.{CrossingsValue, count_at, crossings, is_some}
 use Rattle.level_crossing.proofs.OfPoints.{crossings_few}
-use Rattle.simple_counts.specs.Simple.{Counted, IsCounted}
+use Rattle.simple_counts.specs.Simple.{SimpleValue, IsSimple}
 use Rattle.simple_counts.proofs.OfPoints.{level_below}
 use Rattle.segment.specs.Alike.{Alike, OnSide}
 use Rattle.segment.specs.Segment.{SegmentValue, IsSegment}
@@ -39,10 +39,10 @@ some_used : (p : List ℕ) (u : ℕ) → length p ≤ u → is_some p ≡ true �
 some_used [] u h e = absurd (grind arith)
 some_used (x ∷ p) u h e = omega arith
 
-pub block_rules : (v : SegmentValue) (p : List ℕ) (u m f : ℕ) (t : Tallied) (q : Reduced) (x : Crossed) (z : Counted) → IsSegment v → points p ≡ p → All (λ l. l < v.grid.classes) p → length p ≤ u → (length p ≡ 0 → u ≡ 0) → v.from + (u + m + f) ≤ MAX_SAMPLES → u + m + f ≤ v.longest →
+pub block_rules : (v : SegmentValue) (p : List ℕ) (u m f : ℕ) (t : Tallied) (q : ReducerValue) (x : CrossingsValue) (z : SimpleValue) → IsSegment v → points p ≡ p → All (λ l. l < v.grid.classes) p → length p ≤ u → (length p ≡ 0 → u ≡ 0) → v.from + (u + m + f) ≤ MAX_SAMPLES → u + m + f ≤ v.longest →
     AddsCycles p (λ lo hi. 0) q.residue (count_of t.cells) → 2 * total_of t.cells + length q.residue ≡ length p → IsResidue q.classes q.residue → q.classes ≡ v.reducer.classes → t.classes ≡ v.tally.classes → t.room ≡ v.tally.room →
     (x.classes ≡ v.crossings.classes) × (x.reference ≡ v.crossings.reference) → x.some ≡ is_some p → ((l : ℕ) → count_at x l ≡ crossings v.crossings.reference l p) →
-    (z.classes ≡ v.simple.classes) × (z.reference ≡ v.simple.reference) → z.ends ≡ ends_of p → IsCounted z →
+    (z.classes ≡ v.simple.classes) × (z.reference ≡ v.simple.reference) → z.ends ≡ ends_of p → IsSimple z →
     IsSegment (record { grid = v.grid; gauge = v.gauge; from = v.from; to = v.from + (u + m + f); longest = v.longest; used = u; missing = m; refused = f; tally = t; reducer = q; crossings = x; simple = z })
 block_rules v p u m f t q x z i own_p below few none room long s b r qc tc rc xg xs xn zg ze zc =
     let o = i.over in

@@ -13,11 +13,11 @@ use Rattle.turning_points.proofs.MeetEnds.{meets_few}
 use Rattle.turning_points.proofs.PushEnds.{list_ends, meets_none, one, push_is_meets}
 use Rattle.tally.specs.Counts.{Counts as Tallied, count_of, total_of}
 use Rattle.tally.specs.Room.{room_for}
-use Rattle.four_point.specs.Residue.{AddsCycles, IsResidue, Reduced}
+use Rattle.four_point.specs.Residue.{AddsCycles, IsResidue, ReducerValue}
 use Rattle.four_point.proofs.Index.{residue_none}
-use Rattle.level_crossing.specs.Crossings.{Crossed, between, count_at, crossed, no_crossings}
-use Rattle.level_crossing.proofs.Crossed.{none_counted}
-use Rattle.simple_counts.specs.Simple.{Counted, IsCounted, nothing}
+use Rattle.level_crossing.specs.Crossings.{CrossingsValue, between, count_at, step_crossings, no_crossings}
+use Rattle.level_crossing.proofs.PushJoin.{none_counted}
+use Rattle.simple_counts.specs.Simple.{SimpleValue, IsSimple, nothing}
 use Rattle.segment.specs.Alike.{Alike}
 use Rattle.segment.specs.Segment.{SegmentValue, IsSegment, empty_at}
 use Rattle.segment.proofs.Residues.{left, residue_ends}
@@ -32,7 +32,7 @@ one_ends k y h = list_ends k (y ∷ []) (omega arith) single (λ i p. at i p)
     at zero p = h
     at (suc i) p = absurd (omega arith)
 
-crossed_few : (r l x y : ℕ) → crossed r l x y ≤ 1
+crossed_few : (r l x y : ℕ) → step_crossings r l x y ≤ 1
 crossed_few r l x y = grind (arith, nat_tests)
 
 crossed_more : (b : Bool) (r l x y n used : ℕ) → (b ≡ true → 1 ≤ used) → n ≤ used - 1 → n + between b r l x y ≤ used
@@ -48,10 +48,10 @@ some_both : (a b : Bool) (s t : ℕ) → (a ≡ true → 1 ≤ s) → (b ≡ tru
 some_both true b s t f g h = let o = f refl in omega arith
 some_both false b s t f g h = let o = g h in omega arith
 
-pub taken_rules : (v : SegmentValue) (y : ℕ) (t : Tallied) (q : Reduced) (x : Crossed) (z : Counted) → IsSegment v → y < v.grid.classes → v.to < MAX_SAMPLES → v.to - v.from < v.longest →
+pub taken_rules : (v : SegmentValue) (y : ℕ) (t : Tallied) (q : ReducerValue) (x : CrossingsValue) (z : SimpleValue) → IsSegment v → y < v.grid.classes → v.to < MAX_SAMPLES → v.to - v.from < v.longest →
     AddsCycles (points (v.reducer.residue ++ (y ∷ []))) (count_of v.tally.cells) q.residue (count_of t.cells) → 2 * total_of t.cells + length q.residue ≡ 2 * total_of v.tally.cells + length (points (v.reducer.residue ++ (y ∷ []))) → IsResidue q.classes q.residue → q.classes ≡ v.reducer.classes → t.classes ≡ v.tally.classes → t.room ≡ v.tally.room →
     (x.classes ≡ v.crossings.classes) × (x.reference ≡ v.crossings.reference) → ((l : ℕ) → count_at x l ≡ count_at v.crossings l + between v.crossings.some v.crossings.reference l v.crossings.last y) →
-    (z.classes ≡ v.simple.classes) × (z.reference ≡ v.simple.reference) → z.ends ≡ ends_push y v.simple.ends → IsCounted z →
+    (z.classes ≡ v.simple.classes) × (z.reference ≡ v.simple.reference) → z.ends ≡ ends_push y v.simple.ends → IsSimple z →
     IsSegment (record { grid = v.grid; gauge = v.gauge; from = v.from; to = v.to + 1; longest = v.longest; used = v.used + 1; missing = v.missing; refused = v.refused; tally = t; reducer = q; crossings = x; simple = z })
 taken_rules v y t q x z i h room long j b s qc tc rc xg xn zg ze zc =
     let o = i.over in
@@ -80,11 +80,11 @@ taken_rules v y t q x z i h room long j b s qc tc rc xg xn zg ze zc =
       alike = subst (λ n. Alike n (ends_of q.residue)) (sym f) r.alike;
     }
 
-pub joined_rules : (v w : SegmentValue) (m t : Tallied) (q : Reduced) (x : Crossed) (z : Counted) → IsSegment v → IsSegment w → v.grid ≡ w.grid → v.to ≡ w.from → (v.to - v.from) + (w.to - w.from) ≤ v.longest →
+pub joined_rules : (v w : SegmentValue) (m t : Tallied) (q : ReducerValue) (x : CrossingsValue) (z : SimpleValue) → IsSegment v → IsSegment w → v.grid ≡ w.grid → v.to ≡ w.from → (v.to - v.from) + (w.to - w.from) ≤ v.longest →
     total_of m.cells ≡ total_of v.tally.cells + total_of w.tally.cells →
     AddsCycles (points (v.reducer.residue ++ w.reducer.residue)) (count_of m.cells) q.residue (count_of t.cells) → 2 * total_of t.cells + length q.residue ≡ 2 * total_of m.cells + length (points (v.reducer.residue ++ w.reducer.residue)) → IsResidue q.classes q.residue → q.classes ≡ v.reducer.classes → t.classes ≡ v.tally.classes → t.room ≡ v.tally.room →
     (x.classes ≡ v.crossings.classes) × (x.reference ≡ v.crossings.reference) → x.some ≡ (v.crossings.some || w.crossings.some) → ((l : ℕ) → count_at x l ≡ count_at v.crossings l + count_at w.crossings l + between (v.crossings.some && w.crossings.some) v.crossings.reference l v.crossings.last w.crossings.first) →
-    (z.classes ≡ v.simple.classes) × (z.reference ≡ v.simple.reference) → z.ends ≡ meets v.simple.ends w.simple.ends → IsCounted z →
+    (z.classes ≡ v.simple.classes) × (z.reference ≡ v.simple.reference) → z.ends ≡ meets v.simple.ends w.simple.ends → IsSimple z →
     IsSegment (record { grid = v.grid; gauge = v.gauge; from = v.from; to = w.to; longest = v.longest; used = v.used + w.used; missing = v.missing + w.missing; refused = v.refused + w.refused; tally = t; reducer = q; crossings = x; simple = z })
 joined_rules v w m t q x z i j n next long tt y b s qc tc rc xg xs xn zg ze zc =
     let o = i.over in
@@ -119,7 +119,7 @@ false_true : {A : Type 0} (b : Bool) → b ≡ false → b ≡ true → A
 false_true true e f = absurd (grind arith)
 false_true false e f = absurd (grind arith)
 
-pub empty_rules : (grid : GridValue) (gauge from longest : ℕ) (z : Counted) → IsGrid grid → from ≤ MAX_SAMPLES → 1 ≤ longest → longest ≤ MAX_SAMPLES → z ≡ nothing grid.classes grid.reference → IsCounted z → IsSegment (empty_at grid gauge from longest)
+pub empty_rules : (grid : GridValue) (gauge from longest : ℕ) (z : SimpleValue) → IsGrid grid → from ≤ MAX_SAMPLES → 1 ≤ longest → longest ≤ MAX_SAMPLES → z ≡ nothing grid.classes grid.reference → IsSimple z → IsSegment (empty_at grid gauge from longest)
 empty_rules grid gauge from longest z l f o m e c = record {
   over = record { limits = l; tally = refl; room = refl; reducer = refl; crossings = (refl, refl); simple = (refl, refl) };
   span = (omega arith, f);
@@ -130,19 +130,19 @@ empty_rules grid gauge from longest z l f o m e c = record {
   balance = omega arith;
   crossed = λ n. omega (arith, none_counted (no_crossings grid.classes grid.reference) _ _ refl n);
   some = λ n. false_true false refl n;
-  simple = subst IsCounted e c;
+  simple = subst IsSimple e c;
   residue = residue_none grid.classes;
   alike = record { short = λ q. refl; long = λ q. absurd (omega arith); first = refl; last = refl; second = λ q. absurd (omega arith); before = λ q. absurd (omega arith); three = λ q. absurd (omega arith) };
 }
 
-same_parts : (v : SegmentValue) (grid : GridValue) (gauge from longest : ℕ) (t : Tallied) (q : Reduced) (x : Crossed) (z : Counted) → t ≡ record { classes = grid.classes; room = room_for grid.classes longest; cells = [] } → q ≡ record { classes = grid.classes; residue = [] } → x ≡ no_crossings grid.classes grid.reference → z ≡ nothing grid.classes grid.reference →
+same_parts : (v : SegmentValue) (grid : GridValue) (gauge from longest : ℕ) (t : Tallied) (q : ReducerValue) (x : CrossingsValue) (z : SimpleValue) → t ≡ record { classes = grid.classes; room = room_for grid.classes longest; cells = [] } → q ≡ record { classes = grid.classes; residue = [] } → x ≡ no_crossings grid.classes grid.reference → z ≡ nothing grid.classes grid.reference →
     ◌≡◌ {A = SegmentValue} (empty_at grid gauge from longest) (record { grid = grid; gauge = gauge; from = from; to = from; longest = longest; used = 0; missing = 0; refused = 0; tally = t; reducer = q; crossings = x; simple = z })
 same_parts v grid gauge from longest t q x z a b c d = cc
 
 tally_none : (k l r s : ℕ) → k ≡ l → r ≡ s → ◌≡◌ {A = Tallied} (record { classes = k; room = r; cells = [] }) (record { classes = l; room = s; cells = [] })
 tally_none k l r s a b = cc
 
-pub cleared_rules : (v : SegmentValue) (gauge from : ℕ) (t : Tallied) (q : Reduced) (x : Crossed) (z : Counted) → IsSegment v → from ≤ MAX_SAMPLES → t ≡ record { classes = v.tally.classes; room = v.tally.room; cells = [] } → q ≡ record { classes = v.reducer.classes; residue = [] } → x ≡ no_crossings v.crossings.classes v.crossings.reference → z ≡ nothing v.simple.classes v.simple.reference → IsCounted z →
+pub cleared_rules : (v : SegmentValue) (gauge from : ℕ) (t : Tallied) (q : ReducerValue) (x : CrossingsValue) (z : SimpleValue) → IsSegment v → from ≤ MAX_SAMPLES → t ≡ record { classes = v.tally.classes; room = v.tally.room; cells = [] } → q ≡ record { classes = v.reducer.classes; residue = [] } → x ≡ no_crossings v.crossings.classes v.crossings.reference → z ≡ nothing v.simple.classes v.simple.reference → IsSimple z →
     IsSegment (record { grid = v.grid; gauge = gauge; from = from; to = from; longest = v.longest; used = 0; missing = 0; refused = 0; tally = t; reducer = q; crossings = x; simple = z })
 cleared_rules v gauge from t q x z i f a b c d n =
     let o = i.over in

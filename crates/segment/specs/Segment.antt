@@ -16,9 +16,9 @@ use Rattle.turning_points.specs.EndPoints.{ends_of}
 use Rattle.tally.specs.Counts.{Counts as Tallied, count_of, total_of}
 use Rattle.tally.specs.Room.{room_for}
 use Rattle.four_point.specs.Reduction.{IsFourPointResult}
-use Rattle.four_point.specs.Residue.{IsResidue, Reduced}
-use Rattle.level_crossing.specs.Crossings.{Crossed, Crosses, count_at, no_crossings}
-use Rattle.simple_counts.specs.Simple.{Counted, Counts, IsCounted, nothing}
+use Rattle.four_point.specs.Residue.{IsResidue, ReducerValue}
+use Rattle.level_crossing.specs.Crossings.{CrossingsValue, Crosses, count_at, no_crossings}
+use Rattle.simple_counts.specs.Simple.{SimpleValue, Counts, IsSimple, nothing}
 use Rattle.segment.specs.Alike.{Alike}
 
 pub record SegmentValue : Type 0 where
@@ -31,9 +31,9 @@ pub record SegmentValue : Type 0 where
   pub missing : ℕ
   pub refused : ℕ
   pub tally : Tallied
-  pub reducer : Reduced
-  pub crossings : Crossed
-  pub simple : Counted
+  pub reducer : ReducerValue
+  pub crossings : CrossingsValue
+  pub simple : SimpleValue
 
 abbrev pub empty_at : GridValue → ℕ → ℕ → ℕ → SegmentValue
 empty_at grid gauge from longest = record {
@@ -72,7 +72,7 @@ pub record IsSegment (v : SegmentValue) : Type 0 where
   pub balance : length v.reducer.residue + 2 * total_of v.tally.cells ≡ v.simple.ends.points
   pub crossed : (l : ℕ) → count_at v.crossings l ≤ v.used - 1
   pub some : v.crossings.some ≡ true → 1 ≤ v.used
-  pub simple : IsCounted v.simple
+  pub simple : IsSimple v.simple
   -- the residue
   pub residue : IsResidue v.grid.classes v.reducer.residue
   pub alike : Alike v.simple.ends (ends_of v.reducer.residue)
