@@ -1,8 +1,8 @@
-ghost use Rattle.std.specs.Prelude.{◌≡◌, ℕ, ◌+◌, ◌^◌, ◌<◌, ◌≤◌, ◌⊎◌, ◌==◌, ◌&&◌, if◌then◌else◌, [], IfOk, find, length, take};
+ghost use Rattle.std.specs.Prelude.{◌≡◌, ℕ, ◌+◌, ◌^◌, ◌<◌, ◌≤◌, ◌⊎◌, ◌==◌, ◌&&◌, if◌then◌else◌, [], IfOk, find, length, take, slice_index};
 ghost use Rattle.calibration.specs.declared.grid.TheConstants.{MAX_CLASSES, MIN_CLASSES};
 
 use crate::cells::{Cell, MAX_TOTAL};
-use crate::layout::{empty, first_from, order, place, raise, raise_all, write_cells};
+use crate::layout::{empty, first_from, order, place, raise, raise_all, write_cells, write_row};
 use std::alloc::{AllocError, Global};
 use std::marker::Model;
 
@@ -105,6 +105,14 @@ impl Dense {
         } else {
             0
         }
+    }
+
+    pub fn write_row(&self, lo: u16, out: &mut [u64])
+        requires row { lo + 1 + length out.old ≡ self.now.classes }
+        ensures { (k : ℕ) → k < length out.new →
+            slice_index out.new k ≡ count_of self.now.cells lo (lo + 1 + k) }
+    {
+        write_row(&self.counts, self.classes, lo, out);
     }
 
     pub fn next(&self, lo: u16, hi: u16) -> Option<Cell>

@@ -1,4 +1,4 @@
-ghost use Rattle.std.specs.Prelude.{◌≡◌, ℕ, ◌+◌, ◌*◌, ◌^◌, ◌<◌, ◌≤◌, ◌⊎◌, ◌==◌, ◌&&◌, if◌then◌else◌, All, Option, None, find, take, length, vec_capacity};
+ghost use Rattle.std.specs.Prelude.{◌≡◌, ℕ, ◌+◌, ◌*◌, ◌^◌, ◌<◌, ◌≤◌, ◌⊎◌, ◌==◌, ◌&&◌, if◌then◌else◌, All, Option, None, find, take, length, vec_capacity, slice_index};
 ghost use Rattle.std.specs.List.Sorted.{IsNonDecreasingBy};
 ghost use Rattle.turning_points.specs.Pairs.{is_pair};
 ghost use Rattle.tally.specs.Counts.{IsCell, total_of, is_from, pair_of};
@@ -75,6 +75,32 @@ pub fn first_in(entries: &[Cell], lo: u16, hi: u16) -> Option<Cell>
         found = first_with(found, entry, lo, hi);
     }
     found
+}
+
+/// Adds an entry to the counts of a row, if it is of it.
+fn add_to_row(out: &mut [u64], lo: u16, entry: &Cell)
+    requires ordered { entry.now.lo < entry.now.hi }
+    requires within { entry.now.hi < lo + 1 + length out.old }
+    requires fits { (k : ℕ) → slice_index out.old k + entry.now.n < 2 ^ 64 }
+    ensures { (k : ℕ) → slice_index out.new k ≡ slice_index out.old k
+        + (if is_pair lo (lo + 1 + k) (pair_of entry.now) then entry.now.n else 0) }
+{
+    if entry.lo == lo {
+        out[usize::from(entry.hi - lo - 1)] += entry.n;
+    }
+}
+
+/// What entries hold of the pairs `(lo, lo + 1)`, `(lo, lo + 2)`, ..
+pub fn put_row(entries: &[Cell], lo: u16, out: &mut [u64])
+    requires each { All (IsCell (lo + 1 + length out.old)) entries.now }
+    requires total { total_of entries.now < 2 ^ 64 }
+    ensures { (k : ℕ) → k < length out.new →
+        slice_index out.new k ≡ amount entries.now lo (lo + 1 + k) }
+{
+    out.fill(0);
+    for entry in entries {
+        add_to_row(out, lo, entry);
+    }
 }
 
 /// How many different pairs entries have. Reads all entries once for each pair.

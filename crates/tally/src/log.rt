@@ -1,11 +1,11 @@
-ghost use Rattle.std.specs.Prelude.{◌≡◌, ℕ, ◌+◌, ◌*◌, ◌^◌, ◌<◌, ◌≤◌, ◌⊎◌, ◌==◌, ◌&&◌, if◌then◌else◌, [], All, IfOk, find, take, length, vec_capacity, vec_len};
+ghost use Rattle.std.specs.Prelude.{◌≡◌, ℕ, ◌+◌, ◌*◌, ◌^◌, ◌<◌, ◌≤◌, ◌⊎◌, ◌==◌, ◌&&◌, if◌then◌else◌, [], All, IfOk, find, take, length, vec_capacity, vec_len, slice_index};
 ghost use Rattle.std.specs.Bool.{OnTrue, OnFalse};
 ghost use Rattle.tally.specs.Counts.{IsCell, IsCounts, count_of, total_of, is_from, most_cells, HasPlace, HasGreatestRoom};
 ghost use Rattle.tally.specs.Log.{cells_of};
 ghost use Rattle.calibration.specs.declared.grid.TheConstants.{MAX_CLASSES, MIN_CLASSES};
 
 use crate::cells::{Cell, MAX_TOTAL};
-use crate::entries::{amount_in, first_in, gather, pairs_in, put_first};
+use crate::entries::{amount_in, first_in, gather, pairs_in, put_first, put_row};
 use std::alloc::{AllocError, Global};
 use std::marker::Model;
 
@@ -170,6 +170,14 @@ impl Log {
         ensures { result ≡ count_of self.now.cells lo hi }
     {
         amount_in(&self.entries, lo, hi)
+    }
+
+    pub fn write_row(&self, lo: u16, out: &mut [u64])
+        requires row { lo + 1 + length out.old ≡ self.now.classes }
+        ensures { (k : ℕ) → k < length out.new →
+            slice_index out.new k ≡ count_of self.now.cells lo (lo + 1 + k) }
+    {
+        put_row(&self.entries, lo, out);
     }
 
     pub fn next(&self, lo: u16, hi: u16) -> Option<Cell>

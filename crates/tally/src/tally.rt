@@ -1,4 +1,4 @@
-ghost use Rattle.std.specs.Prelude.{◌≡◌, ℕ, take, ◌+◌, ◌^◌, ◌<◌, ◌≤◌, ◌⊎◌, ◌==◌, ◌&&◌, if◌then◌else◌, [], All, IfOk, find, length};
+ghost use Rattle.std.specs.Prelude.{◌≡◌, ℕ, take, ◌+◌, ◌^◌, ◌<◌, ◌≤◌, ◌⊎◌, ◌==◌, ◌&&◌, if◌then◌else◌, [], All, IfOk, find, length, slice_index};
 ghost use Rattle.tally.specs.Counts.{IsCell, IsCounts, count_of, total_of, is_from, most_cells, HasGreatestRoom, HasPlace};
 ghost use Rattle.tally.specs.Log.{cells_of};
 ghost use Rattle.calibration.specs.declared.grid.TheConstants.{MAX_CLASSES, MIN_CLASSES};
@@ -139,6 +139,19 @@ impl Tally {
         match &self.storage {
             Storage::Dense(dense) => dense.next(lo, hi),
             Storage::Log(log) => log.next(lo, hi),
+        }
+    }
+
+    /// Writes the counts of the pairs `(lo, lo + 1)`, `(lo, lo + 2)`, .. to a buffer with a place
+    /// for each. A table copies them, a log is read once.
+    pub fn write_row(&self, lo: u16, out: &mut [u64])
+        requires row { lo + 1 + length out.old ≡ self.now.classes }
+        ensures { (k : ℕ) → k < length out.new →
+            slice_index out.new k ≡ count_of self.now.cells lo (lo + 1 + k) }
+    {
+        match &self.storage {
+            Storage::Dense(dense) => dense.write_row(lo, out),
+            Storage::Log(log) => log.write_row(lo, out),
         }
     }
 
