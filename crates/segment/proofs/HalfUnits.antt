@@ -2,8 +2,8 @@
 use Rattle.std.proofs.Common.{◌≡◌, ℕ, ℤ, zero, suc, ◌+◌, ◌-◌, ◌*◌, ◌^◌, ◌<◌, ◌≤◌, ◌&&◌, ◌==◌, Bool, true, false, if◌then◌else◌, min, max, List, [], ◌∷◌, length, drop, get_or, refl, sym, ap, ◌∙◌, subst, arith}
 use Rattle.std.proofs.lemmas.List.{drop_more}
 use Rattle.std.proofs.lemmas.List.Sums.{sum_by-cons}
-use Rattle.three_point.specs.Run.{counted_range, half_units, three_point, half_units_of_pair}
-use Rattle.three_point.proofs.Sums.{has_range_sums}
+use Rattle.three_point.specs.Run.{counted_range, half_units, half_units_at_range, three_point, half_units_of_pair}
+use Rattle.three_point.proofs.Sums.{has_range_sums, sum_at_range-added, sum_is}
 use Rattle.calibration.specs.Gain.{GainValue}
 use Rattle.calibration.specs.History.{history}
 use Rattle.calibration.proofs.HistoryBelow.{history_below}
@@ -15,7 +15,8 @@ use Rattle.three_point.specs.Sums.{sum_at_range}
 use Rattle.residue_join.specs.HalfUnits.{neighbours}
 use Rattle.residue_join.proofs.HalfUnits.{counts_its_result}
 use Rattle.segment.specs.Segment.{SegmentValue, StandsFor}
-use Rattle.segment.specs.Figures.{halves_of}
+use Rattle.segment.specs.Figures.{doubled_cycles, halves_of}
+use Rattle.segment.proofs.SideBySide.{neighbours_within}
 
 pub halves_stand : (v : SegmentValue) (h : List ℕ) → StandsFor v h → (lo hi : ℕ) → halves_of v lo hi ≡ three_point h lo hi
 halves_stand v h s lo hi = sym (counts_its_result h (count_of v.tally.cells) v.reducer.residue s.result lo hi)
@@ -40,19 +41,14 @@ pub count_few : (cells : List Cell) (lo hi : ℕ) → count_of cells lo hi ≤ t
 count_few [] lo hi = omega arith
 count_few (c ∷ cells) lo hi = omega (arith, picked (is_pair lo hi (pair_of c)) c.n (count_of cells lo hi) (total_of cells) (count_few cells lo hi), sum_by-cons (λ (d : Cell). d.n) c cells)
 
--- each two neighbours, one after another
-neighbours_drop : (l : List ℕ) (j : ℕ) → j + 1 < length l → (lo hi : ℕ) → half_units_of_pair lo hi (neighbours (drop j l)) ≡ 1 * (if lo == min (get_or l j 0) (get_or l (j + 1) 0) && hi == max (get_or l j 0) (get_or l (j + 1) 0) then 1 else 0) + half_units_of_pair lo hi (neighbours (drop (j + 1) l))
-neighbours_drop l j h lo hi =
-    let a = drop_more l j 0 (omega arith) in
-    let b = drop_more l (j + 1) 0 h in
-    ap (λ k. half_units_of_pair lo hi (neighbours k)) a ∙ ap (λ k. half_units_of_pair lo hi (neighbours (get_or l j 0 ∷ k))) b ∙ ap (λ k. half_units_of_pair lo hi (counted_range (get_or l j 0) (get_or l (j + 1) 0) 1 ∷ neighbours k)) (sym b)
-
-pub neighbours_end : (l : List ℕ) (j : ℕ) → length l ≤ j + 1 → (lo hi : ℕ) → half_units_of_pair lo hi (neighbours (drop j l)) ≡ 0
-neighbours_end [] zero h lo hi = refl
-neighbours_end [] (suc j) h lo hi = refl
-neighbours_end (x ∷ []) zero h lo hi = refl
-neighbours_end (x ∷ y ∷ l) zero h lo hi = absurd (omega arith)
-neighbours_end (x ∷ l) (suc j) h lo hi = neighbours_end l j (omega arith) lo hi
-
 pub halves_few : (v : SegmentValue) (n m : ℕ) (lo hi : ℕ) → 2 * total_of v.tally.cells ≤ 2 ^ 40 → m ≤ 2 ^ 41 → n ≡ count_of v.tally.cells lo hi → 2 * n + m ≤ 2 ^ 42
 halves_few v n m lo hi h k e = omega (arith, count_few v.tally.cells lo hi)
+
+-- cycles and neighbours apart
+pub range_parts : (v : SegmentValue) (k : ℕ) → All (λ level. level < v.grid.classes) v.reducer.residue → k < v.grid.classes →
+    sum_at_range (doubled_cycles v) k (v.grid.classes - k) + half_units_at_range k (neighbours v.reducer.residue) ≡ sum_at_range (halves_of v) k (v.grid.classes - k)
+range_parts v k below inside =
+    let r = neighbours v.reducer.residue in
+    let n : v.grid.classes - k + k ≡ v.grid.classes = omega arith in
+    let all = neighbours_within (v.grid.classes - k + k) v.reducer.residue (subst (λ m. All (λ level. level < m) v.reducer.residue) (sym n) below) in
+    omega (arith, sum_at_range-added (doubled_cycles v) (λ lo hi. half_units_of_pair lo hi r) k (v.grid.classes - k), sum_is k (v.grid.classes - k) r all)

@@ -6,4 +6,5 @@ pub mod Rules
 pub mod Standing
 pub mod OfPoints
 pub mod Kept
+pub mod SideBySide
 pub mod HalfUnits

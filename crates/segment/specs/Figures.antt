@@ -16,8 +16,12 @@ use Rattle.level_crossing.specs.Crossings.{crossings}
 use Rattle.simple_counts.specs.Simple.{peaks_at, ranges_at, valleys_at}
 use Rattle.segment.specs.Segment.{SegmentValue}
 
+-- those of its full cycles
+abbrev pub doubled_cycles : SegmentValue → ℕ → ℕ → ℕ
+doubled_cycles v lo hi = 2 * count_of v.tally.cells lo hi
+
 abbrev pub halves_of : SegmentValue → ℕ → ℕ → ℕ
-halves_of v lo hi = 2 * count_of v.tally.cells lo hi + half_units_of_pair lo hi (neighbours v.reducer.residue)
+halves_of v lo hi = doubled_cycles v lo hi + half_units_of_pair lo hi (neighbours v.reducer.residue)
 
 pub record Fig (grid : GridValue) (gain : GainValue) (samples : List ℤ) (count used missing refused : ℕ) (halves : ℕ → ℕ → ℕ) (half_units crossed peaks valleys ranges : ℕ → ℕ) : Type 0 where
   pub counted : count ≡ length samples

@@ -12,7 +12,7 @@ use Rattle.three_point.specs.Sums.{sum_at_range, HasRangeSums}
 use Rattle.three_point.proofs.Bounds.{run_within}
 
 -- sums add up term by term
-sum_at_range-added : (f g : ℕ → ℕ → ℕ) (k n : ℕ) → sum_at_range (λ lo hi. f lo hi + g lo hi) k n ≡ sum_at_range f k n + sum_at_range g k n
+pub sum_at_range-added : (f g : ℕ → ℕ → ℕ) (k n : ℕ) → sum_at_range (λ lo hi. f lo hi + g lo hi) k n ≡ sum_at_range f k n + sum_at_range g k n
 sum_at_range-added f g k zero = refl
 sum_at_range-added f g k (suc n) = omega (arith, sum_at_range-added f g k n)
 
@@ -32,7 +32,7 @@ one_range halves k (suc n) x h = omega (arith, one_range halves k n x h, term ha
 all_lower : (halves k n : ℕ) (x : Pair) → x.lo ≤ x.hi → x.hi < n + k → (if k == x.hi - x.lo && nat_lt x.lo n then halves else 0) ≡ (if k == x.hi - x.lo then halves else 0)
 all_lower halves k n x h w = grind (arith, nat_tests)
 
-sum_is : (k n : ℕ) (l : List CountedRange) → All (IsWithin (n + k)) l → half_units_at_range k l ≡ sum_at_range (λ lo hi. half_units_of_pair lo hi l) k n
+pub sum_is : (k n : ℕ) (l : List CountedRange) → All (IsWithin (n + k)) l → half_units_at_range k l ≡ sum_at_range (λ lo hi. half_units_of_pair lo hi l) k n
 sum_is k n [] a = let e = sum_at_range-zero k n in omega (arith, e)
 sum_is k n (r ∷ l) a =
     let w = All-head (IsWithin (n + k)) r l a in
