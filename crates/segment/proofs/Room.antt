@@ -4,7 +4,7 @@
 --   block_room   for the points of a block
 --   merge_room   for the cycles of the part that comes next
 --   join_room    and then for joining the two residues
-use Rattle.std.proofs.Common.{◌≡◌, ℕ, ◌+◌, ◌*◌, ◌-◌, ◌<◌, ◌≤◌, ◌/◌, ◌⊎◌, inl, inr, min, List, length, sym, ap, ◌∙◌, subst, arith}
+use Rattle.std.proofs.Common.{◌≡◌, ℕ, ◌+◌, ◌*◌, ◌-◌, ◌<◌, ◌≤◌, ◌/◌, ◌⊎◌, inl, inr, length, sym, ap, ◌∙◌, arith}
 use Rattle.std.proofs.lemmas.Bool.{cases_lt}
 use Rattle.tally.specs.Counts.{Counts, IsCounts, HasGreatestRoom, most_cells, total_of}
 use Rattle.tally.specs.Room.{FitsSamples, room_for}

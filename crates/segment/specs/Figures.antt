@@ -1,9 +1,9 @@
 -- What is printed of samples, and what a list of segments holds of it.
---   halves_of   what a segment tells of a pair, in half half_units_of_pair
+--   halves_of   what a segment tells of a pair, in half units
 --   Fig         the figures of samples, in the words of the definitions alone
 --   SameKept    two lists of segments hold the same: the last end, the sums, and for each pair twice the cycles and the
 --               three-point count of the residues, one after the other
-use Rattle.std.specs.Prelude.{◌≡◌, ℕ, ℤ, zero, suc, ◌+◌, ◌-◌, ◌*◌, List, [], ◌∷◌, ◌++◌, length, sum_by}
+use Rattle.std.specs.Prelude.{◌≡◌, ℕ, ℤ, ◌+◌, ◌-◌, ◌*◌, List, [], ◌∷◌, ◌++◌, length, sum_by}
 use Rattle.calibration.specs.Gain.{GainValue}
 use Rattle.calibration.specs.Grid.{GridValue}
 use Rattle.calibration.specs.History.{history, missing_count, refused_count}

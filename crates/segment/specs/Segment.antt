@@ -6,7 +6,7 @@
 --   Stands         a segment stands for samples under a gain
 --   SameStart      two segments of one gauge, from one place on, over one grid, that may come to as many samples
 --   AddsReadings   a segment has the readings of two
-use Rattle.std.specs.Prelude.{◌≡◌, ℕ, ℤ, ◌+◌, ◌-◌, ◌*◌, ◌<◌, ◌≤◌, true, List, [], length}
+use Rattle.std.specs.Prelude.{◌≡◌, ℕ, ℤ, ◌+◌, ◌-◌, ◌*◌, ◌≤◌, true, List, [], length}
 use Rattle.recording.specs.declared.TheConstants.{MAX_SAMPLES}
 use Rattle.calibration.specs.Gain.{GainValue}
 use Rattle.calibration.specs.Grid.{GridValue, IsGrid}

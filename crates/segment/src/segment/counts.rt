@@ -2,10 +2,11 @@ ghost use Rattle.std.specs.Prelude.{◌≡◌, ◌≤◌, ◌<◌, ℤ, List, fi
 ghost use Rattle.calibration.specs.Gain.{GainValue};
 ghost use Rattle.calibration.specs.History.{history};
 ghost use Rattle.turning_points.specs.Points.{points};
-ghost use Rattle.tally.specs.Counts.{count_of, is_from};
+ghost use Rattle.tally.specs.Counts.{IsCounts, count_of, is_from};
+ghost use Rattle.tally.specs.Room.{room_for};
 ghost use Rattle.level_crossing.specs.Crossings.{count_at, crossings};
 ghost use Rattle.simple_counts.specs.Simple.{peak_count, peaks_at, range_count, ranges_at, valley_count, valleys_at};
-ghost use Rattle.segment.specs.Segment.{Stands};
+ghost use Rattle.segment.specs.Segment.{IsSegment, Stands};
 
 use super::Segment;
 use tally::Cell;
@@ -24,6 +25,36 @@ impl Segment {
         ensures { result ≡ find (is_from lo hi) self.now.tally.cells }
     {
         self.tally.next(lo, hi)
+    }
+
+    /// How many pairs have a full cycle. Where the cycles lie in a log, this reads it once for each
+    /// pair: [`Segment::write_cells`] tells it for less.
+    pub fn cells(&self) -> u32
+        ensures { result ≡ length self.now.tally.cells }
+    {
+        self.tally.cells()
+    }
+
+    /// The most pairs that may have a full cycle: what a buffer needs for them.
+    pub fn room(&self) -> u32
+        ensures room { result ≡ room_for self.now.grid.classes self.now.longest }
+        ensures cells { length self.now.tally.cells ≤ result }
+        ensures counts { IsCounts self.now.tally }
+    {
+        self.tally.room()
+    }
+
+    /// Writes the pairs with a full cycle, in order, to the front of a buffer, and says how many
+    /// there are. Takes no memory, and the time of putting them in order. What a caller sees of the
+    /// segment does not change.
+    pub fn write_cells(&mut self, out: &mut [Cell]) -> usize
+        requires room { length self.old.tally.cells ≤ length out.old }
+        ensures cells { take result out.new ≡ self.old.tally.cells }
+        ensures count { result ≡ length self.old.tally.cells }
+        ensures unchanged { self.new ≡ self.old }
+        ensures rules { IsSegment self.new }
+    {
+        self.tally.write_cells(out)
     }
 
     /// How often a boundary was crossed in the counted direction (5.1).

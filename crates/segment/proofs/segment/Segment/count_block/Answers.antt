@@ -1,4 +1,4 @@
-use Rattle.std.proofs.Common.{take, sym, ap, ◌∙◌, arith}
+use Rattle.std.proofs.Common.{sym, ap, ◌∙◌, arith}
 use Rattle.calibration.specs.History.{history}
 use Rattle.segment.proofs.OfPoints.{points_below, points_own}
 use Rattle.segment.proofs.Standing.{block_stands}

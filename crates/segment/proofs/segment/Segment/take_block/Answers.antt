@@ -1,4 +1,4 @@
-use Rattle.std.proofs.Common.{◌+◌, ◌^◌, ◌<◌, ◌≤◌, sym, subst}
+use Rattle.std.proofs.Common.{◌+◌, ◌<◌, ◌≤◌, sym, subst}
 use Rattle.std.specs.Prelude.{All}
 use Rattle.recording.specs.declared.TheConstants.{MAX_SAMPLES}
 use Rattle.tally.specs.Counts.{count_of}

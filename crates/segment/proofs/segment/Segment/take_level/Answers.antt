@@ -1,4 +1,4 @@
-use Rattle.std.proofs.Common.{◌+◌, ◌-◌, ◌^◌, ◌<◌, ◌∷◌, [], sym, subst, arith, length-append}
+use Rattle.std.proofs.Common.{◌-◌, ◌<◌, ◌∷◌, [], sym, subst, arith, length-append}
 use Rattle.recording.specs.declared.TheConstants.{MAX_SAMPLES}
 use Rattle.segment.specs.Segment.{StandsFor}
 use Rattle.segment.proofs.Residues.{recounted}
