@@ -165,7 +165,7 @@ impl Crossings {
         count_to(&self.begins, &self.stops, usize::from(boundary))
     }
 
-    fn pushed(&mut self, level: u16)
+    fn push_level(&mut self, level: u16)
         requires level { level < self.old.classes }
         requires few { (l : ℕ) → count_at self.old l
             + between self.old.some self.old.reference l self.old.last level ≤ MAX_POINTS }
@@ -199,10 +199,10 @@ impl Crossings {
         ensures rules { IsCrossings self.new }
         ensures histories { (h : List ℕ) → Crosses self.old h → Crosses self.new (h ++ level ∷ []) }
     {
-        self.pushed(level)
+        self.push_level(level)
     }
 
-    fn joined(&mut self, right: &Crossings)
+    fn append_history(&mut self, right: &Crossings)
         requires classes { self.old.classes ≡ right.now.classes }
         requires few { (l : ℕ) → count_at self.old l + count_at right.now l
             + between (self.old.some && right.now.some) self.old.reference l
@@ -246,7 +246,7 @@ impl Crossings {
         ensures histories { (g h : List ℕ) → Crosses self.old g → Crosses right.now h →
             Crosses self.new (g ++ h) }
     {
-        self.joined(right)
+        self.append_history(right)
     }
 
     /// Counts a history by its points. Nothing was counted before.
@@ -274,7 +274,7 @@ impl Crossings {
     }
 
     // Takes ends and counts in place of its own; what the value is then.
-    fn loaded(&mut self, ends: &Ends, bins: &[Bin])
+    fn replace_by(&mut self, ends: &Ends, bins: &[Bin])
         requires { CanLoad self.old.classes (end_points ends.now) bins.now }
         ensures value { self.new ≡ loaded_of self.old.classes self.old.reference
             (end_points ends.now) bins.now }
@@ -297,7 +297,7 @@ impl Crossings {
         ensures counts { (l : ℕ) → count_at self.new l ≡ count_of_bins l bins.now }
         ensures rules { IsCrossings self.new }
     {
-        self.loaded(ends, bins)
+        self.replace_by(ends, bins)
     }
 
     /// Nothing counted any more.

@@ -230,7 +230,7 @@ impl Simple {
     }
 
     /// The two, one after the other; what the value is then.
-    fn joined(&mut self, right: &Simple)
+    fn append_history(&mut self, right: &Simple)
         requires classes { self.old.classes ≡ right.now.classes }
         requires room { self.old.ends.points + right.now.ends.points ≤ MAX_POINTS }
         ensures value { self.new ≡ join_of self.old right.now }
@@ -263,11 +263,11 @@ impl Simple {
         ensures histories { (u v : List ℕ) → Counts self.old u → Counts right.now v →
             Counts self.new (u ++ v) }
     {
-        self.joined(right)
+        self.append_history(right)
     }
 
     /// One level more; what the value is then.
-    fn pushed(&mut self, level: u16)
+    fn push_level(&mut self, level: u16)
         requires level { level < self.old.classes }
         requires room { self.old.ends.points + 1 ≤ MAX_POINTS }
         ensures value { self.new ≡ push_of level self.old }
@@ -292,7 +292,7 @@ impl Simple {
         ensures rules { IsSimple self.new }
         ensures histories { (u : List ℕ) → Counts self.old u → Counts self.new (u ++ level ∷ []) }
     {
-        self.pushed(level)
+        self.push_level(level)
     }
 
     /// Counts a history by its points. Nothing was counted before.
@@ -312,7 +312,7 @@ impl Simple {
     }
 
     // Takes ends and counts in place of its own; what the value is then.
-    fn loaded(&mut self, ends: &Ends, peaks: &[Bin], valleys: &[Bin], ranges: &[Bin])
+    fn replace_by(&mut self, ends: &Ends, peaks: &[Bin], valleys: &[Bin], ranges: &[Bin])
         requires { CanLoad self.old.classes self.old.reference (end_points ends.now) peaks.now
             valleys.now ranges.now }
         ensures value { self.new ≡ loaded_of self.old.classes self.old.reference (end_points
@@ -337,7 +337,7 @@ impl Simple {
         ensures valleys { (l : ℕ) → valley_count self.new l ≡ count_at l valleys.now }
         ensures rules { IsSimple self.new }
     {
-        self.loaded(ends, peaks, valleys, ranges)
+        self.replace_by(ends, peaks, valleys, ranges)
     }
 
     /// Nothing counted any more.

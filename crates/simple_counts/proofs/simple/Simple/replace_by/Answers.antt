@@ -3,7 +3,7 @@ use Rattle.turning_points.specs.Ends.{end_points}
 use Rattle.tables.proofs.Filled.{keys_within}
 use Rattle.simple_counts.specs.Loading.{CanLoad}
 use Rattle.simple_counts.proofs.Loaded.{loaded_closed, last_in}
-use Rattle.simple_counts.proofs.simple.Simple.loaded.Goals as goal
+use Rattle.simple_counts.proofs.simple.Simple.replace_by.Goals as goal
 
 pub load_ranges-requires-clause-within : goal.load_ranges-requires-clause-within
 load_ranges-requires-clause-within c =

@@ -3,7 +3,7 @@ use Rattle.turning_points.specs.Ends.{end_points}
 use Rattle.level_crossing.specs.Loading.{CanLoad}
 use Rattle.tables.proofs.Filled.{keys_within}
 use Rattle.level_crossing.proofs.Loaded.{crossed_closed}
-use Rattle.level_crossing.proofs.crossings.Crossings.loaded.Goals as goal
+use Rattle.level_crossing.proofs.crossings.Crossings.replace_by.Goals as goal
 
 pub load_bins-requires : goal.load_bins-requires
 load_bins-requires c =
