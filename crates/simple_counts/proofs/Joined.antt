@@ -11,6 +11,7 @@ use Rattle.simple_counts.proofs.PutLists.{At}
 use Rattle.simple_counts.proofs.MeetsLists.{at_zero, at_one, at_many}
 use Rattle.turning_points.proofs.MeetEnds.{Left, left_zero, left_one, left_two, left_long, left_of, meets_ends, meets_few, meets_histories}
 use Rattle.simple_counts.proofs.Meets.{decide_join_zero, decide_join_one, decide_join_more, mark_join_zero, mark_join_one, mark_join_more, meets_agrees, length_join}
+use Rattle.simple_counts.proofs.ZeroRange.{zero_join}
 use Rattle.turning_points.specs.declared.ends.TheConstants.{MAX_POINTS}
 
 -- the rules are kept by joining any two values that meet them
@@ -29,6 +30,9 @@ joined_counted s t i j k p =
       ends = meets_ends s.classes s.ends t.ends i.ends f;
       agrees = meets_agrees s.classes s.reference s.ends t.ends s.decided s.extremes t.decided t.extremes i.ends f i.decided i.extremes lt mt i.agrees j.agrees;
       few = omega (arith, n);
+      none_at_zero =
+          zero_join s.classes s.ends t.ends (both s.decided t.decided) i.ends f
+          (omega (arith, added_at s.decided t.decided 0 (omega (arith, i.decided, lt)), i.none_at_zero, j.none_at_zero));
     }
 
 module _ (K r : ℕ) (e f : EndPoints) (d m l s : List ℕ) (ld : length d ≡ K) (lm : length m ≡ K) (y : IsZigzag l) (z : IsZigzag s) (i : IsEnds K e) (j : IsEnds K f) (p : e ≡ ends_of l) (q : f ≡ ends_of s) (g : At K r (λ k. decided_at k l) (λ k. extremes_at r k l) s d m) where

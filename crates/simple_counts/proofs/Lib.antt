@@ -9,3 +9,4 @@ pub mod Pushed
 pub mod Stage
 pub mod OfPoints
 pub mod Loaded
+pub mod ZeroRange

@@ -131,6 +131,7 @@ module _ (classes reference : ℕ) (e : EndPoints) (peaks valleys ranges : List 
         few = omega (arith, extremes_sum, c.extremes);
       };
       few = c.few;
+      none_at_zero = omega (arith, decided.at 0, count_below 1 classes 0 ranges c.ranges_are (omega arith));
     }
 
     pub loaded_peaks : (l : ℕ) → peak_count (loaded_of classes reference e peaks valleys ranges) l ≡ count_at l peaks

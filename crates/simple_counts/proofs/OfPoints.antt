@@ -155,6 +155,7 @@ fills_none k r l d m z a c e p q f g =
         ends = list_ends k (take 2 l) (omega arith) w (below_two k l a);
         agrees = record { sum_of = omega (arith, sum_none d f, short l); first = λ s. absurd (omega (arith, short l)); above = λ j. omega arith; few = omega (arith, sum_none m g) };
         few = omega (arith, short l);
+        none_at_zero = f 0;
       };
       counts = record {
         ends = ap ends_of (sym o);

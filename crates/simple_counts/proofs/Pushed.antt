@@ -15,6 +15,7 @@ use Rattle.tables.proofs.Counting.{raise_at, sum_raise}
 use Rattle.simple_counts.proofs.Triples.{triples_join, range_side, extreme_side}
 use Rattle.simple_counts.proofs.PutLists.{range_below}
 use Rattle.turning_points.specs.declared.ends.TheConstants.{MAX_POINTS}
+use Rattle.simple_counts.proofs.ZeroRange.{range_positive, zero_set}
 
 pub data PushCase (x : ℕ) (e : EndPoints) : Type 0 where
   on_none : e.points ≡ 0 → PushCase x e
@@ -81,6 +82,7 @@ module _ (v : SimpleValue) (x : ℕ) (i : IsSimple v) (h : x < v.classes) (p : v
     };
     agrees = record { sum_of = omega (arith, i.agrees.sum_of); first = λ s. absurd (omega arith); above = λ k. omega arith; few = omega (arith, i.agrees.few) };
     few = omega arith;
+    none_at_zero = i.none_at_zero;
   }
 
   rules_second : v.ends.points ≡ 1 → x ≢ v.ends.last → IsSimple (value v.classes v.reference (record { points = 2; first = v.ends.first; second = x; before = v.ends.last; last = x }) v.decided v.extremes)
@@ -101,6 +103,7 @@ module _ (v : SimpleValue) (x : ℕ) (i : IsSimple v) (h : x < v.classes) (p : v
         };
         agrees = record { sum_of = omega (arith, i.agrees.sum_of); first = λ s. absurd (omega arith); above = λ k. omega arith; few = omega (arith, i.agrees.few) };
         few = omega arith;
+        none_at_zero = i.none_at_zero;
       }
 
   marks_length : (b : Bool) → length (cond b (raise v.extremes v.ends.last) v.extremes) ≡ v.classes
@@ -141,6 +144,7 @@ module _ (v : SimpleValue) (x : ℕ) (i : IsSimple v) (h : x < v.classes) (p : v
           few = omega (arith, i.agrees.few, marks_sum (is_extreme v.reference v.ends.before v.ends.last x));
         };
         few = omega arith;
+        none_at_zero = zero_set v.decided (range v.ends.before v.ends.last) _ (range_positive v.ends.before v.ends.last (i.ends.differ q).1) i.none_at_zero;
       }
     where
       one_there : (a b c d : ℕ) → a ≡ c → b ≡ d → 1 ≤ is_at (range c d) (range a b)
@@ -188,6 +192,7 @@ module _ (v : SimpleValue) (x : ℕ) (i : IsSimple v) (h : x < v.classes) (p : v
     ends = on_ends q t s a b c;
     agrees = record { sum_of = i.agrees.sum_of; first = λ w. subst (λ z. 0 + 1 ≤ get_or v.decided (range v.ends.first z) 0) (sym (b w)) (i.agrees.first w); above = λ k. omega arith; few = i.agrees.few };
     few = i.few;
+    none_at_zero = i.none_at_zero;
   }
 
   second_below : (b : Bool) → cond b x v.ends.second < v.classes

@@ -92,6 +92,8 @@ pub record IsSimple (v : SimpleValue) : Type 0 where
   pub ends : IsEnds v.classes v.ends
   pub agrees : Agrees 0 0 none_at v.ends v.decided v.extremes
   pub few : v.ends.points ≤ MAX_POINTS
+  -- neighbouring points differ, so no range is 0
+  pub none_at_zero : slice_index v.decided 0 ≡ 0
 
 pub record Counts (v : SimpleValue) (h : List ℕ) : Type 0 where
   pub ends : v.ends ≡ ends_of (points h)
