@@ -8,3 +8,9 @@ pub mod OfPoints
 pub mod Kept
 pub mod SideBySide
 pub mod HalfUnits
+pub mod Listing
+pub mod TallyCells
+pub mod TableSums
+pub mod PartsRules
+pub mod Ready
+pub mod Made

@@ -1,5 +1,7 @@
 pub mod Alike
 pub mod Segment
+pub mod Parts
+pub mod Loading
 pub mod Joining
 pub mod Readings
 pub mod Figures

@@ -15,8 +15,10 @@
 #![tactic(auto)]
 
 mod block;
+mod fault;
 mod neighbours;
 mod segment;
 
+pub use fault::LoadFault;
 pub use segment::{JoinRefusal, Segment};
 pub use segment_rules::Name;

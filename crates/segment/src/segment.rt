@@ -5,6 +5,7 @@ ghost use Rattle.segment.specs.Segment.{IsSegment, empty_at};
 mod counts;
 mod halves;
 mod join;
+mod load;
 mod readers;
 mod take;
 

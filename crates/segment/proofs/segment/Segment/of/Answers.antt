@@ -1,0 +1,37 @@
+use Rattle.std.proofs.Common.{◌≡◌, length, subst, ap, arith}
+use Rattle.tally.specs.Room.{room_for}
+use Rattle.segment_rules.specs.Parts.{parts_value}
+use Rattle.segment_rules.proofs.CellsFrom.{cells_in_order}
+use Rattle.segment_rules.proofs.Sizes.{cells_count}
+use Rattle.segment.proofs.Ready.{can_load}
+use Rattle.segment.proofs.Made.{made_kept, parts_are}
+use Rattle.segment.proofs.segment.Segment.of.Goals as goal
+
+pub tally_of-requires-clause-room : goal.tally_of-requires-clause-room
+tally_of-requires-clause-room c =
+    let s = c.requires.rules.summed in
+    let k = c.args.grid.now.classes in
+    let cells = c.args.parts.now.cells in
+    let n = cells_count 0 0 k cells (cells_in_order k cells c.requires.rules.ordered.cells) in
+    omega (arith, ap length c.as_slice.ensures, n, s.cycles, s.points, s.readings, c.longest_of-longest.ensures)
+
+pub invariant_of-result : goal.invariant_of-result
+invariant_of-result c =
+    let x = c.in_ok-crossings.ensures in
+    let s = c.in_ok-simple.ensures in
+    made_kept c.args.grid.now (parts_value c.args.parts.now) c.longest_of-longest.result c.in_ok-tally.tally c.args.reducer c.in_ok-crossings.crossings c.in_ok-simple.simple
+    c.requires.limits c.requires.rules c.longest_of-longest.ensures
+    (subst (λ l. c.in_ok-tally.tally ≡ record { classes = c.args.grid.now.classes; room = room_for c.args.grid.now.classes c.longest_of-longest.result; cells = l })
+    c.as_slice.ensures c.in_ok-tally.ensures) c.requires.residue x.grid x.counts x.ends s.grid s.rules s.ends s.ranges s.peaks s.valleys
+
+pub returns-clause-parts : goal.returns-clause-parts
+returns-clause-parts c =
+    let x = c.in_ok-crossings.ensures in
+    let s = c.in_ok-simple.ensures in
+    parts_are c.args.grid.now (parts_value c.args.parts.now) c.longest_of-longest.result c.in_ok-tally.tally c.args.reducer c.in_ok-crossings.crossings c.in_ok-simple.simple
+    c.requires.limits c.requires.rules c.longest_of-longest.ensures
+    (subst (λ l. c.in_ok-tally.tally ≡ record { classes = c.args.grid.now.classes; room = room_for c.args.grid.now.classes c.longest_of-longest.result; cells = l })
+    c.as_slice.ensures c.in_ok-tally.ensures) c.requires.residue x.grid x.counts x.ends s.grid s.rules s.ends s.ranges s.peaks s.valleys
+
+pub simple_of-requires : goal.simple_of-requires
+simple_of-requires c = can_load c.args.grid.now (parts_value c.args.parts.now) c.requires.limits c.requires.rules

@@ -1,0 +1,33 @@
+ghost use Rattle.std.specs.Prelude.{◌≡◌};
+ghost use Rattle.segment.specs.Loading.{fault_of};
+ghost use Rattle.segment.specs.declared.fault.LoadFault.TheVariants.{OutOfMemory};
+
+use segment_rules::BrokenRule;
+use std::alloc::AllocError;
+
+/// The first rule that parts break, as in [`segment_rules::BrokenRule`], or want of memory.
+#[derive(Clone, Copy, Debug, PartialEq, Eq)]
+pub enum LoadFault {
+    Order { list: u8, index: u32 },
+    Sum { rule: u8 },
+    Residue { rule: u8 },
+    OutOfMemory,
+}
+
+impl From<AllocError> for LoadFault {
+    ghost from_gives = { λ _ fault. fault ≡ OutOfMemory };
+
+    fn from(_error: AllocError) -> LoadFault {
+        LoadFault::OutOfMemory
+    }
+}
+
+pub(crate) fn fault_of(rule: BrokenRule) -> LoadFault
+    ensures { result ≡ fault_of rule }
+{
+    match rule {
+        BrokenRule::Order { list, index } => LoadFault::Order { list, index },
+        BrokenRule::Sum { rule } => LoadFault::Sum { rule },
+        BrokenRule::Residue { rule } => LoadFault::Residue { rule },
+    }
+}
