@@ -2,7 +2,20 @@
 --   Figures           the numbers of samples, and the counts by pair, range, boundary and level
 --   MAX_FIGURE        no printed number passes this
 --   AreFewCounts, AreFewHalves, AreFew   no number passes it
-use Rattle.std.specs.Prelude.{ℕ, ◌≤◌, ◌^◌, List, slice_index}
+--   figures           of samples, by the definitions over their level history
+--   figures_of        of a segment
+use Rattle.std.specs.Prelude.{ℕ, ℤ, ◌-◌, ◌≤◌, ◌^◌, List, slice_index}
+use Rattle.calibration.specs.Gain.{GainValue}
+use Rattle.calibration.specs.Grid.{GridValue}
+use Rattle.calibration.specs.History.{history}
+use Rattle.turning_points.specs.Points.{points}
+use Rattle.three_point.specs.Run.{half_units as history_half_units, three_point}
+use Rattle.three_point.specs.Sums.{sum_at_range}
+use Rattle.level_crossing.specs.Crossings.{count_at, crossings as history_crossings}
+use Rattle.simple_counts.specs.Simple.{peak_count, peaks_at, range_count, ranges_at, valley_count, valleys_at}
+use Rattle.segment.specs.Segment.{SegmentValue}
+use Rattle.segment.specs.Figures.{halves_of}
+use Rattle.report.specs.Counts.{counts_of}
 use Rattle.report.specs.declared.counts.SampleCounts.{SampleCounts}
 
 -- the half units by pair and by range, the crossings by boundary, peaks and valleys by level, the simple ranges
@@ -44,3 +57,26 @@ counts_in samples = record {
 
 abbrev pub AreFewHalves : List ℕ → Type 0
 AreFewHalves halves = (k : ℕ) → slice_index halves k ≤ MAX_FIGURE
+
+-- Pairs and ranges by the three-point count over the whole level history (ASTM E1049-85, 5.4.4), the others by 5.1 to 5.3.
+abbrev pub figures : GridValue → GainValue → List ℤ → Figures
+figures grid gain w = record {
+  samples = counts_of grid gain w;
+  pairs = three_point (history grid gain w);
+  half_units = history_half_units (history grid gain w);
+  crossings = λ l. history_crossings grid.reference l (history grid gain w);
+  peaks = λ l. peaks_at grid.reference l (points (history grid gain w));
+  valleys = λ l. valleys_at grid.reference l (points (history grid gain w));
+  ranges = λ k. ranges_at k (points (history grid gain w));
+}
+
+abbrev pub figures_of : SegmentValue → Figures
+figures_of v = record {
+  samples = record { samples = v.to - v.from; used = v.used; missing = v.missing; refused = v.refused };
+  pairs = halves_of v;
+  half_units = λ k. sum_at_range (halves_of v) k (v.grid.classes - k);
+  crossings = λ l. count_at v.crossings l;
+  peaks = λ l. peak_count v.simple l;
+  valleys = λ l. valley_count v.simple l;
+  ranges = λ k. range_count v.simple k;
+}

@@ -9,12 +9,14 @@
 
 mod counts;
 mod detail;
+mod gauge;
 mod lines;
 mod page;
 mod table;
 
 pub use counts::SampleCounts;
 pub use detail::detail_text;
+pub use gauge::gauge_text;
 pub use page::Page;
 pub use table::table_text;
 

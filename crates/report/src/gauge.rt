@@ -1,0 +1,171 @@
+ghost use Rattle.std.specs.Prelude.{◌≡◌, ◌≤◌, ◌<◌, ◌-◌, ℕ, ℤ, List, length, slice_index};
+ghost use Rattle.calibration.specs.Gain.{GainValue};
+ghost use Rattle.segment.specs.Segment.{Stands};
+ghost use Rattle.report.specs.Lines.{lines_from, pair_line};
+ghost use Rattle.report.specs.Page.{Fits, with_text, room_for};
+ghost use Rattle.report.specs.Texts as spec;
+ghost use Rattle.report.specs.Figures.{figures, figures_of};
+
+use crate::Page;
+use crate::lines::{push_count_line, push_pair_line, push_range_line};
+use crate::table::push_table;
+use calibration::MAX_CLASSES;
+use segment::Segment;
+
+const PLACES: usize = MAX_CLASSES as usize;
+
+/// Makes the page the text of a gauge: its table, then the sections `matrix` (half units by pair of
+/// levels), `crossings`, `peaks`, `valleys` and `ranges`, each with its heading.
+pub fn gauge_text(page: &mut Page, name: &str, seg: &Segment)
+    requires name { length name.now ≤ 32 }
+    requires classes { seg.now.grid.classes ≤ page.old.classes }
+    ensures text { page.new ≡ record page.old {
+        bytes = spec.gauge_text seg.now.grid name.now (figures_of seg.now) } }
+    ensures stands { (gain : GainValue) (w : List ℤ) → Stands seg.now gain w →
+        page.new ≡ record page.old {
+            bytes = spec.gauge_text seg.now.grid name.now (figures seg.now.grid gain w) } }
+{
+    page.clear();
+    push_gauge(page, name, seg);
+}
+
+#[tactic(auto, unfolding(crate::specs::Texts::gauge_text))]
+fn push_gauge(page: &mut Page, name: &str, seg: &Segment)
+    requires room { Fits page.old
+        (spec.gauge_text seg.now.grid name.now (figures_of seg.now)) }
+    ensures { page.new ≡ with_text page.old
+        (spec.gauge_text seg.now.grid name.now (figures_of seg.now)) }
+{
+    push_name(page, name);
+    push_segment_table(page, seg);
+    push_matrix(page, seg);
+    push_crossings(page, seg);
+    push_peaks(page, seg);
+    push_valleys(page, seg);
+    push_ranges(page, seg);
+}
+
+fn push_name(page: &mut Page, name: &str)
+    requires room { Fits page.old (spec.gauge_line name.now) }
+    ensures { page.new ≡ with_text page.old (spec.gauge_line name.now) }
+{
+    page.push(b"gauge ");
+    page.push(name.as_bytes());
+    page.push(b"\n");
+}
+
+fn push_segment_table(page: &mut Page, seg: &Segment)
+    requires room { Fits page.old (spec.table_text seg.now.grid
+        (figures_of seg.now).samples (figures_of seg.now).half_units) }
+    ensures { page.new ≡ with_text page.old (spec.table_text seg.now.grid
+        (figures_of seg.now).samples (figures_of seg.now).half_units) }
+{
+    let grid = seg.grid();
+    let name = seg.name();
+    let mut places = [0; PLACES];
+    let halves = &mut places[..usize::from(grid.classes())];
+    seg.half_units(halves);
+    push_table(
+        page,
+        &grid,
+        [
+            name.to - name.from,
+            seg.used(),
+            seg.missing(),
+            seg.refused(),
+        ],
+        halves,
+    );
+}
+
+fn push_matrix(page: &mut Page, seg: &Segment)
+    requires room { Fits page.old (spec.matrix seg.now.grid (figures_of seg.now)) }
+    ensures { page.new ≡ with_text page.old (spec.matrix seg.now.grid (figures_of seg.now)) }
+{
+    page.push(b"matrix\n");
+    push_rows(page, seg);
+}
+
+fn push_rows(page: &mut Page, seg: &Segment)
+    requires room { Fits page.old (lines_from
+        (spec.row_lines (figures_of seg.now).pairs seg.now.grid.classes) 0 seg.now.grid.classes) }
+    ensures { page.new ≡ with_text page.old (lines_from
+        (spec.row_lines (figures_of seg.now).pairs seg.now.grid.classes) 0 seg.now.grid.classes) }
+{
+    let mut places = [0; PLACES];
+    let row = &mut places[..usize::from(seg.grid().classes())];
+    for lo in 0..seg.grid().classes() {
+        push_row(page, seg, lo, row);
+    }
+}
+
+// The pairs above a level. `row` is room for their half units.
+fn push_row(page: &mut Page, seg: &Segment, lo: u16, row: &mut [u64])
+    requires level { lo < seg.now.grid.classes }
+    requires places { length row.old ≡ seg.now.grid.classes }
+    requires room { Fits page.old
+        (spec.row_lines (figures_of seg.now).pairs seg.now.grid.classes lo) }
+    ensures text { page.new ≡ with_text page.old
+        (spec.row_lines (figures_of seg.now).pairs seg.now.grid.classes lo) }
+    ensures places { length row.new ≡ length row.old }
+{
+    seg.halves_above(lo, row);
+    push_pairs(page, seg, lo, row);
+}
+
+fn push_pairs(page: &mut Page, seg: &Segment, lo: u16, row: &[u64])
+    requires level { lo < seg.now.grid.classes }
+    requires places { length row.now ≡ seg.now.grid.classes }
+    requires row { (hi : ℕ) → lo < hi → hi < seg.now.grid.classes →
+        slice_index row.now hi ≡ (figures_of seg.now).pairs lo hi }
+    requires room { Fits page.old
+        (spec.row_lines (figures_of seg.now).pairs seg.now.grid.classes lo) }
+    ensures { page.new ≡ with_text page.old
+        (spec.row_lines (figures_of seg.now).pairs seg.now.grid.classes lo) }
+{
+    let classes = seg.grid().classes();
+    for hi in lo + 1..classes {
+        push_pair_line(page, lo, hi, row[usize::from(hi)]);
+    }
+}
+
+fn push_crossings(page: &mut Page, seg: &Segment)
+    requires room { Fits page.old (spec.crossings seg.now.grid (figures_of seg.now)) }
+    ensures { page.new ≡ with_text page.old (spec.crossings seg.now.grid (figures_of seg.now)) }
+{
+    page.push(b"crossings\n");
+    for boundary in 1..seg.grid().classes() {
+        push_count_line(page, boundary, seg.crossings(boundary));
+    }
+}
+
+fn push_peaks(page: &mut Page, seg: &Segment)
+    requires room { Fits page.old (spec.peaks seg.now.grid (figures_of seg.now)) }
+    ensures { page.new ≡ with_text page.old (spec.peaks seg.now.grid (figures_of seg.now)) }
+{
+    page.push(b"peaks\n");
+    for level in 0..seg.grid().classes() {
+        push_count_line(page, level, seg.peaks(level));
+    }
+}
+
+fn push_valleys(page: &mut Page, seg: &Segment)
+    requires room { Fits page.old (spec.valleys seg.now.grid (figures_of seg.now)) }
+    ensures { page.new ≡ with_text page.old (spec.valleys seg.now.grid (figures_of seg.now)) }
+{
+    page.push(b"valleys\n");
+    for level in 0..seg.grid().classes() {
+        push_count_line(page, level, seg.valleys(level));
+    }
+}
+
+fn push_ranges(page: &mut Page, seg: &Segment)
+    requires room { Fits page.old (spec.ranges seg.now.grid (figures_of seg.now)) }
+    ensures { page.new ≡ with_text page.old (spec.ranges seg.now.grid (figures_of seg.now)) }
+{
+    page.push(b"ranges\n");
+    let width = u64::from(seg.grid().w2());
+    for k in (1..seg.grid().classes()).rev() {
+        push_range_line(page, u64::from(k) * width, seg.ranges(k));
+    }
+}
