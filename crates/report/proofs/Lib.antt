@@ -4,3 +4,4 @@ mod Written
 mod Billionths
 mod DetailFits
 pub mod SameCounts
+pub mod SegmentFigures

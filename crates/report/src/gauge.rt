@@ -20,11 +20,15 @@ pub fn gauge_text(page: &mut Page, name: &str, seg: &Segment)
     requires name { length name.now ≤ 32 }
     requires classes { seg.now.grid.classes ≤ page.old.classes }
     ensures text { page.new ≡ record page.old {
-        bytes = spec.gauge_text seg.now.grid name.now (figures_of seg.now) } }
+      bytes = spec.gauge_text seg.now.grid name.now (figures_of seg.now);
+    } }
     ensures stands { (gain : GainValue) (w : List ℤ) → Stands seg.now gain w →
         page.new ≡ record page.old {
-            bytes = spec.gauge_text seg.now.grid name.now (figures seg.now.grid gain w) } }
+          bytes = spec.gauge_text seg.now.grid name.now (figures seg.now.grid gain w);
+        } }
 {
+    // What a segment keeps: its grid and all its numbers lie within limits.
+    let _grid = seg.grid();
     page.clear();
     push_gauge(page, name, seg);
 }
@@ -60,10 +64,20 @@ fn push_segment_table(page: &mut Page, seg: &Segment)
     ensures { page.new ≡ with_text page.old (spec.table_text seg.now.grid
         (figures_of seg.now).samples (figures_of seg.now).half_units) }
 {
+    let mut places = [0; PLACES];
+    push_table_by(page, seg, &mut places[..usize::from(seg.grid().classes())]);
+}
+
+// `halves` is room for the half units at each range.
+fn push_table_by(page: &mut Page, seg: &Segment, halves: &mut [u64])
+    requires places { length halves.old ≡ seg.now.grid.classes }
+    requires room { Fits page.old (spec.table_text seg.now.grid
+        (figures_of seg.now).samples (figures_of seg.now).half_units) }
+    ensures { page.new ≡ with_text page.old (spec.table_text seg.now.grid
+        (figures_of seg.now).samples (figures_of seg.now).half_units) }
+{
     let grid = seg.grid();
     let name = seg.name();
-    let mut places = [0; PLACES];
-    let halves = &mut places[..usize::from(grid.classes())];
     seg.half_units(halves);
     push_table(
         page,

@@ -1,8 +1,9 @@
 ghost use Rattle.std.specs.Prelude.{◌≡◌};
 
 use super::*;
-use calibration::Grid;
+use calibration::{Classifier, Gain, Grid};
 use exact_frac::Frac;
+use segment::Segment;
 use std::test::Fail;
 
 // The standard's own example, over classes of 1 MPa.
@@ -62,5 +63,82 @@ fn details(rt: HostRuntime) -> Result<(), Fail> {
         detail_text(&mut page, "W1", "G1", &damage);
         assert_eq!(rt; page.bytes(), expected.as_bytes());
     }
+    Ok(())
+}
+
+const EXAMPLE: [i32; 9] = [-2, 1, -3, 5, -1, 3, -4, 4, -2];
+
+const EXAMPLE_TEXT: &str = "\
+gauge G1
+samples 9 used 9 missing 0 refused 0
+rainflow
+9.0 0.5
+8.0 1.0
+6.0 0.5
+4.0 1.5
+3.0 0.5
+matrix
+4 12 0.5
+4 13 0.5
+5 9 0.5
+5 13 0.5
+6 9 0.5
+6 12 0.5
+7 11 1.0
+crossings
+5 1
+6 2
+7 3
+8 4
+9 4
+10 3
+11 3
+12 2
+13 1
+peaks
+9 1
+11 1
+12 1
+13 1
+valleys
+4 1
+5 1
+7 1
+ranges
+8.0 1.0
+7.0 0.5
+6.0 1.0
+4.0 1.0
+3.0 0.5
+";
+
+const EMPTY_TEXT: &str = "\
+gauge A
+samples 1 used 0 missing 1 refused 0
+rainflow
+matrix
+crossings
+peaks
+valleys
+ranges
+";
+
+// The standard's own example, and a gauge without a reading: every section has its heading.
+#[test]
+fn gauges(rt: HostRuntime) -> Result<(), Fail> {
+    let alloc = rt.alloc();
+    let grid = Grid::new(16, 2, -8000, 8).expect(&rt, "the grid of the example");
+    let gain = Gain::new(1000, 1, 0).expect(&rt, "a gain of one MPa");
+    let mut page = Page::new(alloc, 16)?;
+    let mut seg = Segment::new(alloc, &grid, 0, 0, 100)?;
+    let classifier = Classifier::new(&gain, &grid);
+    seg.count_block(&EXAMPLE, &classifier, &mut [0; 9]);
+    gauge_text(&mut page, "G1", &seg);
+    assert_eq!(rt; page.bytes(), EXAMPLE_TEXT.as_bytes());
+
+    let mut seg = Segment::new(alloc, &grid, 0, 0, 100)?;
+    seg.count_block(&[i32::MIN], &classifier, &mut [0; 1]);
+    gauge_text(&mut page, "A", &seg);
+    assert_eq!(rt; page.bytes(), EMPTY_TEXT.as_bytes());
     Ok(())
 }

@@ -1,0 +1,144 @@
+-- The figures of a segment: how great they are, and that they are those of the samples that it stands for.
+--   few_figures    no number that is printed passes the greatest
+--   figures_stand  where the segment stands for samples, its figures are theirs wherever a number is printed
+use Rattle.std.proofs.Common.{◌≡◌, ℕ, ℤ, zero, suc, ◌+◌, ◌-◌, ◌*◌, ◌^◌, ◌<◌, ◌≤◌, ◌==◌, ◌&&◌, if◌then◌else◌, ◌⊎◌, inl, inr, min, max, Bool, true, false, List, [], ◌∷◌, length, sum, refl, sym, ap, ◌∙◌, subst, arith}
+use Rattle.std.specs.Prelude.{nat_lt, nat_le, slice_index}
+use Rattle.std.proofs.lemmas.Bool.{cases_lt}
+use Rattle.std.proofs.lemmas.Bool.Decides.{nat_tests}
+use Rattle.std.proofs.lemmas.List.Sums.{sum_by-cons}
+use Rattle.lemmas.proofs.Sums.{get_or-le-sum}
+use Rattle.calibration.specs.Gain.{GainValue}
+use Rattle.calibration.specs.History.{history}
+use Rattle.calibration.proofs.Places.{counts_add}
+use Rattle.turning_points.specs.Pairs.{Pair, is_pair}
+use Rattle.three_point.specs.Run.{CountedRange, half_units_at_range, half_units_of_pair, same}
+use Rattle.three_point.specs.Sums.{sum_at_range}
+use Rattle.three_point.proofs.Sums.{sum_at_range-added}
+use Rattle.tally.specs.declared.cells.Cell.{Cell}
+use Rattle.tally.specs.Counts.{count_of, pair_of, total_of}
+use Rattle.residue_join.specs.HalfUnits.{neighbours}
+use Rattle.turning_points.specs.Points.{points}
+use Rattle.level_crossing.specs.Crossings.{crossings}
+use Rattle.report.specs.declared.counts.SampleCounts.{SampleCounts}
+use Rattle.simple_counts.specs.Simple.{SimpleValue, peaks_at, valleys_at, peak_count, range_count, valley_count, open_at, IsSimple}
+use Rattle.simple_counts.proofs.Readers.{peak_counts, range_counts, valley_counts}
+use Rattle.segment.specs.Segment.{SegmentValue, IsSegment, Stands}
+use Rattle.segment.specs.Figures.{doubled_cycles, halves_of}
+use Rattle.segment.proofs.HalfUnits.{count_few, halves_stand, range_parts, range_stands}
+use Rattle.report.specs.Figures.{AreFew, Figures, figures, figures_of}
+use Rattle.report.proofs.SameCounts.{Agree}
+
+-- one pair is counted at one lower level
+one_lower : (n k h : ℕ) (x : Pair) → (if nat_lt x.lo n then h else 0) + (if is_pair n (n + k) x then h else 0) ≤ (if nat_lt x.lo (suc n) then h else 0)
+one_lower n k h x = grind (arith, nat_tests)
+
+at_most : (b : Bool) (h : ℕ) → (if b then h else 0) ≤ h
+at_most true h = omega arith
+at_most false h = omega arith
+
+one_pair : (k n h : ℕ) (x : Pair) → sum_at_range (λ lo hi. if is_pair lo hi x then h else 0) k n ≤ (if nat_lt x.lo n then h else 0)
+one_pair k zero h x = omega arith
+one_pair k (suc n) h x = omega (arith, one_pair k n h x, one_lower n k h x)
+
+sums_up : (f g : ℕ → ℕ → ℕ) (k n : ℕ) → ((lo hi : ℕ) → f lo hi ≤ g lo hi) → sum_at_range f k n ≤ sum_at_range g k n
+sums_up f g k zero h = omega arith
+sums_up f g k (suc n) h = omega (arith, sums_up f g k n h, h n (n + k))
+
+picked : (b : Bool) (n m : ℕ) → (if b then n else m) ≤ (if b then n else 0) + m
+picked true n m = omega arith
+picked false n m = omega arith
+
+none_at_range : (k n : ℕ) → sum_at_range (λ lo hi. 0) k n ≡ 0
+none_at_range k zero = refl
+none_at_range k (suc n) = omega (arith, none_at_range k n)
+
+counts_at_range : (cells : List Cell) (k n : ℕ) → sum_at_range (count_of cells) k n ≤ total_of cells
+counts_at_range [] k n = omega (arith, none_at_range k n)
+counts_at_range (c ∷ cells) k n = omega (
+  arith,
+  sums_up (count_of (c ∷ cells)) (λ lo hi. (if is_pair lo hi (pair_of c) then c.n else 0) + count_of cells lo hi) k n (λ lo hi. picked (is_pair lo hi (pair_of c)) c.n (count_of cells lo hi)),
+  sum_at_range-added (λ lo hi. if is_pair lo hi (pair_of c) then c.n else 0) (count_of cells) k n,
+  one_pair k n c.n (pair_of c),
+  at_most (nat_lt c.lo n) c.n,
+  counts_at_range cells k n,
+  sum_by-cons (λ (d : Cell). d.n) c cells,
+)
+
+doubled_at_range : (f : ℕ → ℕ → ℕ) (k n : ℕ) → sum_at_range (λ lo hi. 2 * f lo hi) k n ≡ 2 * sum_at_range f k n
+doubled_at_range f k zero = refl
+doubled_at_range f k (suc n) = omega (arith, doubled_at_range f k n)
+
+-- a residue has fewer neighbours than levels
+ranges_few : (k : ℕ) (l : List ℕ) → half_units_at_range k (neighbours l) ≤ length l
+ranges_few k [] = omega arith
+ranges_few k (x ∷ []) = omega arith
+ranges_few k (x ∷ y ∷ l) = omega (arith, ranges_few k (y ∷ l), at_most (k == max x y - min x y) 1)
+
+pairs_few : (lo hi : ℕ) (l : List ℕ) → half_units_of_pair lo hi (neighbours l) ≤ length l
+pairs_few lo hi [] = omega arith
+pairs_few lo hi (x ∷ []) = omega arith
+pairs_few lo hi (x ∷ y ∷ l) = omega (arith, pairs_few lo hi (y ∷ l), at_most (lo == min x y && hi == max x y) 1)
+
+open_few : (v : SimpleValue) (k : ℕ) → open_at k v.ends ≤ 1
+open_few v k = grind (arith, nat_tests)
+
+valley_few : (b : Bool) (n : ℕ) → (if b then 0 else n) ≤ n
+valley_few true n = omega arith
+valley_few false n = omega arith
+
+module _ (v : SegmentValue) (i : IsSegment v) where
+  used_few : v.used ≤ 2 ^ 40
+  used_few = let a = i.span in omega (arith, i.readings)
+
+  by_range : (k : ℕ) → (v.grid.classes ≤ k) ⊎ (k < v.grid.classes) → sum_at_range (halves_of v) k (v.grid.classes - k) ≤ 2 ^ 41
+  by_range k (inl past) = let none : v.grid.classes - k ≡ 0 = omega arith in omega (arith, ap (λ n. sum_at_range (halves_of v) k n) none)
+  by_range k (inr inside) = omega (
+    arith,
+    range_parts v k i.residue.within inside,
+    doubled_at_range (count_of v.tally.cells) k (v.grid.classes - k),
+    counts_at_range v.tally.cells k (v.grid.classes - k),
+    ranges_few k v.reducer.residue,
+    i.balance,
+    i.used,
+    used_few,
+  )
+
+  range_either : (k : ℕ) → (v.grid.classes ≤ k) ⊎ (k < v.grid.classes)
+  range_either k = go (cases_lt k v.grid.classes)
+    where
+      go : (k < v.grid.classes) ⊎ (v.grid.classes ≤ k) → (v.grid.classes ≤ k) ⊎ (k < v.grid.classes)
+      go (inl a) = inr a
+      go (inr a) = inl a
+
+  pub few_figures : AreFew (figures_of v)
+  few_figures =
+      let a = i.span in
+      let s = i.simple.agrees in
+      record {
+        counts_are = record { samples = omega arith; used = omega (arith, used_few); missing = omega (arith, i.readings); refused = omega (arith, i.readings) };
+        pairs = λ lo hi. omega (arith, count_few v.tally.cells lo hi, pairs_few lo hi v.reducer.residue, i.balance, i.used, used_few);
+        half_units = λ k. by_range k (range_either k);
+        crossings = λ l. omega (arith, i.crossed l, used_few);
+        peaks = λ l. omega (arith, at_most (nat_le v.simple.reference l) (slice_index v.simple.extremes l), get_or-le-sum v.simple.extremes l, s.few, i.used, used_few);
+        valleys = λ l. omega (arith, valley_few (nat_le v.simple.reference l) (slice_index v.simple.extremes l), get_or-le-sum v.simple.extremes l, s.few, i.used, used_few);
+        ranges = λ k. omega (arith, get_or-le-sum v.simple.decided k, s.sum_of, open_few v.simple k, i.used, used_few);
+      }
+
+module _ (v : SegmentValue) (gain : GainValue) (w : List ℤ) (s : Stands v gain w) (i : IsSegment v) where
+  counts_same : (a b c d a' b' c' d' : ℕ) → a ≡ a' → b ≡ b' → c ≡ c' → d ≡ d' → ◌≡◌ {A = SampleCounts} (record { samples = a; used = b; missing = c; refused = d }) (record { samples = a'; used = b'; missing = c'; refused = d' })
+  counts_same a b c d a' b' c' d' e f g h = rw (e, f, g, h) refl
+
+  pub figures_stand : Agree v.grid (figures_of v) (figures v.grid gain w)
+  figures_stand =
+      let h = history v.grid gain w in
+      let t = s.history in
+      let o = i.over in
+      record {
+        samples = counts_same _ _ _ _ _ _ _ _ (omega (arith, s.span)) t.used s.missing s.refused;
+        half_units = λ k from to. range_stands v gain w k t to;
+        pairs = λ lo hi from to. halves_stand v h t lo hi;
+        crossings = λ l from to. t.crossings.counts l from (omega (arith, o.crossings.0)) ∙ ap (λ r. crossings r l h) o.crossings.1;
+        peaks = λ l to. peak_counts v.simple h l (omega (arith, o.simple.0)) t.simple ∙ ap (λ r. peaks_at r l (points h)) o.simple.1;
+        valleys = λ l to. valley_counts v.simple h l (omega (arith, o.simple.0)) t.simple ∙ ap (λ r. valleys_at r l (points h)) o.simple.1;
+        ranges = λ k from to. range_counts v.simple h k (omega (arith, o.simple.0)) t.simple;
+      }
