@@ -1,4 +1,5 @@
-//! What a program is handed of the outside: sources of bytes, sinks of bytes, and a site of files.
+//! What a program is handed of the outside: sources of bytes, sinks of bytes, a site of files, and
+//! the gate that a worker passes before it counts a block.
 //!
 //! Each trait says by a ghost member `tells` whether its type tells its content, and names the
 //! content by plain members (`left`, `written`, `files`). So code over a trait can speak of the
@@ -13,11 +14,13 @@
 //! one copy of the file.
 //!
 //! A site says besides which names it was asked for, so that a contract can say which files a call
-//! reads.
+//! reads. A gate promises nothing, so no contract leans on it: it is there for tests.
 #![tactic(auto)]
 
 mod bytes_source;
 mod failed;
+mod gate;
+mod hold_gate;
 mod map_site;
 mod sink;
 mod site;
@@ -29,6 +32,8 @@ mod vec_sink;
 
 pub use bytes_source::BytesSource;
 pub use failed::Failed;
+pub use gate::{Gate, OpenGate};
+pub use hold_gate::HoldGate;
 pub use map_site::MapSite;
 pub use sink::Sink;
 pub use site::Site;

@@ -1,0 +1,52 @@
+-- A call replayed on two buffers follows the disk.
+use Rattle.std.proofs.Common.{◌≡◌, ◌≤◌, ℕ, zero, suc, ◌+◌, Bool, true, ◌&&◌, nat_le, List, [], ◌∷◌, ◌++◌, length, take, drop, refl, sym, ◌∙◌, ap, subst, arith, rules}
+use Rattle.std.proofs.lemmas.Bool.Decides.{nat_tests}
+use Rattle.station.specs.declared.call.Call.{Call}
+use Rattle.station.specs.declared.call.Call.TheVariants.{Other, Write, Sync, Tell}
+use Rattle.station.specs.Station.{Image}
+use Rattle.station.specs.Calls.{Disk, disk_after, have_no_gap, DiskMayLeave}
+use Rattle.station.specs.Replay.{IsPlaced, Replays}
+
+and_left : (a b : Bool) → (a && b) ≡ true → a ≡ true
+and_left a b h = search rules
+
+and_right : (a b : Bool) → (a && b) ≡ true → b ≡ true
+and_right a b h = search rules
+
+is_le : (m n : ℕ) → nat_le m n ≡ true → m ≤ n
+is_le m n h = grind (arith, nat_tests)
+
+pub placed_head : (call : Call) (rest : List Call) (disk : Disk) (content : Image) → content ≡ disk.seen
+    → have_no_gap disk (call ∷ rest) ≡ true → IsPlaced content call
+placed_head Other rest disk content is placed = tt
+placed_head (Write at bytes) rest disk content is placed = subst (λ l. at ≤ length l) (sym is) (is_le _ _ (and_left _ _ placed))
+placed_head Sync rest disk content is placed = tt
+placed_head (Tell line) rest disk content is placed = tt
+
+pub placed_tail : (call : Call) (rest : List Call) (disk : Disk) → have_no_gap disk (call ∷ rest) ≡ true
+    → have_no_gap (disk_after disk call) rest ≡ true
+placed_tail Other rest disk placed = placed
+placed_tail (Write at bytes) rest disk placed = and_right _ _ placed
+placed_tail Sync rest disk placed = placed
+placed_tail (Tell line) rest disk placed = placed
+
+pub step : (call : Call) (disk : Disk) (content content2 left left2 : Image) → content ≡ disk.seen → DiskMayLeave disk left
+    → Replays call content content2 left left2 → (content2 ≡ (disk_after disk call).seen) × DiskMayLeave (disk_after disk call) left2
+step Other disk content content2 left left2 is image made = (made.0 ∙ is, subst (λ c. DiskMayLeave disk c) (sym made.1) image)
+step (Write at bytes) disk content content2 left left2 is image made =
+    (made.0 ∙ ap (λ s. take at s ++ bytes.items ++ drop (at + length bytes.items) s) is, (left, image, made.1))
+step Sync disk content content2 left left2 is image made = (made.0 ∙ is, made.1 ∙ is)
+step (Tell line) disk content content2 left left2 is image made = (made.0 ∙ is, subst (λ c. DiskMayLeave disk c) (sym made.1) image)
+
+-- a front of calls left no gap
+pub placed_front : (calls : List Call) (n : ℕ) (disk : Disk) → have_no_gap disk calls ≡ true → have_no_gap disk (take n calls) ≡ true
+placed_front calls zero disk placed = refl
+placed_front [] (suc n) disk placed = refl
+placed_front (Other ∷ calls) (suc n) disk placed = placed_front calls n disk placed
+placed_front (Write at bytes ∷ calls) (suc n) disk placed =
+    both _ _ _ placed (λ rest. placed_front calls n (disk_after disk (Write at bytes)) rest)
+  where
+    both : (a b c : Bool) → (a && b) ≡ true → (b ≡ true → c ≡ true) → (a && c) ≡ true
+    both a b c h k = search rules
+placed_front (Sync ∷ calls) (suc n) disk placed = placed_front calls n (disk_after disk Sync) placed
+placed_front (Tell line ∷ calls) (suc n) disk placed = placed_front calls n disk placed

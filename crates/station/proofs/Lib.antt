@@ -1,0 +1,3 @@
+pub mod Moments
+mod Recorded
+mod Crashing

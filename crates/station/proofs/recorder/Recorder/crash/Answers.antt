@@ -1,0 +1,12 @@
+use Rattle.std.proofs.Common.{List, ℕ, take, ◌∙◌, ap}
+use Rattle.station.specs.Calls.{have_no_gap, fresh_disk}
+use Rattle.station.proofs.Crashing.{placed_front}
+use Rattle.station.specs.declared.call.Call.{Call}
+use Rattle.station.proofs.recorder.Recorder.crash.Goals as goal
+
+pub replayed-requires : goal.replayed-requires
+replayed-requires c =
+    let s = c.args.self.now in
+    ap (λ (i : List ℕ). have_no_gap (fresh_disk i) (take c.args.calls c.deref-2.result.now)) c.deref.ensures.value
+    ∙ ap (λ (l : List Call). have_no_gap (fresh_disk s.image.items) (take c.args.calls l)) c.deref-2.ensures.value
+    ∙ placed_front s.calls.items c.args.calls (fresh_disk s.image.items) s.no_gap
