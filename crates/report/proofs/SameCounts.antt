@@ -3,7 +3,7 @@ use Rattle.std.proofs.Common.{◌≡◌, ℕ, zero, suc, ◌+◌, ◌-◌, ◌*�
 use Rattle.calibration.specs.Grid.{GridValue}
 use Rattle.report.specs.Figures.{Figures}
 use Rattle.report.specs.Lines.{count_line, lines_from, pair_line, range_line, range_lines}
-use Rattle.report.specs.Texts.{crossings, gauge_line, gauge_text, matrix, peaks, ranges, row_lines, samples_line, table_text, valleys}
+use Rattle.report.specs.Texts.{crossings, gauge_text, matrix, peaks, ranges, row_lines, samples_line, table_text, valleys}
 use Rattle.report.specs.declared.counts.SampleCounts.{SampleCounts}
 
 pub range_lines-same : (width : ℕ) (f g : ℕ → ℕ) (n : ℕ) → ((k : ℕ) → 1 ≤ k → k ≤ n → f k ≡ g k) → range_lines width f n ≡ range_lines width g n

@@ -1,7 +1,7 @@
 -- The figures of a segment: how great they are, and that they are those of the samples that it stands for.
 --   few_figures    no number that is printed passes the greatest
 --   figures_stand  where the segment stands for samples, its figures are theirs wherever a number is printed
-use Rattle.std.proofs.Common.{◌≡◌, ℕ, ℤ, zero, suc, ◌+◌, ◌-◌, ◌*◌, ◌^◌, ◌<◌, ◌≤◌, ◌==◌, ◌&&◌, if◌then◌else◌, ◌⊎◌, inl, inr, min, max, Bool, true, false, List, [], ◌∷◌, length, sum, refl, sym, ap, ◌∙◌, subst, arith}
+use Rattle.std.proofs.Common.{◌≡◌, ℕ, ℤ, zero, suc, ◌+◌, ◌-◌, ◌*◌, ◌^◌, ◌<◌, ◌≤◌, ◌==◌, ◌&&◌, if◌then◌else◌, ◌⊎◌, inl, inr, min, max, Bool, true, false, List, [], ◌∷◌, length, refl, ap, ◌∙◌, arith}
 use Rattle.std.specs.Prelude.{nat_lt, nat_le, slice_index}
 use Rattle.std.proofs.lemmas.Bool.{cases_lt}
 use Rattle.std.proofs.lemmas.Bool.Decides.{nat_tests}
@@ -9,9 +9,8 @@ use Rattle.std.proofs.lemmas.List.Sums.{sum_by-cons}
 use Rattle.lemmas.proofs.Sums.{get_or-le-sum}
 use Rattle.calibration.specs.Gain.{GainValue}
 use Rattle.calibration.specs.History.{history}
-use Rattle.calibration.proofs.Places.{counts_add}
 use Rattle.turning_points.specs.Pairs.{Pair, is_pair}
-use Rattle.three_point.specs.Run.{CountedRange, half_units_at_range, half_units_of_pair, same}
+use Rattle.three_point.specs.Run.{half_units_at_range, half_units_of_pair}
 use Rattle.three_point.specs.Sums.{sum_at_range}
 use Rattle.three_point.proofs.Sums.{sum_at_range-added}
 use Rattle.tally.specs.declared.cells.Cell.{Cell}
@@ -20,12 +19,12 @@ use Rattle.residue_join.specs.HalfUnits.{neighbours}
 use Rattle.turning_points.specs.Points.{points}
 use Rattle.level_crossing.specs.Crossings.{crossings}
 use Rattle.report.specs.declared.counts.SampleCounts.{SampleCounts}
-use Rattle.simple_counts.specs.Simple.{SimpleValue, peaks_at, valleys_at, peak_count, range_count, valley_count, open_at, IsSimple}
+use Rattle.simple_counts.specs.Simple.{SimpleValue, peaks_at, valleys_at, open_at}
 use Rattle.simple_counts.proofs.Readers.{peak_counts, range_counts, valley_counts}
 use Rattle.segment.specs.Segment.{SegmentValue, IsSegment, Stands}
-use Rattle.segment.specs.Figures.{doubled_cycles, halves_of}
+use Rattle.segment.specs.Figures.{halves_of}
 use Rattle.segment.proofs.HalfUnits.{count_few, halves_stand, range_parts, range_stands}
-use Rattle.report.specs.Figures.{AreFew, Figures, figures, figures_of}
+use Rattle.report.specs.Figures.{AreFew, figures, figures_of}
 use Rattle.report.proofs.SameCounts.{Agree}
 
 -- one pair is counted at one lower level

@@ -13,6 +13,19 @@ pub record Leaves (old p : PageValue) (rest whole : List ℕ) : Type 0 where
 pub leaves-start : (p : PageValue) (whole : List ℕ) → Leaves p p whole whole
 leaves-start p whole = record { text = refl; room = refl; classes = refl }
 
+-- a heading was written, and the lines below it are left
+pub leaves-headed : (p q : PageValue) (head rest : List ℕ) → q ≡ with_text p head → Leaves p q rest (head ++ rest)
+leaves-headed p q head rest e = record {
+  text = ap (λ (r : PageValue). r.bytes ++ rest) e ∙ append_assoc p.bytes head rest;
+  room = ap (λ (r : PageValue). r.room) e;
+  classes = ap (λ (r : PageValue). r.classes) e;
+}
+
+pub leaves-all : (p q : PageValue) (head : List ℕ) (line : ℕ → List ℕ) (n : ℕ) → q ≡ with_text p head → Leaves p q (lines_from line 0 (n - 0)) (head ++ lines_from line 0 n)
+leaves-all p q head line n e =
+    let all : n ≡ n - 0 = omega arith in
+    subst (λ m. Leaves p q (lines_from line 0 m) (head ++ lines_from line 0 n)) all (leaves-headed p q head (lines_from line 0 n) e)
+
 pub leaves-fits : (old p : PageValue) (line rest whole : List ℕ) → Leaves old p (line ++ rest) whole → Fits old whole → Fits p line
 leaves-fits old p line rest whole h fits =
     omega (arith, ap length h.text, length-append p.bytes (line ++ rest), length-append line rest, length-append old.bytes whole, h.room, fits)

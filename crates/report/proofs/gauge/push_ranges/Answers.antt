@@ -1,4 +1,4 @@
-use Rattle.std.proofs.Common.{◌≡◌, ◌≤◌, ◌-◌, ◌*◌, ℕ, refl, ap, ◌∙◌, rules}
+use Rattle.std.proofs.Common.{◌≡◌, ◌≤◌, ◌-◌, ◌*◌, ℕ, refl, rules}
 use Rattle.report.specs.Figures.{figures_of}
 use Rattle.report.specs.Lines.{range_line}
 use Rattle.report.proofs.Written.{range-fits, range-step}

@@ -1,9 +1,8 @@
-use Rattle.std.proofs.Common.{◌≡◌, ◌-◌, ◌<◌, ◌≤◌, ℕ, List, refl, sym, ap, subst, slice_index, ◌∙◌, arith, rules}
+use Rattle.std.proofs.Common.{◌≡◌, ◌-◌, ◌<◌, ◌≤◌, ℕ, List, sym, ap, subst, slice_index, ◌∙◌, arith, rules}
 use Rattle.calibration.specs.Grid.{GridValue}
 use Rattle.report.specs.Page.{Fits, with_text}
-use Rattle.report.specs.Figures.{counts_in, figures_of}
+use Rattle.report.specs.Figures.{figures_of}
 use Rattle.report.specs.Texts.{table_text}
-use Rattle.report.specs.declared.counts.SampleCounts.{SampleCounts}
 use Rattle.report.proofs.SameCounts.{table_text-same}
 use Rattle.report.proofs.gauge.push_table_by.Goals as goal
 
