@@ -130,6 +130,213 @@ static uint64_t astm(void) {
     return state;
 }
 
+/* ---- crossings and simple counts, by the points of blocks and by levels ---- */
+
+#define LEVELS (1 << 17)
+#define BLOCK 1024
+#define PASSES 16
+#define REFERENCE 64
+
+static uint16_t signal_levels[LEVELS], block[BLOCK];
+
+static void make_signal(int kind) {
+    uint64_t x = 0;
+    int32_t level = 64, a = 15000, b = 0;
+    for (int i = 0; i < LEVELS; i++) {
+        x = x * 6364136223846793005u + 1442695040888963407u;
+        a -= b >> 5;
+        b += a >> 5;
+        if (kind == 0) {
+            level += (int32_t)((x >> 33) % 4);
+            level -= (int32_t)((x >> 43) % 4);
+            level = level < 0 ? 0 : level > 127 ? 127 : level;
+        } else if (kind == 1) level = (int32_t)(x >> 57);
+        else {
+            level = (b >> 8) + 64;
+            level = level < 0 ? 0 : level > 127 ? 127 : level;
+        }
+        signal_levels[i] = (uint16_t)level;
+    }
+}
+
+/* the points of a list, in its place */
+static size_t points_of(uint16_t *list, size_t n) {
+    if (!n) return 0;
+    size_t kept = 1;
+    for (size_t i = 1; i < n; i++) {
+        list[kept] = list[i];
+        kept += list[kept] != list[kept - 1];
+    }
+    size_t points = 1;
+    uint16_t before = list[0];
+    for (size_t i = 1; i + 1 < kept; i++) {
+        uint16_t at = list[i];
+        list[points] = at;
+        points += (before < at) != (at < list[i + 1]);
+        before = at;
+    }
+    if (kept > 1) list[points++] = list[kept - 1];
+    return points;
+}
+
+static int are_below(const uint16_t *list, size_t n) {
+    for (size_t i = 0; i < n; i++)
+        if (list[i] >= CLASSES) return 0;
+    return 1;
+}
+
+typedef struct { int some; uint16_t first, last; uint64_t begins[CLASSES + 1], stops[CLASSES + 1]; } Crossings;
+
+static void crossings_clear(Crossings *c) { memset(c, 0, sizeof *c); }
+
+static inline unsigned greater(unsigned a, unsigned b) { return a > b ? a : b; }
+static inline unsigned lesser(unsigned a, unsigned b) { return a < b ? a : b; }
+
+/* one place of a table a point, and the other halves of all bottoms and tops at the reference */
+__attribute__((noinline)) static void crossings_take(Crossings *c, const uint16_t *p, size_t n) {
+    if (n >= 2) {
+        unsigned first = p[0] + 1u, last = p[n - 1] + 1u;
+        if (p[0] < p[1]) c->begins[greater(first, REFERENCE)]++; else c->stops[lesser(first, REFERENCE)]++;
+        size_t bottoms = 0;
+        for (size_t i = 1; i + 1 < n; i++) {
+            int bottom = p[i] < p[i - 1];
+            uint64_t *table = bottom ? c->begins : c->stops;
+            table[p[i] + 1]++;
+            bottoms += (size_t)bottom;
+        }
+        c->begins[REFERENCE] += bottoms;
+        c->stops[REFERENCE] += n - 2 - bottoms;
+        if (p[n - 1] < p[n - 2]) c->begins[lesser(last, REFERENCE)]++; else c->stops[greater(last, REFERENCE)]++;
+    }
+    for (int i = 0; i <= CLASSES; i++) {
+        uint64_t both = c->begins[i] < c->stops[i] ? c->begins[i] : c->stops[i];
+        c->begins[i] -= both;
+        c->stops[i] -= both;
+    }
+    c->some = n > 0;
+    if (n) { c->first = p[0]; c->last = p[n - 1]; }
+}
+
+static inline void crossings_push(Crossings *c, unsigned y) {
+    unsigned x = c->last;
+    if (c->some) {
+        unsigned low = x < y ? greater(x + 1, REFERENCE) : y + 1, high = x < y ? y : lesser(x, REFERENCE - 1);
+        if (low <= high) { c->begins[low]++; c->stops[high + 1]++; }
+    } else c->first = (uint16_t)y;
+    c->some = 1;
+    c->last = (uint16_t)y;
+}
+
+static uint64_t crossings_digest(const Crossings *c) {
+    uint64_t before = state, mine, sum = 0;
+    begin();
+    for (int l = 0; l < CLASSES; l++) {
+        sum += c->begins[l] - c->stops[l];
+        take(sum);
+    }
+    mine = state;
+    state = before;
+    return mine;
+}
+
+static Crossings crossings;
+
+static uint64_t crossings_by_points(void) {
+    begin();
+    crossings_clear(&crossings);
+    for (size_t i = 0; i < LEVELS / BLOCK; i++) {
+        memcpy(block, signal_levels + i * BLOCK, sizeof block);
+        size_t n = points_of(block, BLOCK);
+        for (int pass = 0; pass < PASSES; pass++)
+            if (are_below(block, n)) {
+                crossings_clear(&crossings);
+                crossings_take(&crossings, block, n);
+            }
+        take(crossings_digest(&crossings));
+    }
+    return state;
+}
+
+static uint64_t crossings_by_levels(void) {
+    crossings_clear(&crossings);
+    for (size_t i = 0; i < LEVELS; i++)
+        if (signal_levels[i] < CLASSES) crossings_push(&crossings, signal_levels[i]);
+    return crossings_digest(&crossings);
+}
+
+typedef struct { uint64_t points; uint16_t first[2], last[2]; uint64_t decided[CLASSES], extremes[CLASSES]; } Simple;
+
+static void simple_clear(Simple *s) { memset(s, 0, sizeof *s); }
+
+static inline int is_extreme(unsigned a, unsigned b, unsigned c) { return REFERENCE <= b ? a < b && c < b : b < a && b < c; }
+
+__attribute__((noinline)) static void simple_take(Simple *s, const uint16_t *p, size_t n) {
+    for (size_t i = 2; i < n; i++) {
+        s->decided[range(p[i - 2], p[i - 1])]++;
+        s->extremes[p[i - 1]] += (REFERENCE <= p[i - 1]) == (p[i] < p[i - 1]);
+    }
+    s->points = n;
+    s->first[0] = n ? p[0] : 0;
+    s->first[1] = n > 1 ? p[1] : 0;
+    s->last[0] = n > 1 ? p[n - 2] : 0;
+    s->last[1] = n ? p[n - 1] : 0;
+}
+
+static inline void simple_push(Simple *s, uint16_t x) {
+    if (!s->points) { s->points = 1; s->first[0] = s->last[1] = x; return; }
+    if (x == s->last[1]) return;
+    if (s->points == 1) { s->points = 2; s->first[1] = x; s->last[0] = s->last[1]; s->last[1] = x; return; }
+    unsigned a = s->last[0], b = s->last[1];
+    if ((a < b) != (b < x)) {
+        s->decided[range(a, b)]++;
+        if (is_extreme(a, b, x)) s->extremes[b]++;
+        s->points++;
+        s->last[0] = s->last[1];
+        s->last[1] = x;
+        return;
+    }
+    if (s->points == 2) s->first[1] = x;
+    s->last[1] = x;
+}
+
+static uint64_t simple_digest(const Simple *s) {
+    uint64_t before = state, mine;
+    begin();
+    for (unsigned k = 0; k < CLASSES; k++) {
+        take(k >= REFERENCE ? s->extremes[k] : 0);
+        take(k < REFERENCE ? s->extremes[k] : 0);
+        take(s->decided[k] + (s->points >= 2 && range(s->last[0], s->last[1]) == k));
+    }
+    mine = state;
+    state = before;
+    return mine;
+}
+
+static Simple simple;
+
+static uint64_t simple_by_points(void) {
+    begin();
+    simple_clear(&simple);
+    for (size_t i = 0; i < LEVELS / BLOCK; i++) {
+        memcpy(block, signal_levels + i * BLOCK, sizeof block);
+        size_t n = points_of(block, BLOCK);
+        for (int pass = 0; pass < PASSES; pass++)
+            if (are_below(block, n)) {
+                simple_clear(&simple);
+                simple_take(&simple, block, n);
+            }
+        take(simple_digest(&simple));
+    }
+    return state;
+}
+
+static uint64_t simple_by_levels(void) {
+    simple_clear(&simple);
+    for (size_t i = 0; i < LEVELS; i++)
+        if (signal_levels[i] < CLASSES && simple.points < 1ull << 41) simple_push(&simple, signal_levels[i]);
+    return simple_digest(&simple);
+}
+
 static long long now(void) {
     struct timespec t;
     clock_gettime(CLOCK_PROCESS_CPUTIME_ID, &t);
@@ -140,22 +347,34 @@ static const struct { const char *name; uint64_t (*run)(void); } CALLS[] = {
     { "level", level }, { "turner", turner }, { "keep_points", kept_points }, { "astm", astm },
 };
 
+static const struct { const char *name; uint64_t (*run)(void); } COUNTS[] = {
+    { "crossings_by_points", crossings_by_points }, { "simple_by_points", simple_by_points },
+    { "crossings_by_levels", crossings_by_levels }, { "simple_by_levels", simple_by_levels },
+};
+
+static void show(const char *name, const char *behind, uint64_t (*run)(void), int is_timed, long long samples) {
+    printf("%s%s %llu", name, behind, (unsigned long long)run());
+    if (is_timed) {
+        long long least = -1;
+        for (int i = 0; i < REPEATS; i++) {
+            long long start = now();
+            run();
+            long long took = now() - start;
+            if (least < 0 || took < least) least = took;
+        }
+        printf(" %lld", least * 100 / samples);
+    }
+    putchar('\n');
+}
+
 int main(int argc, char **argv) {
+    static const char *const SIGNALS[] = { "_walk", "_noise", "_sine" };
     int is_timed = argc > 1 && !strcmp(argv[1], "time");
     make_recording();
-    for (size_t i = 0; i < sizeof CALLS / sizeof *CALLS; i++) {
-        printf("%s %llu", CALLS[i].name, (unsigned long long)CALLS[i].run());
-        if (is_timed) {
-            long long least = -1;
-            for (int run = 0; run < REPEATS; run++) {
-                long long start = now();
-                CALLS[i].run();
-                long long took = now() - start;
-                if (least < 0 || took < least) least = took;
-            }
-            printf(" %lld", least * 100 / SAMPLES);
-        }
-        putchar('\n');
+    for (size_t i = 0; i < sizeof CALLS / sizeof *CALLS; i++) show(CALLS[i].name, "", CALLS[i].run, is_timed, SAMPLES);
+    for (int kind = 0; kind < 3; kind++) {
+        make_signal(kind);
+        for (size_t i = 0; i < sizeof COUNTS / sizeof *COUNTS; i++) show(COUNTS[i].name, SIGNALS[kind], COUNTS[i].run, is_timed, LEVELS);
     }
     return 0;
 }

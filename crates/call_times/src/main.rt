@@ -1,14 +1,20 @@
 //! Single calls of the counting crates over one recording that is made here: for each a digest of what it answers, and with the word
-//! `time` also its processor time, in hundredths of a nanosecond to the sample. `bench/src/calls.c` prints the same digests.
+//! `time` also its processor time, in hundredths of a nanosecond to the sample. `bench/src/calls.c` prints the same digests. Crossings and
+//! simple counts are taken of a walk, noise and a sine, by the points of blocks of 1,024 levels (each block 16 times) and by levels.
 //!
 //! Only safety is proved here. What the calls answer is said by their own contracts; the digests show that the C program beside
 //! them does the same work.
 #![tactic(auto)]
 
 mod calls;
+mod counts;
 mod digest;
+mod signal;
 
+use calibration::Grid;
 use calls::{Call, Recording, answer};
+use counts::{Count, counted_by};
+use signal::{Signal, levels_of};
 use std::rt::Env;
 use std::time::CpuClock;
 use std::{env, io};
@@ -26,6 +32,38 @@ fn main(rt: HostRuntime) -> io::Result<()> {
             println!(rt; "{call} {digest} {hundredths}")?;
         } else {
             println!(rt; "{call} {digest}")?;
+        }
+    }
+    show_counts(&rt, is_timed)
+}
+
+// How many levels each signal has.
+const LEVELS: u32 = 1 << 17;
+
+// Each way to count over each signal. The time is that to the level; by points each is taken 16 times.
+fn show_counts<R: CpuClock + AllocGlobal + Print>(rt: &R, is_timed: bool) -> io::Result<()> {
+    let Ok(grid) = Grid::new(128, 2, -64000, 64) else {
+        return Ok(());
+    };
+    for signal in Signal::ALL {
+        let levels = levels_of(rt.alloc(), signal, LEVELS)?;
+        for count in Count::ALL {
+            let digest = counted_by(rt.alloc(), count, &grid, &levels)?;
+            if is_timed {
+                let mut least = u128::MAX;
+                for _ in 0..REPEATS {
+                    let start = rt.process_cpu_time()?;
+                    counted_by(rt.alloc(), count, &grid, &levels)?;
+                    let end = rt.process_cpu_time()?;
+                    if end >= start {
+                        least = least.min((end - start).as_nanos());
+                    }
+                }
+                let hundredths = least.wrapping_mul(100) / LEVELS as u128;
+                println!(rt; "{count}_{signal} {digest} {hundredths}")?;
+            } else {
+                println!(rt; "{count}_{signal} {digest}")?;
+            }
         }
     }
     Ok(())

@@ -1,0 +1,8 @@
+-- The grid stays.
+use Rattle.std.proofs.Common.{◌≡◌}
+use Rattle.call_times.proofs.counts.count_simple_block.Given as goal
+
+abbrev pub invariant-loop : goal.invariant-loop
+invariant-loop l = record {
+  classes : l.simple.classes ≡ l.classes;
+}

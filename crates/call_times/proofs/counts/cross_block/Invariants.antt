@@ -1,0 +1,8 @@
+-- The grid stays.
+use Rattle.std.proofs.Common.{◌≡◌}
+use Rattle.call_times.proofs.counts.cross_block.Given as goal
+
+abbrev pub invariant-loop : goal.invariant-loop
+invariant-loop l = record {
+  classes : l.crossings.classes ≡ l.classes;
+}

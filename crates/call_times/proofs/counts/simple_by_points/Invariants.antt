@@ -1,0 +1,9 @@
+-- The grid stays.
+use Rattle.std.proofs.Common.{◌≡◌}
+use Rattle.call_times.proofs.counts.simple_by_points.Given as goal
+
+abbrev pub invariant-loop-i : goal.invariant-loop-i
+invariant-loop-i l = record {
+  classes : l.simple.classes ≡ l.classes;
+  grid : l.classes ≡ l.grid.classes;
+}
