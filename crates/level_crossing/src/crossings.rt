@@ -117,7 +117,8 @@ fn count_to(begins: &[u64], stops: &[u64], boundary: usize) -> u64
     requires begins { boundary < length begins.now }
     requires stops { boundary < length stops.now }
     requires enough { (i : ℕ) → sum (take (i + 1) stops.now) ≤ sum (take i begins.now) }
-    requires few { (i : ℕ) → sum (take (i + 1) begins.now) ≤ MAX_POINTS + sum (take (i + 1) stops.now) }
+    requires few { (i : ℕ) →
+        sum (take (i + 1) begins.now) ≤ MAX_POINTS + sum (take (i + 1) stops.now) }
     ensures { result ≡ sum (take (boundary + 1) begins.now) - sum (take (boundary + 1) stops.now) }
 {
     let mut count = 0;
@@ -241,7 +242,8 @@ impl Crossings {
             × (self.new.reference ≡ self.old.reference) }
         ensures some { self.new.some ≡ (self.old.some || right.now.some) }
         ensures counts { (l : ℕ) → count_at self.new l ≡ count_at self.old l + count_at right.now l
-            + between (self.old.some && right.now.some) self.old.reference l self.old.last right.now.first }
+            + between (self.old.some && right.now.some) self.old.reference l
+            self.old.last right.now.first }
         ensures rules { IsCrossings self.new }
         ensures histories { (g h : List ℕ) → Crosses self.old g → Crosses right.now h →
             Crosses self.new (g ++ h) }

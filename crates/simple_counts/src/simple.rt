@@ -17,7 +17,8 @@ use tables::{add_to, empty, fill as fill_bins, lower, raise, raise_if};
 use tally::Bin;
 use turning_points::{Ends, ends_of, join_ends, no_ends, put_before, put_behind};
 
-/// Counts of simple ranges, peaks and valleys of a history. The last range is not in the table while it may grow.
+/// Counts of simple ranges, peaks and valleys of a history. The last range is not in the table
+/// while it may grow.
 #[derive(Drop)]
 pub struct Simple {
     classes: u16,
@@ -197,7 +198,8 @@ fn decides_extreme(reference: u16, level: u16, e: &Ends) -> bool
 fn load_ranges(table: &mut Vec<u64>, ends: &Ends, ranges: &[Bin])
     requires within { All (λ b. b.key + 0 < length table.old.items) ranges.now }
     requires last { 2 ≤ ends.now.points →
-        1 ≤ slice_index (filled 0 (replicate (length table.old.items) 0) ranges.now) (last_range (end_points ends.now)) }
+        1 ≤ slice_index (filled 0 (replicate (length table.old.items) 0) ranges.now)
+        (last_range (end_points ends.now)) }
     requires below { last_range (end_points ends.now) < length table.old.items }
     ensures { table.new.items ≡
         decided_of (length table.old.items) (end_points ends.now) ranges.now }

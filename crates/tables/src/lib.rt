@@ -1,7 +1,7 @@
 //! Tables of counts, and what changes them.
 //!
-//! The functions on slices are those that a loop calls. Those on a `Vec` lend it to them, so that the clauses of a caller speak of
-//! the items of its fields.
+//! The functions on slices are those that a loop calls. Those on a `Vec` lend it to them, so that
+//! the clauses of a caller speak of the items of its fields.
 #![tactic(auto)]
 
 ghost use Rattle.tables.specs.Tables.{added, filled, lower, raise};

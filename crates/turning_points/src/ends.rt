@@ -6,11 +6,12 @@ ghost use Rattle.turning_points.specs.declared.ends.TheConstants.{MAX_POINTS};
 
 use crate::in_place::turns_at;
 
-/// The most points of a history that is joined or counted. The longest recording has fewer than half as many.
+/// The most points of a history that is joined or counted. The longest recording has fewer than
+/// half as many.
 pub const MAX_POINTS: u64 = 1 << 41;
 
-/// The number of points of a history, its first two and its last two. For one point `p` they are `[p, 0]` and `[0, p]`, for none
-/// all are 0.
+/// The number of points of a history, its first two and its last two. For one point `p` they are
+/// `[p, 0]` and `[0, p]`, for none all are 0.
 #[derive(Clone, Copy, Debug, PartialEq, Eq)]
 pub struct Ends {
     pub points: u64,
@@ -168,8 +169,8 @@ fn met(left: &Ends, right: &Ends) -> Ends
 pub fn join_ends(left: &Ends, right: &Ends) -> Ends
     requires few { left.now.points + right.now.points ≤ MAX_POINTS }
     ensures meets { end_points result ≡ meets (end_points left.now) (end_points right.now) }
-    ensures histories { (u v : List ℕ) → end_points left.now ≡ ends_of (points u) → end_points right.now ≡ ends_of (points v) →
-        end_points result ≡ ends_of (points (u ++ v)) }
+    ensures histories { (u v : List ℕ) → end_points left.now ≡ ends_of (points u) →
+        end_points right.now ≡ ends_of (points v) → end_points result ≡ ends_of (points (u ++ v)) }
 {
     met(left, right)
 }
