@@ -14,6 +14,7 @@ mod ends;
 mod filling;
 mod head;
 mod skipping;
+mod synth;
 mod taking;
 #[cfg(test)]
 mod tests;
@@ -23,6 +24,7 @@ pub use ends::{Fill, FillEnd, Skip};
 pub use filling::fill;
 pub use head::{Head, HeadFault, read_head, write_head};
 pub use skipping::skip;
+pub use synth::Synth;
 pub use writing::write_samples;
 
 /// The most samples of a recording.

@@ -1,0 +1,197 @@
+-- How often lists of names name a sample.
+use Rattle.std.proofs.Common.{◌≡◌, ◌≢◌, ◌⊎◌, inl, inr, ◌+◌, ◌<◌, ◌≤◌, ℕ, zero, suc, List, [], ◌∷◌, ◌++◌, take, drop, cond, eqb, Bool, true, false, refl, sym, ap, ◌∙◌, subst, arith}
+use Rattle.std.specs.List.{filter}
+use Rattle.std.proofs.lemmas.Bool.Decides.{nat_tests}
+use Rattle.std.proofs.lemmas.Bool.{cases_eq, eq-eqb, ne_eqb}
+use Rattle.segment_rules.specs.declared.name.Name.{Name}
+use Rattle.flow.specs.Flow.{has, hits, In, changed, changed_at, stays}
+use Rattle.flow.specs.Flow.In.{here, there}
+use Rattle.flow.specs.Kept.{Every, Ascends, over}
+use Rattle.flow.specs.Kept.Every.{none, both}
+use Rattle.flow.specs.Kept.Ascends.{empty, step}
+
+pub hits-append : (g i : ℕ) (k l : List Name) → hits g i (k ++ l) ≡ hits g i k + hits g i l
+hits-append g i [] l = omega arith
+hits-append g i (n ∷ k) l = let e : hits g i (k ++ l) ≡ hits g i k + hits g i l = hits-append g i k l in omega arith
+
+-- the front and the rest
+pub hits-split : (g i : ℕ) (l : List Name) → hits g i (take 1 l) + hits g i (drop 1 l) ≡ hits g i l
+hits-split g i [] = omega arith
+hits-split g i (n ∷ l) = omega arith
+
+pub every_append : {P : Name → Type 0} → (k l : List Name) → Every P k → Every P l → Every P (k ++ l)
+every_append [] l none e = e
+every_append (n ∷ k) l (both p d) e = both p (every_append k l d e)
+
+pub every_map : {P Q : Name → Type 0} → (l : List Name) → ((n : Name) → P n → Q n) → Every P l → Every Q l
+every_map [] f none = none
+every_map (n ∷ l) f (both p d) = both (f n p) (every_map l f d)
+
+pub every_both : {P Q R : Name → Type 0} → (l : List Name) → ((n : Name) → P n → Q n → R n) → Every P l → Every Q l → Every R l
+every_both [] f none none = none
+every_both (n ∷ l) f (both p d) (both q e) = both (f n p q) (every_both l f d e)
+
+pub every_drop : {P : Name → Type 0} → (l : List Name) → Every P l → Every P (drop 1 l)
+every_drop [] none = none
+every_drop (n ∷ l) (both p d) = d
+
+pub every_take : {P : Name → Type 0} → (l : List Name) → Every P l → Every P (take 1 l)
+every_take [] none = none
+every_take (n ∷ l) (both p d) = both p none
+
+pub every_in : {P : Name → Type 0} → {n : Name} → {l : List Name} → Every P l → In n l → P n
+every_in none i = elim i [ ]
+every_in (both p d) here = p
+every_in (both p d) (there i) = every_in d i
+
+pub ascends_drop : (l : List Name) → Ascends l → Ascends (drop 1 l)
+ascends_drop [] empty = empty
+ascends_drop (n ∷ l) (step p d) = d
+
+pub ascends_push : (l : List Name) (m : Name) → Ascends l → Every (λ n. n.from < m.from) l → Ascends (l ++ m ∷ [])
+ascends_push [] m empty none = step none empty
+ascends_push (n ∷ l) m (step p d) (both q e) = step (every_append l (m ∷ []) p (both q none)) (ascends_push l m d e)
+
+pub has_other : (g i : ℕ) (n : Name) → n.gauge ≢ g → has g i n ≡ 0
+has_other g i n h = grind (arith, nat_tests)
+
+pub hits_other : (g i : ℕ) (l : List Name) → Every (λ n. n.gauge ≢ g) l → hits g i l ≡ 0
+hits_other g i [] none = refl
+hits_other g i (n ∷ l) (both p d) = omega (arith, has_other g i n p, hits_other g i l d)
+
+pub has_past : (g i : ℕ) (n : Name) → (n.gauge ≡ g → i < n.from) → has g i n ≡ 0
+has_past g i n h = grind (arith, nat_tests)
+
+-- names that begin behind a sample do not name it
+pub hits_past : (g i : ℕ) (l : List Name) → Every (λ n. n.gauge ≡ g → i < n.from) l → hits g i l ≡ 0
+hits_past g i [] none = refl
+hits_past g i (n ∷ l) (both p d) = omega (arith, has_past g i n p, hits_past g i l d)
+
+pub has_inside : (g i : ℕ) (n : Name) → n.gauge ≡ g → n.from ≤ i → i < n.to → has g i n ≡ 1
+has_inside g i n a b c = grind (arith, nat_tests)
+
+has_means : (g i : ℕ) (n : Name) → (has g i n ≡ 0) ⊎ ((n.gauge ≡ g) × (n.from ≤ i) × (i < n.to))
+has_means g i n = grind (arith, nat_tests)
+
+-- one of the names that names it
+pub record Found (g i : ℕ) (l : List Name) : Type 0 where
+  pub name : Name
+  pub among : In name l
+  pub gauge : name.gauge ≡ g
+  pub from : name.from ≤ i
+  pub to : i < name.to
+
+found_or : (g i : ℕ) (n : Name) (l : List Name) → (1 ≤ hits g i l → Found g i l) → 1 ≤ has g i n + hits g i l
+    → ((has g i n ≡ 0) ⊎ ((n.gauge ≡ g) × (n.from ≤ i) × (i < n.to))) → Found g i (n ∷ l)
+found_or g i n l more h (inl not_it) = let f =
+    more (omega (arith, h, not_it)) in record { name = f.name; among = there f.among; gauge = f.gauge; from = f.from; to = f.to }
+found_or g i n l more h (inr (a, b, c)) = record { name = n; among = here; gauge = a; from = b; to = c }
+
+pub found : (g i : ℕ) (l : List Name) → 1 ≤ hits g i l → Found g i l
+found g i [] h = absurd (omega (arith, h))
+found g i (n ∷ l) h = found_or g i n l (found g i l) h (has_means g i n)
+
+-- what is left keeps the hits of a sample that the names taken out do not name
+stays_more : (g e h i : ℕ) (n : Name) (b : Bool) → stays g e n ≡ b → (h ≡ g → e ≤ i) → (b ≡ false → has h i n ≡ 0)
+stays_more g e h i n b q p = grind (arith, nat_tests)
+
+filtered : (g e h i : ℕ) (n : Name) (k l : List Name) (b : Bool) → hits h i k ≡ hits h i l → (b ≡ false → has h i n ≡ 0)
+    → hits h i (cond b (n ∷ k) k) ≡ has h i n + hits h i l
+filtered g e h i n k l true q p = omega (arith, q)
+filtered g e h i n k l false q p = omega (arith, q, p refl)
+
+pub hits_filter : (g e h i : ℕ) (l : List Name) → (h ≡ g → e ≤ i) → hits h i (filter (stays g e) l) ≡ hits h i l
+hits_filter g e h i [] p = refl
+hits_filter g e h i (n ∷ l) p =
+    filtered g e h i n (filter (stays g e) l) l (stays g e n) (hits_filter g e h i l p) (stays_more g e h i n (stays g e n) refl p)
+
+-- what stays has P, where each that stays has it
+every_cond : {P : Name → Type 0} → (n : Name) (k : List Name) (b : Bool) → (b ≡ true → P n) → Every P k → Every P (cond b (n ∷ k) k)
+every_cond n k true p d = both (p refl) d
+every_cond n k false p d = d
+
+pub every_filter : {P Q : Name → Type 0} → (f : Name → Bool) (l : List Name) → ((n : Name) → P n → f n ≡ true → Q n) → Every P l
+    → Every Q (filter f l)
+every_filter f [] h none = none
+every_filter f (n ∷ l) h (both p d) = every_cond n (filter f l) (f n) (h n p) (every_filter f l h d)
+
+-- sums over workers
+pub over_same : (n : ℕ) (f g : ℕ → ℕ) → ((v : ℕ) → v < n → f v ≡ g v) → over n f ≡ over n g
+over_same zero f g h = refl
+over_same (suc n) f g h = let e : over n f ≡ over n g = over_same n f g (λ v l. h v (omega arith)) in let p : f n ≡ g n =
+    h n (omega arith) in omega arith
+
+over_step : (n v : ℕ) (f g : ℕ → ℕ) → ((u : ℕ) → u ≢ v → f u ≡ g u) → (v < n → over n f + g v ≡ over n g + f v) → v < suc n
+    → ((v ≡ n) ⊎ (v ≡ n → ⊥)) → f n + over n f + g v ≡ g n + over n g + f v
+over_step n v f g h more l (inl e) =
+    let a : f v ≡ f n = ap f e in let b : g v ≡ g n = ap g e in
+    let c : over n f ≡ over n g = over_same n f g (λ u k. h u (λ d. absurd (omega (arith, k, d, e)))) in omega (arith, a, b, c)
+over_step n v f g h more l (inr e) =
+    let a : f n ≡ g n = h n (λ d. e (sym d)) in
+    let ne : v ≢ n = e in
+    let b : over n f + g v ≡ over n g + f v = more (omega (arith, l, ne)) in omega (arith, a, b)
+
+-- two functions that agree but at one worker
+pub over_one : (n v : ℕ) (f g : ℕ → ℕ) → v < n → ((u : ℕ) → u ≢ v → f u ≡ g u) → over n f + g v ≡ over n g + f v
+over_one zero v f g l h = absurd (omega (arith, l))
+over_one (suc n) v f g l h = over_step n v f g h (λ k. over_one n v f g k h) l (cases_eq v n)
+
+at_or : (n v : ℕ) (f : ℕ → ℕ) → (v < n → f v ≤ over n f) → v < suc n → ((v ≡ n) ⊎ (v ≡ n → ⊥)) → f v ≤ f n + over n f
+at_or n v f more l (inl e) = let a : f v ≡ f n = ap f e in omega (arith, a)
+at_or n v f more l (inr e) = let ne : v ≢ n = e in let b : f v ≤ over n f = more (omega (arith, l, ne)) in omega (arith, b)
+
+pub over_at : (n v : ℕ) (f : ℕ → ℕ) → v < n → f v ≤ over n f
+over_at zero v f l = absurd (omega (arith, l))
+over_at (suc n) v f l = at_or n v f (over_at n v f) l (cases_eq v n)
+
+pub over_none : (n : ℕ) (f : ℕ → ℕ) → ((v : ℕ) → v < n → f v ≡ 0) → over n f ≡ 0
+over_none zero f h = refl
+over_none (suc n) f h = let a : over n f ≡ 0 = over_none n f (λ v l. h v (omega arith)) in let b : f n ≡ 0 =
+    h n (omega arith) in omega (arith, a, b)
+
+-- functions that are changed at one place
+pub changed_same : {A : Type 0} → (f : ℕ → A) (k : ℕ) (x : A) → changed f k x k ≡ x
+changed_same f k x = ap (λ b. cond b x (f k)) (eq-eqb k k refl)
+
+pub changed_other : {A : Type 0} → (f : ℕ → A) (k : ℕ) (x : A) (i : ℕ) → i ≢ k → changed f k x i ≡ f i
+changed_other f k x i h = ap (λ b. cond b x (f i)) (ne_eqb i k h)
+
+pub changed_at_same : {A : Type 0} → (f : ℕ → ℕ → A) (g v : ℕ) (x : A) → changed_at f g v x g v ≡ x
+changed_at_same f g v x = ap (λ b. cond b (cond (eqb v v) x (f g v)) (f g v)) (eq-eqb g g refl)
+    ∙ ap (λ b. cond b x (f g v)) (eq-eqb v v refl)
+
+pub changed_at_gauge : {A : Type 0} → (f : ℕ → ℕ → A) (g v : ℕ) (x : A) (i j : ℕ) → i ≢ g → changed_at f g v x i j ≡ f i j
+changed_at_gauge f g v x i j h = ap (λ b. cond b (cond (eqb j v) x (f i j)) (f i j)) (ne_eqb i g h)
+
+same_both : {A : Type 0} → (b : Bool) (y : A) → cond b y y ≡ y
+same_both true y = refl
+same_both false y = refl
+
+pub changed_at_worker : {A : Type 0} → (f : ℕ → ℕ → A) (g v : ℕ) (x : A) (i j : ℕ) → j ≢ v → changed_at f g v x i j ≡ f i j
+changed_at_worker f g v x i j h = ap (λ b. cond (eqb i g) (cond b x (f i j)) (f i j)) (ne_eqb j v h) ∙ same_both (eqb i g) (f i j)
+
+all_or : {A : Type 0} → (P : ℕ → A → Type 0) (f : ℕ → A) (k : ℕ) (x : A) (i : ℕ) → P i (f i) → P k x → ((i ≡ k) ⊎ (i ≡ k → ⊥))
+    → P i (changed f k x i)
+all_or P f k x i h p (inl e) = subst (λ j. P j (changed f k x j)) (sym e) (subst (λ y. P k y) (sym (changed_same f k x)) p)
+all_or P f k x i h p (inr e) = subst (λ y. P i y) (sym (changed_other f k x i e)) h
+
+-- what holds of each place, and of the new one
+pub changed_all : {A : Type 0} → (P : ℕ → A → Type 0) (f : ℕ → A) (k : ℕ) (x : A) → ((i : ℕ) → P i (f i)) → P k x → (i : ℕ)
+    → P i (changed f k x i)
+changed_all P f k x h p i = all_or P f k x i (h i) p (cases_eq i k)
+
+at_or_worker : {A : Type 0} → (P : ℕ → ℕ → A → Type 0) (f : ℕ → ℕ → A) (g v : ℕ) (x : A) (j : ℕ) → P g j (f g j) → P g v x
+    → ((j ≡ v) ⊎ (j ≡ v → ⊥)) → P g j (changed_at f g v x g j)
+at_or_worker P f g v x j h p (inl e) =
+    subst (λ k. P g k (changed_at f g v x g k)) (sym e) (subst (λ y. P g v y) (sym (changed_at_same f g v x)) p)
+at_or_worker P f g v x j h p (inr e) = subst (λ y. P g j y) (sym (changed_at_worker f g v x g j e)) h
+
+at_or_gauge : {A : Type 0} → (P : ℕ → ℕ → A → Type 0) (f : ℕ → ℕ → A) (g v : ℕ) (x : A) (i j : ℕ) → ((i j : ℕ) → P i j (f i j)) → P g v x
+    → ((i ≡ g) ⊎ (i ≡ g → ⊥)) → P i j (changed_at f g v x i j)
+at_or_gauge P f g v x i j h p (inl e) =
+    subst (λ k. P k j (changed_at f g v x k j)) (sym e) (at_or_worker P f g v x j (h g j) p (cases_eq j v))
+at_or_gauge P f g v x i j h p (inr e) = subst (λ y. P i j y) (sym (changed_at_gauge f g v x i j e)) (h i j)
+
+pub changed_at_all : {A : Type 0} → (P : ℕ → ℕ → A → Type 0) (f : ℕ → ℕ → A) (g v : ℕ) (x : A) → ((i j : ℕ) → P i j (f i j)) → P g v x
+    → (i j : ℕ) → P i j (changed_at f g v x i j)
+changed_at_all P f g v x h p i j = at_or_gauge P f g v x i j h p (cases_eq i g)

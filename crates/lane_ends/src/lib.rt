@@ -1,0 +1,15 @@
+//! How the reading of a recording goes on and ends: a block of samples after another, until input
+//! ends, a take fails, or the recording is longer than one may be.
+//!
+//! `specs/Ends.antt` says which end it is; what is read in blocks ends as what is read at once
+//! (`proofs/Giving.antt`). A block costs a `fill`; at the limit of a recording one further sample is
+//! looked at. No call here takes memory.
+#![tactic(auto)]
+
+mod end;
+mod reading;
+#[cfg(test)]
+mod tests;
+
+pub use end::{End, Given};
+pub use reading::read_samples;
