@@ -8,6 +8,7 @@ use Rattle.recording.specs.declared.TheConstants.{MAX_SAMPLES}
 use Rattle.turning_points.specs.Pairs.{range}
 use Rattle.turning_points.specs.EndPoints.{EndPoints, IsEnds, IsTurn, ends_of, no_ends}
 use Rattle.turning_points.proofs.EndPlaces.{last_place, before_place}
+use Rattle.tally.specs.Counts.{IsCell, IsCounts}
 use Rattle.tables.specs.Bins.{AreBinsFrom, count_at, sum_of}
 use Rattle.tables.specs.Tables.{is_at}
 use Rattle.level_crossing.specs.Crossings.{count_at as crossing_count}
@@ -209,3 +210,9 @@ module _ (v : SegmentValue) (s : IsSegment v) where
     residue = s.residue;
     ended = subst (λ k. IsEnded k v.simple.ends v.reducer.residue) classes_are (ended v.simple.classes v.simple.ends v.reducer.residue s.simple.ends s.alike);
   }
+
+-- of any segment, whose tally is one
+pub parts_kept_by : (v w : SegmentValue) → v ≡ w → IsSegment v → IsCounts v.tally → AreSegment w.grid (parts_of w)
+parts_kept_by v w e s t =
+    subst (λ u. AreSegment u.grid (parts_of u)) e
+    (parts_kept v s (record { each = subst (λ k. All (IsCell k) v.tally.cells) s.over.tally t.each; ascending = t.ascending }))

@@ -7,6 +7,7 @@ mod halves;
 mod join;
 mod load;
 mod readers;
+mod rows;
 mod take;
 
 use calibration::Grid;

@@ -48,7 +48,7 @@ cells_again (c ∷ cs) = cells_before c (rows_of cs) ∙ ap (λ (l : List Cell).
 
 -- ---- the rows of the cells of rows are these rows
 
-row_again : (lo classes : ℕ) (b : Bin) (bs : List Bin) (rs : List RowValue) → AreRowsFrom (lo + 1) classes rs
+pub row_again : (lo classes : ℕ) (b : Bin) (bs : List Bin) (rs : List RowValue) → AreRowsFrom (lo + 1) classes rs
     → rows_of (cells_of rs) ≡ rs → rows_of (map (cell_in lo) (b ∷ bs) ++ cells_of rs) ≡ record { lo = lo; bins = b ∷ bs } ∷ rs
 row_again lo classes b [] [] a e = refl
 row_again lo classes b [] (r ∷ rs) a e = ap (before_rows (cell_in lo b)) e
@@ -114,14 +114,21 @@ rows_behind lo hi classes [] a = tt
 rows_behind lo hi classes (c ∷ cs) a = behind lo hi classes c (before_rows c (rows_of cs)) a.1.ordered a.0
     (begun classes c (rows_of cs) a.1 (rows_behind c.lo (c.hi + 1) classes cs a.2))
 
-from_begun : (lo hi classes : ℕ) (rs : List RowValue) → lo < hi → Begun lo hi classes rs → AreRowsFrom 0 classes rs
-from_begun lo hi classes [] o b = absurd b
-from_begun lo hi classes (r ∷ rs) o b = (omega arith, b.1, lower_bins hi (r.lo + 1) classes r.bins (omega (arith, o, b.0)) b.2, b.3)
+rows_lower : (from classes : ℕ) (rs : List RowValue) (lo hi : ℕ) → from ≤ lo → lo < hi → Begun lo hi classes rs → AreRowsFrom from classes rs
+rows_lower from classes [] lo hi h o b = absurd b
+rows_lower from classes (r ∷ rs) lo hi h o b = (omega (arith, b.0, h), b.1, lower_bins hi (r.lo + 1) classes r.bins (omega (arith, o, b.0)) b.2, b.3)
+
+pub rows_from : (from classes : ℕ) (cs : List Cell) → AreCellsFrom from 0 classes cs → AreRowsFrom from classes (rows_of cs)
+rows_from from classes [] a = tt
+rows_from from classes (c ∷ cs) a =
+    rows_lower from classes (before_rows c (rows_of cs)) c.lo c.hi (at_least from c.lo c.hi a.0) a.1.ordered
+    (begun classes c (rows_of cs) a.1 (rows_behind c.lo (c.hi + 1) classes cs a.2))
+  where
+    at_least : (from x y : ℕ) → (from < x) ⊎ ((from ≡ x) × (0 ≤ y)) → from ≤ x
+    at_least from x y h = grind arith
 
 pub rows_are : (classes : ℕ) (cs : List Cell) → AreCellsFrom 0 0 classes cs → AreRowsFrom 0 classes (rows_of cs)
-rows_are classes [] a = tt
-rows_are classes (c ∷ cs) a = from_begun c.lo c.hi classes (before_rows c (rows_of cs)) a.1.ordered
-    (begun classes c (rows_of cs) a.1 (rows_behind c.lo (c.hi + 1) classes cs a.2))
+rows_are classes cs a = rows_from 0 classes cs a
 
 -- ---- the test of rows
 

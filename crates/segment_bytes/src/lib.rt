@@ -4,6 +4,7 @@
 //! What was read are parts, whatever rules they keep. Numbers are big-endian.
 #![tactic(auto)]
 
+mod decoding;
 mod entries;
 mod fault;
 /// Laws over the definitions alone.
@@ -15,6 +16,7 @@ mod reading;
 mod row_reading;
 mod sizes;
 
+pub use decoding::decode;
 pub use fault::BytesFault;
 pub use layout::Layout;
 pub use parts_reading::parts_in;

@@ -1,0 +1,15 @@
+use Rattle.std.proofs.Common.{subst, arith}
+use Rattle.segment.specs.Parts.{parts_of}
+use Rattle.segment_bytes.specs.Fields.{Gives}
+use Rattle.segment_bytes.proofs.Decoded.{decoded_again}
+use Rattle.segment_bytes.proofs.Found.{is_found}
+use Rattle.segment_bytes.proofs.decoding.decode.Goals as goal
+
+pub returns-clause-found : goal.returns-clause-found
+returns-clause-found c =
+    is_found c.args.layout c.args.grid.now c.args.bytes.now c.checked.result (λ i. omega (arith, c.type_inv.bytes i)) c.checked.ensures.reads
+
+pub returns-clause-complete : goal.returns-clause-complete
+returns-clause-complete c = λ p is.
+    subst (λ f. Gives parts_of c.checked.result f)
+        (decoded_again c.args.layout c.args.grid.now c.args.bytes.now p c.classes-classes.ensures.limits is) c.checked.ensures.reads

@@ -1,0 +1,71 @@
+ghost use Rattle.std.specs.Prelude.{◌≡◌, ◌≤◌, IfOk, Ok};
+ghost use Rattle.segment_rules.specs.Parts.{PartsValue, parts_value};
+ghost use Rattle.segment_rules.specs.Tests.{first_broken};
+ghost use Rattle.segment.specs.Loading.{longest_of};
+ghost use Rattle.segment.specs.Parts.{parts_of};
+ghost use Rattle.segment_bytes.specs.Fields.{Gives};
+ghost use Rattle.segment_bytes.specs.Decoding.{IsBodyOf, decoded, or_fault};
+ghost use Rattle.segment_bytes.specs.declared.layout.Layout.TheVariants as layouts;
+
+use crate::fault::BytesFault;
+use crate::layout::Layout;
+use crate::parts_reading::parts_in;
+use calibration::Grid;
+use segment::{LoadFault, Segment};
+use segment_rules::Parts;
+use std::alloc::Global;
+
+fn loaded(alloc: Global, grid: &Grid, parts: &Parts) -> Result<Segment, BytesFault>
+    ensures grid { IfOk result (λ s. s.grid ≡ grid.now) }
+    ensures longest { IfOk result (λ s. s.longest ≡ longest_of parts.now.name) }
+    ensures reads { Gives parts_of result
+        (or_fault (first_broken grid.now (parts_value parts.now)) (parts_value parts.now)) }
+{
+    match Segment::load(alloc, grid, parts) {
+        Ok(segment) => Ok(segment),
+        Err(LoadFault::Order { list, index }) => Err(BytesFault::Order { list, index }),
+        Err(LoadFault::Sum { rule }) => Err(BytesFault::Sum { rule }),
+        Err(LoadFault::Residue { rule }) => Err(BytesFault::Residue { rule }),
+        Err(LoadFault::OutOfMemory) => Err(BytesFault::OutOfMemory),
+    }
+}
+
+#[tactic(auto, unfolding(crate::specs::Decoding::decoded))]
+fn checked(
+    alloc: Global,
+    layout: Layout,
+    grid: &Grid,
+    bytes: &[u8],
+) -> Result<Segment, BytesFault>
+    ensures grid { IfOk result (λ s. s.grid ≡ grid.now) }
+    ensures longest { IfOk result (λ s. s.longest ≡ longest_of (parts_of s).name) }
+    ensures reads { Gives parts_of result (decoded layout grid.now bytes.now) }
+{
+    let parts = parts_in(alloc, layout, grid, bytes)?;
+    loaded(alloc, grid, &parts)
+}
+
+/// The segment whose body in the layout the bytes are, over the grid: exactly for such bytes. It
+/// may come to as many samples as it has, and to one at least. Refused are, in this order, a number
+/// that does not fit, bytes after the body, entries out of order, and the first other rule that is
+/// broken.
+pub fn decode(
+    alloc: Global,
+    layout: Layout,
+    grid: &Grid,
+    bytes: &[u8],
+) -> Result<Segment, BytesFault>
+    requires { layout ≡ layouts.One → grid.now.classes ≤ 128 }
+    ensures grid { IfOk result (λ s. s.grid ≡ grid.now) }
+    ensures longest { IfOk result (λ s. s.longest ≡ longest_of (parts_of s).name) }
+    // What is given has this body.
+    ensures found { IfOk result (λ s. IsBodyOf layout grid.now (parts_of s) bytes.now) }
+    // A body is taken, unless memory runs out.
+    ensures complete { (p : PartsValue) → IsBodyOf layout grid.now p bytes.now →
+        Gives parts_of result (Ok p) }
+    // Which fault it is.
+    ensures exact { Gives parts_of result (decoded layout grid.now bytes.now) }
+{
+    let _classes = grid.classes();
+    checked(alloc, layout, grid, bytes)
+}
