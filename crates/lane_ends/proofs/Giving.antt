@@ -27,7 +27,7 @@ gives_past room wanted most n before mid after f e is less full taken past some 
     let have : room ≤ length (samples before) = enough room before (t.ends not_failed) in
     let inside : 4 * room ≤ length before = omega (arith, have, length-samples before) in
     let rest : length (samples mid) ≡ length (samples before) - room = ap (λ l. length (samples l)) (t.left not_failed)
-        ∙ ap length (samples-drop room before) ∙ length-drop room (samples before) in
+    ∙ ap length (samples-drop room before) ∙ length-drop room (samples before) in
     let part : torn_bytes mid ≡ torn_bytes before = ap torn_bytes (t.left not_failed) ∙ torn_bytes-drop room before inside in
     let limit : most < wanted = omega (arith, is, less) in
     let at : room ≡ most = omega (arith, is, less) in
@@ -83,5 +83,10 @@ gives_wider room wider most n before after e some fits g = record {
 -- nothing was wanted yet
 pub gives_none : (most : ℕ) (before : List ℕ) → Gives 0 most before 0 More before
 gives_none most before =
-    record { few = (omega arith, omega arith, omega arith); ends = λ q. grind (arith, nat_tests); count = λ q. omega arith; left =
-    λ q. refl }
+    record {
+      few = (omega arith, omega arith, omega arith);
+      ends = λ q. grind (arith, nat_tests);
+      count = λ q. omega arith;
+      left =
+          λ q. refl;
+    }

@@ -146,8 +146,7 @@ module _ (k : ℕ) (e : EndPoints) (r : List ℕ) (i : IsEnds k e) (a : Alike e 
         before_below = i.below.2;
         two = λ z.
             let t = i.two z in
-            let n : length r ≡ 2 = a.short (omega (arith, z)) ∙ z in
-            (
+            let n : length r ≡ 2 = a.short (omega (arith, z)) ∙ z in (
               sym t.1 ∙ sym a.last ∙ sym last ∙ ap (slice_index r) (omega (arith, n)),
               t.0 ∙ sym a.first ∙ ap (slice_index r) (omega (arith, n)),
             );

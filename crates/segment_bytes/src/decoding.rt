@@ -31,12 +31,7 @@ fn loaded(alloc: Global, grid: &Grid, parts: &Parts) -> Result<Segment, BytesFau
 }
 
 #[tactic(auto, unfolding(crate::specs::Decoding::decoded))]
-fn checked(
-    alloc: Global,
-    layout: Layout,
-    grid: &Grid,
-    bytes: &[u8],
-) -> Result<Segment, BytesFault>
+fn checked(alloc: Global, layout: Layout, grid: &Grid, bytes: &[u8]) -> Result<Segment, BytesFault>
     ensures grid { IfOk result (λ s. s.grid ≡ grid.now) }
     ensures longest { IfOk result (λ s. s.longest ≡ longest_of (parts_of s).name) }
     ensures reads { Gives parts_of result (decoded layout grid.now bytes.now) }

@@ -55,7 +55,7 @@ ascending_from : (lo hi k : ℕ) (cs : List Cell) → AreCellsFrom lo hi k cs �
 ascending_from lo hi k [] a = λ i j d g h. absurd (omega arith)
 ascending_from lo hi k (c ∷ cs) a =
     AllPairs-cons (λ c d. Before c.lo c.hi d.lo d.hi) c cs (λ i d h. before_from c (slice_index_or cs i d)
-        (all_from c.lo (c.hi + 1) k cs a.2 i d h)) (ascending_from c.lo (c.hi + 1) k cs a.2)
+    (all_from c.lo (c.hi + 1) k cs a.2 i d h)) (ascending_from c.lo (c.hi + 1) k cs a.2)
 
 pub are_cells : (lo hi k : ℕ) (cs : List Cell) → AreCellsFrom lo hi k cs → AreCells k cs
 are_cells lo hi k cs a = record { each = each_cell lo hi k cs a; ascending = ascending_from lo hi k cs a }

@@ -47,7 +47,7 @@ end_ranges_true e ranges h (inl lt) = few_points e.points _ lt
 end_ranges_true e ranges h (inr le) =
     let c = h le in
     all_counted e.points (count_at (first_range e) ranges) (count_at (last_range e) ranges) (first_range e)
-        (last_range e) le c.first c.last c.separate
+    (last_range e) le c.first c.last c.separate
 
 -- ---- the length of the residue
 
@@ -67,7 +67,7 @@ ends_are : (e : EndPoints) (p a b c d : ℕ) → e.points ≡ p → e.first ≡ 
 unfolding made
 ends_are e p a b c d e0 e1 e2 e3 e4 =
     ap (λ n. made n e.first e.second e.before e.last) e0 ∙ ap (λ n. made p n e.second e.before e.last) e1
-        ∙ ap (λ n. made p a n e.before e.last) e2
+    ∙ ap (λ n. made p a n e.before e.last) e2
     ∙ ap (λ n. made p a b n e.last) e3 ∙ ap (made p a b c) e4
 
 levels_of : (e : EndPoints) (p a b c d : ℕ) → e.points ≡ p → are_levels e a b c d ≡ true
@@ -106,7 +106,7 @@ beside_of k e a b c d t =
     let w = both_true (nat_lt e.second k && nat_lt e.before k) _ v.1 in
     let below = both_true (nat_lt e.second k) (nat_lt e.before k) w.0 in
     let x = both_true (not (e.points == 2) || (e.second == b && e.before == c))
-        (not (e.points == 3) || (e.second == b && e.before == b)) w.1 in
+    (not (e.points == 3) || (e.second == b && e.before == b)) w.1 in
     record {
       first_is = equal_of _ _ ends.0;
       last_is = equal_of _ _ ends.1;
@@ -121,7 +121,7 @@ beside_of k e a b c d t =
 beside_true : (k : ℕ) (e : EndPoints) (a b c d : ℕ) → HasEndsBeside k e a b c d → has_ends_beside k e a b c d ≡ true
 beside_true k e a b c d m =
     true_both (e.first == a && e.last == d) _ (true_both (e.first == a) (e.last == d) (equal_true _ _ m.first_is)
-        (equal_true _ _ m.last_is))
+    (equal_true _ _ m.last_is))
     (true_both (is_turn e.second a b && is_turn e.before d c) _
     (true_both (is_turn e.second a b) (is_turn e.before d c) (turn_true _ _ _ m.second_side) (turn_true _ _ _ m.before_side))
     (true_both (nat_lt e.second k && nat_lt e.before k) _
@@ -147,8 +147,11 @@ ends_by : (k : ℕ) (e : EndPoints) (r : List ℕ) (b c : Bool) → (e.points ==
     → HasEnds k e r
 ends_by k e r true c f g t =
     let is = equal_of _ _ f in
-    record { none_are = λ h. levels_of e 0 0 0 0 0 h t; one_is = λ h. absurd (omega (arith, is, h));
-        more_are = λ h. absurd (omega (arith, is, h)) }
+    record {
+      none_are = λ h. levels_of e 0 0 0 0 0 h t;
+      one_is = λ h. absurd (omega (arith, is, h));
+      more_are = λ h. absurd (omega (arith, is, h));
+    }
 ends_by k e r false true f g t =
     let is = equal_of _ _ g in
     record {
@@ -175,6 +178,8 @@ ended_of k e r l t =
     record { short = n.0; long = n.1; none = f.none_are; one = f.one_is; more = f.more_are }
 
 pub ended_true : (k : ℕ) (e : EndPoints) (r : List ℕ) → IsEnded k e r → (has_length e.points (length r) ≡ true) × (has_ends k e r ≡ true)
-ended_true k e r i =
-    (length_true e.points (length r) i.short i.long, true_by k e r _ _ refl refl
-        (record { none_are = i.none; one_is = i.one; more_are = i.more }))
+ended_true k e r i = (
+  length_true e.points (length r) i.short i.long,
+  true_by k e r _ _ refl refl
+      (record { none_are = i.none; one_is = i.one; more_are = i.more }),
+)

@@ -59,4 +59,4 @@ pub kept_bins : (from to i : ℕ) (bs : List Bin) → AreBinsFrom from to bs →
 kept_bins from to i [] a = refl
 kept_bins from to i (b ∷ bs) a =
     ap (λ t. if t then wrong_bin (b.key + 1) to (i + 1) bs else Some i) (bin_true from to b a.0 a.1 a.2)
-        ∙ kept_bins (b.key + 1) to (i + 1) bs a.3
+    ∙ kept_bins (b.key + 1) to (i + 1) bs a.3

@@ -23,7 +23,7 @@ below_true : (k : ℕ) (xs : List ℕ) → All (λ x. x < k) xs → list_all (λ
 below_true k [] a = refl
 below_true k (x ∷ xs) a =
     true_both (nat_lt x k) (list_all (λ x. nat_lt x k) xs) (less_true x k (All-head (λ x. x < k) x xs a))
-        (below_true k xs (All-tail (λ x. x < k) x xs a))
+    (below_true k xs (All-tail (λ x. x < k) x xs a))
 
 differ_of : (x y : ℕ) → not (x == y) ≡ true → x ≢ y
 differ_of x y e = grind (arith, nat_tests)
@@ -67,7 +67,7 @@ no_cycle_true (a ∷ b ∷ []) k = refl
 no_cycle_true (a ∷ b ∷ c ∷ []) k = refl
 no_cycle_true (a ∷ b ∷ c ∷ d ∷ l) (inner_stay u k) =
     true_both (nat_lt (range a b) (range b c) || nat_lt (range c d) (range b c)) (has_no_cycle (b ∷ c ∷ d ∷ l))
-        (either_true (range a b) (range b c) (range c d) u)
+    (either_true (range a b) (range b c) (range c d) u)
     (no_cycle_true (b ∷ c ∷ d ∷ l) k)
 
 pub residue_of : (k : ℕ) (r : List ℕ) → is_residue k r ≡ true → IsResidue k r

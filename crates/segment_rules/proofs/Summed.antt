@@ -68,7 +68,7 @@ pub summed_none : (p : PartsValue) → IsSummed p → first_unsummed p ≡ None
 unfolding first_unsummed
 summed_none p s =
     none_both _ _ (kept_none _ _ (true_both (nat_le p.name.from p.name.to) (nat_le p.name.to MAX_SAMPLES) (at_most_true _ _ s.span.0)
-        (at_most_true _ _ s.span.1)))
+    (at_most_true _ _ s.span.1)))
     (none_both _ _ (kept_none _ _ (equal_true _ _ s.readings))
     (none_both _ _ (kept_none _ _ (points_true p.ends.points p.used s.points s.no_points))
     (none_both _ _ (kept_none _ _ (equal_true _ _ s.cycles))

@@ -25,17 +25,15 @@ use std::alloc::{AllocError, Global};
 use tally::{Cell, Tally, room_for};
 
 /// A tally of these cells, with the room of so many samples.
-fn tally_of(
-    alloc: Global,
-    grid: &Grid,
-    longest: u64,
-    cells: &[Cell],
-) -> Result<Tally, AllocError>
+fn tally_of(alloc: Global, grid: &Grid, longest: u64, cells: &[Cell]) -> Result<Tally, AllocError>
     requires cells { AreCells grid.now.classes cells.now }
     requires total { total_of cells.now ≤ MAX_TOTAL }
     requires room { 2 * length cells.now ≤ longest }
     ensures { IfOk result (λ t. t ≡ record {
-        classes = grid.now.classes; room = room_for grid.now.classes longest; cells = cells.now }) }
+      classes = grid.now.classes;
+      room = room_for grid.now.classes longest;
+      cells = cells.now;
+    }) }
 {
     let classes = grid.classes();
     let mut tally = Tally::new(alloc, classes, room_for(classes, longest))?;

@@ -12,4 +12,4 @@ returns-clause-found c =
 pub returns-clause-complete : goal.returns-clause-complete
 returns-clause-complete c = λ p is.
     subst (λ f. Gives parts_of c.checked.result f)
-        (decoded_again c.args.layout c.args.grid.now c.args.bytes.now p c.classes-classes.ensures.limits is) c.checked.ensures.reads
+    (decoded_again c.args.layout c.args.grid.now c.args.bytes.now p c.classes-classes.ensures.limits is) c.checked.ensures.reads

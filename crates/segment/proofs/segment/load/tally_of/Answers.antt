@@ -22,4 +22,4 @@ pub returns : goal.returns
 returns c =
     let v = c.loop-cell.invariant in
     tally_is c.args.grid.now.classes c.args.longest c.loop-cell.cell-index c.loop-cell.tally c.args.cells.now v.counts v.classes v.room c.requires.cells c.requires.total
-        c.requires.room (omega (arith, c.loop-cell-test.false)) v.so_far
+    c.requires.room (omega (arith, c.loop-cell-test.false)) v.so_far
