@@ -114,9 +114,16 @@ rows_behind lo hi classes [] a = tt
 rows_behind lo hi classes (c ∷ cs) a = behind lo hi classes c (before_rows c (rows_of cs)) a.1.ordered a.0
     (begun classes c (rows_of cs) a.1 (rows_behind c.lo (c.hi + 1) classes cs a.2))
 
-rows_lower : (from classes : ℕ) (rs : List RowValue) (lo hi : ℕ) → from ≤ lo → lo < hi → Begun lo hi classes rs → AreRowsFrom from classes rs
+rows_lower : (from classes : ℕ) (rs : List RowValue) (lo hi : ℕ) → from ≤ lo → lo < hi → Begun lo hi classes rs
+    → AreRowsFrom from classes rs
 rows_lower from classes [] lo hi h o b = absurd b
-rows_lower from classes (r ∷ rs) lo hi h o b = (omega (arith, b.0, h), b.1, lower_bins hi (r.lo + 1) classes r.bins (omega (arith, o, b.0)) b.2, b.3)
+rows_lower from classes (r ∷ rs) lo hi h o b = (
+  omega (arith, b.0, h),
+  b.1,
+  lower_bins hi (r.lo + 1) classes r.bins
+      (omega (arith, o, b.0)) b.2,
+  b.3,
+)
 
 pub rows_from : (from classes : ℕ) (cs : List Cell) → AreCellsFrom from 0 classes cs → AreRowsFrom from classes (rows_of cs)
 rows_from from classes [] a = tt

@@ -4,3 +4,4 @@ pub mod Grammar
 pub mod Rows
 pub mod Sizes
 pub mod Views
+pub mod Writing

@@ -1,10 +1,15 @@
-//! The body of a segment: its bytes, in two layouts, with one spelling for each.
+//! The body of a segment: its bytes, in two layouts, with one spelling for each segment.
 //!
-//! A body is read from left to right, number by number, and the first that does not fit is told.
-//! What was read are parts, whatever rules they keep. Numbers are big-endian.
+//! `specs/Grammar.antt` is the format, as it is written and as it is read; numbers are big-endian.
+//! The layouts differ in the cells alone: one after the other, or in rows of one lower level.
+//!
+//! `encode` takes no memory and walks the cells once, row by row. `decode` goes from left to right
+//! over the bytes, and tells the first number that does not fit; then it tests the rules of the
+//! parts. Both directions meet: what is decoded has these bytes, and each body is taken.
 #![tactic(auto)]
 
 mod decoding;
+mod encoding;
 mod entries;
 mod fault;
 /// Laws over the definitions alone.
@@ -15,8 +20,11 @@ mod parts_reading;
 mod reading;
 mod row_reading;
 mod sizes;
+mod tables;
+mod writing;
 
 pub use decoding::decode;
+pub use encoding::encode;
 pub use fault::BytesFault;
 pub use layout::Layout;
 pub use parts_reading::parts_in;

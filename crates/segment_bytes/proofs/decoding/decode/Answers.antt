@@ -7,7 +7,8 @@ use Rattle.segment_bytes.proofs.decoding.decode.Goals as goal
 
 pub returns-clause-found : goal.returns-clause-found
 returns-clause-found c =
-    is_found c.args.layout c.args.grid.now c.args.bytes.now c.checked.result (λ i. omega (arith, c.type_inv.bytes i)) c.checked.ensures.reads
+    is_found c.args.layout c.args.grid.now c.args.bytes.now c.checked.result
+    (λ i. omega (arith, c.type_inv.bytes i)) c.checked.ensures.reads
 
 pub returns-clause-complete : goal.returns-clause-complete
 returns-clause-complete c = λ p is.

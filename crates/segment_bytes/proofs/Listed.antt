@@ -1,0 +1,97 @@
+-- Lists of counts as bins, one by one, and one written behind the other.
+use Rattle.std.proofs.Common.{◌≡◌, ℕ, zero, suc, ◌+◌, ◌*◌, ◌<◌, ◌≤◌, Bool, true, false, List, [], ◌∷◌, ◌++◌, length, drop, map, take, refl, sym, ap, ◌∙◌, append_assoc, length-append, arith}
+use Rattle.std.specs.Prelude.{◌==◌, if◌then◌else◌, slice_index, slice_index_or}
+use Rattle.std.specs.List.{flat_map}
+use Rattle.std.proofs.lemmas.List.{append-nil, drop_more, length-map, map-append}
+use Rattle.std.proofs.lemmas.List.Concat.{flat_map-cons}
+use Rattle.std.proofs.lemmas.Grind.{flat_map-append}
+use Rattle.tally.specs.declared.cells.Bin.{Bin}
+use Rattle.segment.specs.Parts.{bins_from}
+use Rattle.segment_bytes.specs.Rows.{cell_in}
+use Rattle.segment_bytes.specs.Grammar.{bin, cell, row}
+use Rattle.segment_bytes.specs.Writing.{Puts, bins_of, row_of}
+use Rattle.segment_bytes.proofs.Lengths.{bins_long, cells_long, row_long}
+
+split_by : {A : Type 0} (b : Bool) (x : A) (xs : List A) → (if b then xs else x ∷ xs) ≡ (if b then [] else x ∷ []) ++ xs
+split_by true x xs = refl
+split_by false x xs = refl
+
+-- the first count, and those behind it
+bins_split : (k n : ℕ) (ns : List ℕ) → bins_of k (n ∷ ns) ≡ bins_of k (n ∷ []) ++ bins_of (k + 1) ns
+bins_split k n ns = split_by (n == 0) (record { key = k; n = n }) (bins_of (k + 1) ns)
+
+-- the next of the counts from a place on
+pub bins_next : (k i : ℕ) (ns : List ℕ) → i < length ns → bins_of k (drop i ns) ≡ bins_of k (slice_index_or ns i 0 ∷ []) ++ bins_of
+    (k + 1) (drop (i + 1) ns)
+bins_next k i ns lt = ap (bins_of k) (drop_more ns i 0 lt) ∙ bins_split k (slice_index_or ns i 0) (drop (i + 1) ns)
+
+long_by : (b : Bool) (x y : Bin) → length (if b then [] else x ∷ []) ≡ length (if b then [] else y ∷ [])
+long_by true x y = refl
+long_by false x y = refl
+
+-- how many there are does not depend on the keys
+pub one_long : (j k n : ℕ) → length (bins_of j (n ∷ [])) ≡ length (bins_of k (n ∷ []))
+one_long j k n = long_by (n == 0) (record { key = j; n = n }) (record { key = k; n = n })
+
+pub one_at_most : (k n : ℕ) → length (bins_of k (n ∷ [])) ≤ 1
+one_at_most k n = by (n == 0) (record { key = k; n = n })
+  where
+    by : (b : Bool) (x : Bin) → length (if b then [] else x ∷ []) ≤ 1
+    by true x = omega arith
+    by false x = omega arith
+
+pub bins_long_next : (k i : ℕ) (ns : List ℕ) → i < length ns
+    → length (bins_of k (drop i ns)) ≡ length (bins_of k (slice_index_or ns i 0 ∷ [])) + length (bins_of (k + 1) (drop (i + 1) ns))
+bins_long_next k i ns lt = ap length (bins_next k i ns lt) ∙ length-append (bins_of k (slice_index_or ns i 0 ∷ []))
+    (bins_of (k + 1) (drop (i + 1) ns))
+
+pub puts_then : {at next last : ℕ} {old mid new : List ℕ} (x y : List ℕ) → Puts at x old mid next → Puts next y mid new last
+    → Puts at (x ++ y) old new last
+puts_then {at} {next} {last} {old} {mid} {new} x y p q = record {
+  next_is = omega (arith, p.next_is, q.next_is, length-append x y);
+  front = q.front ∙ ap (λ (l : List ℕ). l ++ y) p.front ∙ append_assoc (take at old) x y;
+}
+
+-- some more of a list was written
+pub put_steps : {A : Type 0} (w : A → List ℕ) (a b : List ℕ) (es xs ys : List A) (total : List ℕ) → b ≡ a ++ flat_map w es
+    → ys ≡ es ++ xs → a ++ flat_map w ys ≡ total → b ++ flat_map w xs ≡ total
+put_steps w a b es xs ys total is split so_far =
+    ap (λ (l : List ℕ). l ++ flat_map w xs) is ∙ append_assoc a (flat_map w es) (flat_map w xs)
+    ∙ ap (λ (l : List ℕ). a ++ l) (sym (flat_map-append w es xs))
+    ∙ ap (λ l. a ++ flat_map w l) (sym split) ∙ so_far
+
+pub put_done : {A : Type 0} (w : A → List ℕ) (a : List ℕ) (xs : List A) (total : List ℕ) → xs ≡ [] → a ++ flat_map w xs ≡ total → a ≡ total
+put_done w a xs total none so_far = sym (append-nil a) ∙ ap (λ l. a ++ flat_map w l) (sym none) ∙ so_far
+
+pub pairs_next : (lo k i : ℕ) (ns : List ℕ) → i < length ns
+    → map (cell_in lo) (bins_of k (drop i ns)) ≡ map (cell_in lo) (bins_of k (slice_index_or ns i 0 ∷ [])) ++ map (cell_in lo)
+    (bins_of (k + 1) (drop (i + 1) ns))
+pairs_next lo k i ns lt = ap (map (cell_in lo)) (bins_next k i ns lt)
+    ∙ map-append (cell_in lo) (bins_of k (slice_index_or ns i 0 ∷ [])) (bins_of (k + 1) (drop (i + 1) ns))
+
+pub bins_bytes : (k : ℕ) (ns : List ℕ) → length (flat_map bin (bins_of k ns)) ≡ 10 * length (bins_of k ns)
+bins_bytes k ns = bins_long (bins_of k ns)
+
+pub pairs_bytes : (lo k : ℕ) (ns : List ℕ) → length (flat_map cell (map (cell_in lo) (bins_of k ns))) ≡ 12 * length (bins_of k ns)
+pairs_bytes lo k ns = omega (arith, cells_long (map (cell_in lo) (bins_of k ns)), length-map (bins_of k ns) (cell_in lo))
+
+-- nothing is left at the end
+pub none_left : (i : ℕ) (ns : List ℕ) → length ns ≤ i → drop i ns ≡ []
+none_left zero [] h = refl
+none_left zero (n ∷ ns) h = absurd (omega (arith, h))
+none_left (suc i) [] h = refl
+none_left (suc i) (n ∷ ns) h = none_left i ns (omega (arith, h))
+
+-- counts that are told by a function of their keys
+pub listed_same : (count : ℕ → ℕ) (key : ℕ) (ns : List ℕ) → ((k : ℕ) → k < length ns → slice_index ns k ≡ count (key + k))
+    → bins_of key ns ≡ bins_from count key (length ns)
+listed_same count key [] h = refl
+listed_same count key (n ∷ ns) h =
+    let here : n ≡ count key = h 0 (omega arith) ∙ ap count (omega arith) in
+    ap (λ m. if m == 0 then bins_of (key + 1) ns else record { key = key; n = m } ∷ bins_of (key + 1) ns) here
+    ∙ ap (λ (l : List Bin). if count key == 0 then l else record { key = key; n = count key } ∷ l)
+    (listed_same count (key + 1) ns (λ k lt. h (suc k) (omega (arith, lt)) ∙ ap count (omega arith)))
+
+pub row_bytes : (lo : ℕ) (bins : List Bin) → 0 < length bins → length (flat_map row (row_of lo bins)) ≡ 4 + 10 * length bins
+row_bytes lo [] h = absurd (omega (arith, h))
+row_bytes lo (b ∷ bins) h = omega (arith, row_long (record { lo = lo; bins = b ∷ bins }) [])

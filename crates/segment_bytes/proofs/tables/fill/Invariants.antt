@@ -1,0 +1,11 @@
+use Rattle.std.proofs.Common.{◌≡◌, ℕ, ◌+◌, ◌<◌, length}
+use Rattle.std.specs.Prelude.{slice_index}
+use Rattle.segment_bytes.specs.Writing.{count_in}
+use Rattle.segment_bytes.proofs.tables.fill.Given as goal
+
+abbrev pub invariant-loop-i : goal.invariant-loop-i
+invariant-loop-i l = record {
+  key : l.key ≡ l.first + l.i;
+  so_far : (k : ℕ) → k < l.i → slice_index l.out k ≡ count_in l.seg l.table (l.first + k);
+  long : length l.out ≡ length l.initial.out;
+}

@@ -1,0 +1,199 @@
+ghost use Rattle.std.specs.Prelude.{◌≡◌, ◌<◌, ◌≤◌, ◌+◌, ◌-◌, ◌*◌, length, map, take};
+ghost use Rattle.std.specs.Int.{w16, w32};
+ghost use Rattle.std.specs.List.{flat_map};
+ghost use Rattle.turning_points.specs.Ends.{end_points};
+ghost use Rattle.segment.specs.Parts.{parts_of};
+ghost use Rattle.segment_bytes.specs.declared.layout.Layout.TheVariants.{One, Two};
+ghost use Rattle.segment_bytes.specs.Decoding.{IsBodyOf};
+ghost use Rattle.segment_bytes.specs.Fields.{listed};
+ghost use Rattle.segment_bytes.specs.Grammar.{bin, body_of, cell, ends, list0, row, six_bytes, six_of};
+ghost use Rattle.segment_bytes.specs.Rows.{cell_in, rows_of};
+ghost use Rattle.segment_bytes.specs.Sizes.{body_length, list0_length, max_body, max_body_of};
+ghost use Rattle.segment_bytes.specs.Writing.{Puts, bins_in, row_bins, row_of};
+
+use crate::layout::Layout;
+use crate::tables::{Table, fill, keys_of};
+use crate::writing::{
+    put_cells_of_row, put_levels, put_list, put_row, put_u16, put_u64, set_u16, set_u32,
+};
+use segment::Segment;
+use turning_points::Ends;
+
+/// As many counts as a grid has classes at most.
+const PLACES: usize = 1024;
+
+fn put_table(buf: &mut [u8], at: usize, seg: &Segment, table: Table, counts: &mut [u64]) -> usize
+    requires places { seg.now.grid.classes ≤ length counts.old }
+    requires room { at + 2 + 10 * length (bins_in (parts_of seg.now) table) ≤ length buf.old }
+    ensures puts { Puts at (listed w16 bin (bins_in (parts_of seg.now) table)) buf.old buf.new
+        result }
+    ensures next { result ≡ at + 2 + 10 * length (bins_in (parts_of seg.now) table) }
+{
+    let grid = seg.grid();
+    let _classes = grid.classes();
+    let (first, keys) = keys_of(seg, table);
+    let part = &mut counts[..usize::from(keys)];
+    fill(seg, table, first, part);
+    put_list(buf, at, first, part)
+}
+
+fn put_cells_at(buf: &mut [u8], at: usize, seg: &Segment, lo: u16, counts: &mut [u64]) -> usize
+    requires within { lo + 1 < seg.now.grid.classes }
+    requires places { seg.now.grid.classes ≤ length counts.old }
+    requires room { at + 12 * length (row_bins seg.now lo) ≤ length buf.old }
+    ensures { Puts at (flat_map cell (map (cell_in lo) (row_bins seg.now lo))) buf.old buf.new
+        result }
+{
+    let grid = seg.grid();
+    let part = &mut counts[..usize::from(grid.classes() - 1 - lo)];
+    seg.write_cycles(lo, part);
+    put_cells_of_row(buf, at, lo, part)
+}
+
+fn put_row_at(buf: &mut [u8], at: usize, seg: &Segment, lo: u16, counts: &mut [u64]) -> (usize, u16)
+    requires within { lo + 1 < seg.now.grid.classes }
+    requires places { seg.now.grid.classes ≤ length counts.old }
+    requires room { at + length (flat_map row (row_of lo (row_bins seg.now lo)))
+        ≤ length buf.old }
+    ensures puts { Puts at (flat_map row (row_of lo (row_bins seg.now lo))) buf.old buf.new
+        result.0 }
+    ensures rows { result.1 ≡ length (row_of lo (row_bins seg.now lo)) }
+{
+    let grid = seg.grid();
+    let part = &mut counts[..usize::from(grid.classes() - 1 - lo)];
+    seg.write_cycles(lo, part);
+    put_row(buf, at, lo, part)
+}
+
+fn put_all_cells(buf: &mut [u8], at: usize, seg: &Segment, counts: &mut [u64]) -> usize
+    requires places { seg.now.grid.classes ≤ length counts.old }
+    requires room { at + 12 * length (parts_of seg.now).cells ≤ length buf.old }
+    ensures { Puts at (flat_map cell (parts_of seg.now).cells) buf.old buf.new result }
+{
+    let grid = seg.grid();
+    let mut at = at;
+    for lo in 0..grid.classes() - 1 {
+        at = put_cells_at(buf, at, seg, lo, counts);
+    }
+    at
+}
+
+fn put_all_rows(buf: &mut [u8], at: usize, seg: &Segment, counts: &mut [u64]) -> (usize, u16)
+    requires places { seg.now.grid.classes ≤ length counts.old }
+    requires room { at + length (flat_map row (rows_of (parts_of seg.now).cells))
+        ≤ length buf.old }
+    ensures puts { Puts at (flat_map row (rows_of (parts_of seg.now).cells)) buf.old buf.new
+        result.0 }
+    ensures rows { result.1 ≡ length (rows_of (parts_of seg.now).cells) }
+{
+    let grid = seg.grid();
+    let mut at = at;
+    let mut rows = 0;
+    for lo in 0..grid.classes() - 1 {
+        let (next, more) = put_row_at(buf, at, seg, lo, counts);
+        at = next;
+        rows += more;
+    }
+    (at, rows)
+}
+
+// The number of cells is known when they are written.
+fn put_cells(buf: &mut [u8], at: usize, seg: &Segment, counts: &mut [u64]) -> usize
+    requires places { seg.now.grid.classes ≤ length counts.old }
+    requires room { at + list0_length One (parts_of seg.now) ≤ length buf.old }
+    ensures puts { Puts at (list0 One (parts_of seg.now)) buf.old buf.new result }
+    ensures next { result ≡ at + list0_length One (parts_of seg.now) }
+{
+    let _grid = seg.grid();
+    let end = put_all_cells(buf, at + 4, seg, counts);
+    set_u32(buf, at, ((end - at - 4) / 12) as u32);
+    end
+}
+
+// The number of rows is known when they are written.
+fn put_rows(buf: &mut [u8], at: usize, seg: &Segment, counts: &mut [u64]) -> usize
+    requires places { seg.now.grid.classes ≤ length counts.old }
+    requires room { at + list0_length Two (parts_of seg.now) ≤ length buf.old }
+    ensures puts { Puts at (list0 Two (parts_of seg.now)) buf.old buf.new result }
+    ensures next { result ≡ at + list0_length Two (parts_of seg.now) }
+{
+    let (end, rows) = put_all_rows(buf, at + 2, seg, counts);
+    set_u16(buf, at, rows);
+    end
+}
+
+fn put_list0(buf: &mut [u8], at: usize, layout: Layout, seg: &Segment, counts: &mut [u64]) -> usize
+    requires places { seg.now.grid.classes ≤ length counts.old }
+    requires room { at + list0_length layout (parts_of seg.now) ≤ length buf.old }
+    ensures puts { Puts at (list0 layout (parts_of seg.now)) buf.old buf.new result }
+    ensures next { result ≡ at + list0_length layout (parts_of seg.now) }
+{
+    match layout {
+        Layout::One => put_cells(buf, at, seg, counts),
+        Layout::Two => put_rows(buf, at, seg, counts),
+    }
+}
+
+fn put_six(buf: &mut [u8], seg: &Segment) -> usize
+    requires { 42 ≤ length buf.old }
+    ensures puts { Puts 0 (six_bytes (six_of (parts_of seg.now))) buf.old buf.new result }
+    ensures next { result ≡ 42 }
+{
+    let name = seg.name();
+    let at = put_u16(buf, 0, name.gauge);
+    let at = put_u64(buf, at, name.from);
+    let at = put_u64(buf, at, name.to);
+    let at = put_u64(buf, at, seg.used());
+    let at = put_u64(buf, at, seg.missing());
+    put_u64(buf, at, seg.refused())
+}
+
+fn put_ends(buf: &mut [u8], at: usize, e: &Ends) -> usize
+    requires { at + 16 ≤ length buf.old }
+    ensures puts { Puts at (ends (end_points e.now)) buf.old buf.new result }
+    ensures next { result ≡ at + 16 }
+{
+    let at = put_u64(buf, at, e.points);
+    let at = put_u16(buf, at, e.first[0]);
+    let at = put_u16(buf, at, e.first[1]);
+    let at = put_u16(buf, at, e.last[0]);
+    put_u16(buf, at, e.last[1])
+}
+
+fn put_parts(buf: &mut [u8], layout: Layout, seg: &Segment) -> usize
+    requires room { body_length layout (parts_of seg.now) ≤ length buf.old }
+    ensures body { take result buf.new ≡ body_of layout (parts_of seg.now) }
+    ensures next { result ≡ body_length layout (parts_of seg.now) }
+{
+    let grid = seg.grid();
+    let _classes = grid.classes();
+    let mut counts = [0; PLACES];
+    let at = put_six(buf, seg);
+    let ends = seg.ends();
+    let at = put_ends(buf, at, &ends);
+    let at = put_levels(buf, at, seg.residue());
+    let at = put_list0(buf, at, layout, seg, &mut counts);
+    let at = put_table(buf, at, seg, Table::Crossings, &mut counts);
+    let at = put_table(buf, at, seg, Table::Peaks, &mut counts);
+    let at = put_table(buf, at, seg, Table::Valleys, &mut counts);
+    put_table(buf, at, seg, Table::Ranges, &mut counts)
+}
+
+/// Writes the body of a segment in the layout to the front of a buffer, and tells its length. Takes
+/// no memory. The cells are walked once, row by row: a table of a tally costs its places, a log its
+/// entries for each row.
+pub fn encode(layout: Layout, seg: &Segment, buf: &mut [u8]) -> usize
+    requires few { layout ≡ One → seg.now.grid.classes ≤ 128 }
+    requires room { max_body layout seg.now.grid.classes ≤ length buf.old }
+    ensures body { IsBodyOf layout seg.now.grid (parts_of seg.now) (take result buf.new) }
+    ensures len { result ≡ length (body_of layout (parts_of seg.now)) }
+    ensures bound { result ≤ max_body layout seg.now.grid.classes }
+    ensures by_samples { result ≤
+        max_body_of seg.now.grid.classes (seg.now.to - seg.now.from) }
+{
+    let grid = seg.grid();
+    let _classes = grid.classes();
+    let name = seg.name();
+    let _gauge = name.gauge;
+    put_parts(buf, layout, seg)
+}
