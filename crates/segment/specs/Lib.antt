@@ -1,5 +1,6 @@
 pub mod Alike
 pub mod Segment
+pub mod Name
 pub mod Parts
 pub mod Loading
 pub mod Joining

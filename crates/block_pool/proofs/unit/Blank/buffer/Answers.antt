@@ -1,0 +1,18 @@
+use Rattle.std.proofs.Common.{rules, refl, ap, ◌∙◌, length, take, drop, ◌++◌}
+use Rattle.block_pool.specs.Units.{BlankValue, written}
+use Rattle.block_pool.proofs.unit.Blank.buffer.Goals as goal
+
+pub returns : goal.returns
+returns c = (
+  (
+    refl,
+    λ w.
+        ap (λ n. record {
+          buffer = take n (w ++ drop (length w) c.self.inside.buffer.items);
+          grid =
+              c.self.inside.segment.grid;
+        }) c.self.inside.buffer.ok.0
+        ∙ ap (λ (v : BlankValue). record { buffer = written v.buffer w; grid = v.grid }) c.self.view_is,
+  ),
+  record { writes_back = tt; value = search rules; long = search rules },
+)
