@@ -59,7 +59,8 @@ module _ (block workers : ℕ) where
         rings = λ u w. changed_at_all
             (λ i j x. i ≡ g → j < workers → Every (IsDealt block workers h.start (t.fed g) j) x) s.rings g v ring
             (λ i j e k. subst
-            (λ y. Every (IsDealt block workers h.start (t.fed g) j) (s.rings y j)) (sym e) (every_map (s.rings g j) (dealt j) (h.rings j k)))
+            (λ y. Every (IsDealt block workers h.start (t.fed g) j) (s.rings y j)) (sym e)
+            (every_map (s.rings g j) (dealt j) (h.rings j k)))
             (λ e k. every_append (s.rings g v) (m ∷ []) (every_map (s.rings g v) (dealt v) (h.rings v k)) (both new none)) g u refl w;
       }
 
@@ -70,8 +71,10 @@ module _ (block workers : ℕ) where
       let m = next block workers s g in
       let v = worker_of_next block workers s g in
       let ring = s.rings g v ++ m ∷ [] in
-      line_kept s (after block workers s (Feed g)) i (h i) (omega arith) (changed_other s.read g m.to i q) refl (changed_other s.fed g (s.fed g + 1) i q)
-      (λ u w. subst (Every (IsDealt block workers (h i).start (s.fed i) u)) (sym (changed_at_gauge s.rings g v ring i u q)) ((h i).rings u w))
+      line_kept s (after block workers s (Feed g)) i (h i) (omega arith) (changed_other s.read g m.to i q) refl
+      (changed_other s.fed g (s.fed g + 1) i q)
+      (λ u w. subst (Every (IsDealt block workers (h i).start (s.fed i) u)) (sym (changed_at_gauge s.rings g v ring i u q))
+      ((h i).rings u w))
 
   two_runs : (a b c i : ℕ) → a ≤ b → b ≤ c → between a b i + between b c i ≡ between a c i
   two_runs a b c i h k = grind (arith, nat_tests)
@@ -82,7 +85,8 @@ module _ (block workers : ℕ) where
   -- one block more is fed
   fed_once : (s : Flow) (g i v : ℕ) (m : Name) → Meets block workers s → v < workers → m.gauge ≡ g → m.from ≡ s.read g → m.from ≤ m.to →
       over workers
-      (λ u. hits g i (changed_at s.rings g v (s.rings g v ++ m ∷ []) g u) + hits g i (s.counted u)) + hits g i s.placed ≡ between (s.stored g) m.to i
+      (λ u. hits g i (changed_at s.rings g v (s.rings g v ++ m ∷ []) g u) + hits g i (s.counted u)) + hits g i s.placed
+      ≡ between (s.stored g) m.to i
   fed_once s g i v m h w a b c =
       let f : ℕ → ℕ = λ u. hits g i (changed_at s.rings g v (s.rings g v ++ m ∷ []) g u) + hits g i (s.counted u) in
       let k : ℕ → ℕ = λ u. hits g i (s.rings g u) + hits g i (s.counted u) in
@@ -108,10 +112,12 @@ module _ (block workers : ℕ) where
   fed_or : (s : Flow) (g i v : ℕ) (m : Name) (h : ℕ) → Meets block workers s → v < workers → m.gauge ≡ g → m.from ≡ s.read g
       → m.from ≤ m.to → ((h ≡ g) ⊎ (h ≡ g → ⊥)) →
       over workers
-      (λ u. hits h i (changed_at s.rings g v (s.rings g v ++ m ∷ []) h u) + hits h i (s.counted u)) + hits h i s.placed ≡ between (s.stored h) (changed s.read g m.to h) i
+      (λ u. hits h i (changed_at s.rings g v (s.rings g v ++ m ∷ []) h u) + hits h i (s.counted u)) + hits h i s.placed
+      ≡ between (s.stored h) (changed s.read g m.to h) i
   fed_or s g i v m h is w a b c (inl e) =
       subst (λ k. over workers
-      (λ u. hits k i (changed_at s.rings g v (s.rings g v ++ m ∷ []) k u) + hits k i (s.counted u)) + hits k i s.placed ≡ between (s.stored k) (changed s.read g m.to k) i) (sym e)
+      (λ u. hits k i (changed_at s.rings g v (s.rings g v ++ m ∷ []) k u) + hits k i (s.counted u)) + hits k i s.placed
+      ≡ between (s.stored k) (changed s.read g m.to k) i) (sym e)
       (fed_once s g i v m is w a b c ∙ ap (λ r. between (s.stored g) r i) (sym (changed_same s.read g m.to)))
   fed_or s g i v m h is w a b c (inr e) =
       ap (λ x. x + hits h i s.placed) (fed_elsewhere s g i v (s.rings g v ++ m ∷ []) h e) ∙ is.once h i
@@ -166,27 +172,35 @@ module _ (block workers : ℕ) where
         stored = λ i. omega (arith, h.stored i, more i);
         read = changed_all (λ i r. r ≤ length (s.samples i)) s.read g m.to h.read within;
         whole = changed_all (λ i r. (r ≡ length (s.samples i)) ⊎ ((k : ℕ) × (r ≡ s.stored i + k * block))) s.read g m.to h.whole
-            (end_or m.to block (length (s.samples g)) k.0 (s.stored g) (s.read g) k.1 end (le_or (s.read g + block) (length (s.samples g))));
+            (end_or m.to block (length (s.samples g)) k.0 (s.stored g) (s.read g) k.1 end
+            (le_or (s.read g + block) (length (s.samples g))));
         line = λ i. line_or s g i h.line l (cases_eq i g);
       }
 
   -- a block goes from a ring to the counted ones
   count_same : (s : Flow) (g v : ℕ) (h i u : ℕ) → v < workers → Meets block workers s → ((h ≡ g) ⊎ (h ≡ g → ⊥))
       → ((u ≡ v) ⊎ (u ≡ v → ⊥)) →
-      hits h i (changed_at s.rings g v (drop 1 (s.rings g v)) h u) + hits h i (changed s.counted v (s.counted v ++ take 1 (s.rings g v)) u) ≡ hits h i (s.rings h u) + hits h i (s.counted u)
+      hits h i (changed_at s.rings g v (drop 1 (s.rings g v)) h u)
+      + hits h i (changed s.counted v (s.counted v ++ take 1 (s.rings g v)) u) ≡ hits h i (s.rings h u) + hits h i (s.counted u)
   count_same s g v h i u w is (inl e) (inl f) =
       let claim : ℕ → ℕ → Type 0 =
-      λ a b. hits a i (changed_at s.rings g v (drop 1 (s.rings g v)) a b) + hits a i (changed s.counted v (s.counted v ++ take 1 (s.rings g v)) b) ≡ hits a i (s.rings a b) + hits a i (s.counted b) in
+      λ a b. hits a i (changed_at s.rings g v (drop 1 (s.rings g v)) a b)
+      + hits a i (changed s.counted v (s.counted v ++ take 1 (s.rings g v)) b) ≡ hits a i (s.rings a b) + hits a i (s.counted b) in
       let r : hits g i (changed_at s.rings g v (drop 1 (s.rings g v)) g v) ≡ hits g i (drop 1 (s.rings g v)) =
       ap (hits g i) (changed_at_same s.rings g v (drop 1 (s.rings g v))) in
-      let c : hits g i (changed s.counted v (s.counted v ++ take 1 (s.rings g v)) v) ≡ hits g i (s.counted v) + hits g i (take 1 (s.rings g v)) = ap (hits g i) (changed_same s.counted v (s.counted v ++ take 1 (s.rings g v))) ∙ hits-append g i (s.counted v) (take 1 (s.rings g v)) in
+      let c : hits g i (changed s.counted v (s.counted v ++ take 1 (s.rings g v)) v) ≡ hits g i (s.counted v)
+      + hits g i (take 1 (s.rings g v)) = ap (hits g i) (changed_same s.counted v (s.counted v ++ take 1 (s.rings g v)))
+      ∙ hits-append g i (s.counted v) (take 1 (s.rings g v)) in
       subst (λ a. claim a u) (sym e) (subst (λ b. claim g b) (sym f) (omega (arith, r, c, hits-split g i (s.rings g v))))
   count_same s g v h i u w is (inr e) (inl f) =
       let claim : ℕ → Type 0 =
-      λ b. hits h i (changed_at s.rings g v (drop 1 (s.rings g v)) h b) + hits h i (changed s.counted v (s.counted v ++ take 1 (s.rings g v)) b) ≡ hits h i (s.rings h b) + hits h i (s.counted b) in
+      λ b. hits h i (changed_at s.rings g v (drop 1 (s.rings g v)) h b)
+      + hits h i (changed s.counted v (s.counted v ++ take 1 (s.rings g v)) b) ≡ hits h i (s.rings h b) + hits h i (s.counted b) in
       let r : hits h i (changed_at s.rings g v (drop 1 (s.rings g v)) h v) ≡ hits h i (s.rings h v) =
       ap (hits h i) (changed_at_gauge s.rings g v (drop 1 (s.rings g v)) h v e) in
-      let c : hits h i (changed s.counted v (s.counted v ++ take 1 (s.rings g v)) v) ≡ hits h i (s.counted v) + hits h i (take 1 (s.rings g v)) = ap (hits h i) (changed_same s.counted v (s.counted v ++ take 1 (s.rings g v))) ∙ hits-append h i (s.counted v) (take 1 (s.rings g v)) in
+      let c : hits h i (changed s.counted v (s.counted v ++ take 1 (s.rings g v)) v) ≡ hits h i (s.counted v)
+      + hits h i (take 1 (s.rings g v)) = ap (hits h i) (changed_same s.counted v (s.counted v ++ take 1 (s.rings g v)))
+      ∙ hits-append h i (s.counted v) (take 1 (s.rings g v)) in
       let z : hits h i (take 1 (s.rings g v)) ≡ 0 =
       hits_other h i (take 1 (s.rings g v)) (every_take (s.rings g v) (every_map (s.rings g v)
       (λ n b q. e (sym q ∙ b.gauge)) (is.rings g v w))) in
@@ -261,7 +275,8 @@ module _ (block workers : ℕ) where
             → Every (λ n. IsBlock block t n.gauge n) x) s.counted v (drop 1 (s.counted v))
             (λ j q. every_map (s.counted j) up (h.counted j q))
             (λ q. every_drop (s.counted v) (every_map (s.counted v) up (h.counted v w)));
-        placed = every_append s.placed (take 1 (s.counted v)) (every_map s.placed up h.placed) (every_take (s.counted v) (every_map (s.counted v) up (h.counted v w)));
+        placed = every_append s.placed (take 1 (s.counted v)) (every_map s.placed up h.placed)
+            (every_take (s.counted v) (every_map (s.counted v) up (h.counted v w)));
         stored = h.stored;
         read = h.read;
         whole = h.whole;

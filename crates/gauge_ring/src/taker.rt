@@ -27,7 +27,8 @@ pub fn ring<T: Send + Drop>(
 }
 
 impl<T> Taker<T> {
-    /// The oldest item that was not taken, or none. None comes only where the taker knew of no item.
+    /// The oldest item that was not taken, or none. None comes only where the taker knew of no
+    /// item.
     pub fn take(&mut self) -> Option<T>
         ensures same { IsSameTaker self.old self.new }
         ensures item { IfSome result (λ x. taken self.new ≡ taken self.old ++ x ∷ []) }

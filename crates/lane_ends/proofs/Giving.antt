@@ -40,7 +40,8 @@ gives_past room wanted most n before mid after f e is less full taken past some 
     }
 
 -- whole samples of a lane, and then what is left of it
-module _ (m room most n : ℕ) (before mid after : List ℕ) (e : End) (have : m ≤ length (samples before)) (within : m ≤ most) (is : mid ≡ drop (4 * m) before) (g : Gives room (most - m) mid n e after) where
+module _ (m room most n : ℕ) (before mid after : List ℕ) (e : End) (have : m ≤ length (samples before)) (within : m ≤ most)
+    (is : mid ≡ drop (4 * m) before) (g : Gives room (most - m) mid n e after) where
   inside : 4 * m ≤ length before
   inside = omega (arith, have, length-samples before)
 

@@ -8,5 +8,6 @@ loop-preserved c =
       long = search rules;
       room = search rules;
       fits =
-          all_push c.args.block c.args.grid.now c.loop.free.items _ c.in_ok-new.field-0 c.loop.invariant.fits (search rules) c.push_reserved.ensures.items;
+          all_push c.args.block c.args.grid.now c.loop.free.items _ c.in_ok-new.field-0 c.loop.invariant.fits
+          (search rules) c.push_reserved.ensures.items;
     }

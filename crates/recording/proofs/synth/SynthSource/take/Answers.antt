@@ -17,7 +17,8 @@ returns-else-self-eq4-clause-bytes c = λ told.
     let bytes = c.to_le_bytes-bytes.result in
     let own : bytes ≡ to_le_bytes w32 (cast_unsigned w32 c.made_sample.result) = search rules in
     let is = own ∙ ap (λ z. to_le_bytes w32 (cast_unsigned w32 z)) (c.made_sample.ensures ∙ ap made_sample c.next_state-next.ensures) in
-    part_taken s.samples s.state s.given c.min-n.result bytes c.copy_from_slice.new.self (drop c.min-n.result c.args.buf.now) c.args.self.now
+    part_taken s.samples s.state s.given c.min-n.result bytes c.copy_from_slice.new.self
+    (drop c.min-n.result c.args.buf.now) c.args.self.now
     (search rules) (search rules) is (search rules) (sym c.self.view_is)
 
 pub returns-then-self-eq4-clause-bytes : goal.returns-then-self-eq4-clause-bytes
