@@ -20,5 +20,9 @@ mod neighbours;
 mod segment;
 
 pub use fault::LoadFault;
+
+#[cfg(test)]
+mod tests;
+
 pub use segment::{JoinRefusal, Segment};
 pub use segment_rules::Name;

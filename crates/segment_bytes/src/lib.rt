@@ -29,3 +29,6 @@ pub use fault::BytesFault;
 pub use layout::Layout;
 pub use parts_reading::parts_in;
 pub use sizes::max_body;
+
+#[cfg(test)]
+mod tests;
