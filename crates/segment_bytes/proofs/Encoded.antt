@@ -9,8 +9,8 @@ use Rattle.tally.specs.declared.cells.Bin.{Bin}
 use Rattle.tally.specs.Counts.{count_of}
 use Rattle.segment.specs.Parts.{bins_from, parts_of}
 use Rattle.segment.specs.Segment.{SegmentValue}
-use Rattle.segment_bytes.specs.declared.tables.Table.{Table}
-use Rattle.segment_bytes.specs.declared.tables.Table.TheVariants.{Crossings, Peaks, Valleys, Ranges}
+use Rattle.segment_bytes.specs.declared.bin_lists.Table.{Table}
+use Rattle.segment_bytes.specs.declared.bin_lists.Table.TheVariants.{Crossings, Peaks, Valleys, Ranges}
 use Rattle.segment_rules.specs.Parts.{PartsValue}
 use Rattle.segment_bytes.specs.declared.layout.Layout.{Layout}
 use Rattle.segment_bytes.specs.declared.layout.Layout.TheVariants.{One, Two}

@@ -15,8 +15,8 @@ use Rattle.segment_rules.specs.Parts.{PartsValue}
 use Rattle.segment.specs.Segment.{SegmentValue}
 use Rattle.segment.specs.Parts.{bins_from}
 use Rattle.segment_bytes.specs.Rows.{RowValue}
-use Rattle.segment_bytes.specs.declared.tables.Table.{Table}
-use Rattle.segment_bytes.specs.declared.tables.Table.TheVariants.{Crossings, Peaks, Valleys, Ranges}
+use Rattle.segment_bytes.specs.declared.bin_lists.Table.{Table}
+use Rattle.segment_bytes.specs.declared.bin_lists.Table.TheVariants.{Crossings, Peaks, Valleys, Ranges}
 
 -- and the next place is told
 pub record Puts (at : ℕ) (bytes old new : List ℕ) (next : ℕ) : Type 0 where

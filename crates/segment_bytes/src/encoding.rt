@@ -11,8 +11,8 @@ ghost use Rattle.segment_bytes.specs.Rows.{cell_in, rows_of};
 ghost use Rattle.segment_bytes.specs.Sizes.{body_length, list0_length, max_body, max_body_of};
 ghost use Rattle.segment_bytes.specs.Writing.{Puts, bins_in, row_bins, row_of};
 
+use crate::bin_lists::{Table, fill, keys_of};
 use crate::layout::Layout;
-use crate::tables::{Table, fill, keys_of};
 use crate::writing::{
     put_cells_of_row, put_levels, put_list, put_row, put_u16, put_u64, set_u16, set_u32,
 };

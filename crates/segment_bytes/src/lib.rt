@@ -13,6 +13,7 @@ mod encoding;
 mod entries;
 mod fault;
 /// Laws over the definitions alone.
+mod bin_lists;
 pub mod laws;
 mod layout;
 mod numbers;
@@ -20,7 +21,6 @@ mod parts_reading;
 mod reading;
 mod row_reading;
 mod sizes;
-mod tables;
 mod writing;
 
 pub use decoding::decode;

@@ -1,7 +1,7 @@
 use Rattle.std.proofs.Common.{◌≡◌, ℕ, ◌+◌, ◌<◌, length}
 use Rattle.std.specs.Prelude.{slice_index}
 use Rattle.segment_bytes.specs.Writing.{count_in}
-use Rattle.segment_bytes.proofs.tables.fill.Given as goal
+use Rattle.segment_bytes.proofs.bin_lists.fill.Given as goal
 
 abbrev pub invariant-loop-i : goal.invariant-loop-i
 invariant-loop-i l = record {
