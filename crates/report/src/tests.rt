@@ -35,32 +35,32 @@ fn a_table(rt: HostRuntime) -> Result<(), Fail> {
 fn details(rt: HostRuntime) -> Result<(), Fail> {
     let mut page = Page::new(rt.alloc(), 2)?;
     let cases = [
-        (0, 0, 7, "detail W1 G1 0 0/7 0.000000000\n"),
-        (0, 1, 7, "detail W1 G1 0 1/7 0.142857143\n"),
+        (0, 0, 7, "detail weld-1 north 0 0/7 0.000000000\n"),
+        (0, 1, 7, "detail weld-1 north 0 1/7 0.142857143\n"),
         (
             0,
             1,
             10_000_000_000,
-            "detail W1 G1 0 1/10000000000 0.000000001\n",
+            "detail weld-1 north 0 1/10000000000 0.000000001\n",
         ),
         (
             2,
             405_224,
             1_000_000,
-            "detail W1 G1 2 405224/1000000 2.405224000\n",
+            "detail weld-1 north 2 405224/1000000 2.405224000\n",
         ),
         (
             3,
             9_999_999_999,
             10_000_000_000,
-            "detail W1 G1 3 9999999999/10000000000 4.000000000\n",
+            "detail weld-1 north 3 9999999999/10000000000 4.000000000\n",
         ),
     ];
     for (wholes, parts, den, expected) in cases {
         let mut damage = Frac::zero(den);
         damage.add_times(parts, 1);
         damage.whole += wholes;
-        detail_text(&mut page, "W1", "G1", &damage);
+        detail_text(&mut page, "weld-1", "north", &damage);
         assert_eq!(rt; page.bytes(), expected.as_bytes());
     }
     Ok(())
@@ -69,7 +69,7 @@ fn details(rt: HostRuntime) -> Result<(), Fail> {
 const EXAMPLE: [i32; 9] = [-2, 1, -3, 5, -1, 3, -4, 4, -2];
 
 const EXAMPLE_TEXT: &str = "\
-gauge G1
+gauge north
 samples 9 used 9 missing 0 refused 0
 rainflow
 9.0 0.5
@@ -133,7 +133,7 @@ fn gauges(rt: HostRuntime) -> Result<(), Fail> {
     let mut seg = Segment::new(alloc, &grid, 0, 0, 100)?;
     let classifier = Classifier::new(&gain, &grid);
     seg.count_block(&EXAMPLE, &classifier, &mut [0; 9]);
-    gauge_text(&mut page, "G1", &seg);
+    gauge_text(&mut page, "north", &seg);
     assert_eq!(rt; page.bytes(), EXAMPLE_TEXT.as_bytes());
 
     let mut seg = Segment::new(alloc, &grid, 0, 0, 100)?;
