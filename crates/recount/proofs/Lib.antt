@@ -1,0 +1,4 @@
+pub mod Taken
+pub mod Pieces
+pub mod Rows
+pub mod Differences
