@@ -11,7 +11,7 @@ use Rattle.segment.specs.Segment.{SegmentValue, Stands, empty_at}
 use Rattle.board.proofs.Empty.{empty_stands}
 use Rattle.flow.specs.Flow.{hits}
 use Rattle.flow.proofs.Counting.{over_none}
-use Rattle.board.specs.Board.{BoardValue, Row, IsRow, IsBoard, IsBegun, StandsForNamed, spans, start_of}
+use Rattle.board.specs.Board.{BoardValue, Row, IsRow, IsBoard, IsBegun, StandsIn, spans, start_of}
 use Rattle.board.specs.Clearing.{IsFresh, RowBegun, RowsBegun}
 use Rattle.board.proofs.Lists.{all_written}
 use Rattle.board.proofs.Placing.{between_off, spans_none, none_stand}
@@ -41,9 +41,10 @@ module _ (block gauge start : ℕ) (kind : GridValue) (r : Row) (h : IsFresh blo
   }
 
   pub fresh_spans : (i : ℕ) → spans i r.slots ≡ 0
-  fresh_spans i = spans_none i r.slots (λ k d m. between_off (get_or r.slots k d).from (get_or r.slots k d).to i (λ some. absurd (fresh_empty k d (omega (arith, m, h.long)) some)))
+  fresh_spans i = spans_none i r.slots (λ k d m. between_off (get_or r.slots k d).from (get_or r.slots k d).to i
+      (λ some. absurd (fresh_empty k d (omega (arith, m, h.long)) some)))
 
-  pub fresh_stands : (gain : GainValue) (w : List ℤ) (k : ℕ) (d : SegmentValue) → k < 16 → StandsForNamed (get_or r.slots k d) gain w
+  pub fresh_stands : (gain : GainValue) (w : List ℤ) (k : ℕ) (d : SegmentValue) → k < 16 → StandsIn (get_or r.slots k d) gain w
   fresh_stands gain w k d m =
       none_stand gain w (get_or r.slots k d) (to_is k d m ∙ sym (from_is k d m))
       (subst (λ (z : SegmentValue). Stands z gain []) (sym (h.each k d m)) (empty_stands kind gauge start (16 * block) gain))
@@ -54,15 +55,18 @@ no_hits g i l e = ap (hits g i) e
 abbrev no_row : Row
 no_row = record { start = 0; slots = [] }
 
-module _ (b : BoardValue) (starts : ℕ → ℕ) (none : b.arrivals ≡ []) (fresh : (g : ℕ) (d : Row) → g < length b.rows → IsFresh b.block b.grid g (starts g) (get_or b.rows g d)) where
-  pub fresh_board : (1 ≤ b.block) × (b.block ≤ MAX_BLOCK) → length b.rows ≤ MAX_GAUGES → ((g : ℕ) → g < length b.rows → starts g ≤ MAX_SAMPLES) → IsBoard b
+module _ (b : BoardValue) (starts : ℕ → ℕ) (none : b.arrivals ≡ [])
+    (fresh : (g : ℕ) (d : Row) → g < length b.rows → IsFresh b.block b.grid g (starts g) (get_or b.rows g d)) where
+  pub fresh_board : (1 ≤ b.block) × (b.block ≤ MAX_BLOCK) → length b.rows ≤ MAX_GAUGES →
+      ((g : ℕ) → g < length b.rows → starts g ≤ MAX_SAMPLES) → IsBoard b
   fresh_board block gauges limit = record {
     block = block;
     gauges = gauges;
     starts = λ g d m. let e : (get_or b.rows g d).start ≡ starts g = (fresh g d m).from in omega (arith, e, limit g m);
     rows = λ g d m. fresh_row b.block g (starts g) b.grid (get_or b.rows g d) (fresh g d m);
     intervals = λ g i d m. fresh_spans b.block g (starts g) b.grid (get_or b.rows g d) (fresh g d m) i ∙ sym (no_hits g i b.arrivals none);
-    count = ap length none ∙ sym (over_none (length b.rows) _ (λ g m. over_none 16 _ (λ k h. no_hits g (start_of b g + k * b.block) b.arrivals none)));
+    count = ap length none ∙ sym (over_none (length b.rows) _
+        (λ g m. over_none 16 _ (λ k h. no_hits g (start_of b g + k * b.block) b.arrivals none)));
   }
 
   pub fresh_begun : IsBegun b starts
@@ -73,14 +77,18 @@ module _ (b : BoardValue) (starts : ℕ → ℕ) (none : b.arrivals ≡ []) (fre
   }
 
 -- a row that was begun anew
-pub begun_fresh : (block : ℕ) (kind : GridValue) (gauge start : ℕ) (old new : Row) → IsRow block kind gauge old → RowBegun gauge start old new → IsFresh block kind gauge start new
+pub begun_fresh : (block : ℕ) (kind : GridValue) (gauge start : ℕ) (old new : Row) → IsRow block kind gauge old
+    → RowBegun gauge start old new → IsFresh block kind gauge start new
 begun_fresh block kind gauge start old new h r = record {
   from = r.from;
   long = r.slots.long ∙ h.long;
-  each = λ k d m. r.slots.each k d (omega (arith, m, h.long)) ∙ ap (λ (g : GridValue). empty_at g gauge start (get_or old.slots k d).longest) (h.each k d m).grid ∙ ap (λ (n : ℕ). empty_at kind gauge start n) (h.each k d m).longest;
+  each = λ k d m. r.slots.each k d (omega (arith, m, h.long)) ∙ ap
+      (λ (g : GridValue). empty_at g gauge start (get_or old.slots k d).longest) (h.each k d m).grid ∙ ap
+      (λ (n : ℕ). empty_at kind gauge start n) (h.each k d m).longest;
 }
 
-pub rows_fresh : (b : BoardValue) (starts : List ℕ) (rows : List Row) → IsBoard b → (was new : List Row) (n : ℕ) → was ≡ b.rows → n ≡ length b.rows → RowsBegun starts was new → rows ≡ take n (new ++ drop (length new) b.rows)
+pub rows_fresh : (b : BoardValue) (starts : List ℕ) (rows : List Row) → IsBoard b → (was new : List Row) (n : ℕ) → was ≡ b.rows
+    → n ≡ length b.rows → RowsBegun starts was new → rows ≡ take n (new ++ drop (length new) b.rows)
     → (length rows ≡ length b.rows) × ((g : ℕ) (d : Row) → g < length rows → IsFresh b.block b.grid g (get_or starts g 0) (get_or rows g d))
 rows_fresh b starts rows h was new n e l r is =
     let size : length new ≡ length b.rows = r.long ∙ ap length e in
@@ -88,5 +96,7 @@ rows_fresh b starts rows h was new n e l r is =
     let long : length rows ≡ length b.rows = ap length same ∙ size in (
       long,
       λ g d m. subst (λ x. IsFresh b.block b.grid g (get_or starts g 0) (get_or x g d)) (sym same)
-          (begun_fresh b.block b.grid g (get_or starts g 0) (get_or b.rows g d) (get_or new g d) (h.rows g d (omega (arith, m, long))) (subst (λ x. RowBegun g (get_or starts g 0) (get_or x g d) (get_or new g d)) e (r.row g d (omega (arith, m, long, ap length e))))),
+          (begun_fresh b.block b.grid g (get_or starts g 0) (get_or b.rows g d) (get_or new g d) (h.rows g d (omega (arith, m, long)))
+              (subst (λ x. RowBegun g (get_or starts g 0) (get_or x g d) (get_or new g d)) e
+              (r.row g d (omega (arith, m, long, ap length e))))),
     )

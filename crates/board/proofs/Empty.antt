@@ -1,10 +1,9 @@
 -- A segment of no samples stands for none.
-use Rattle.std.proofs.Common.{◌≡◌, ℕ, List, [], ◌∷◌, ◌++◌, length, refl, ap, arith, length-append}
+use Rattle.std.proofs.Common.{ℕ, List, [], ◌∷◌, length, refl, ap, arith, length-append}
 use Rattle.lemmas.proofs.Lists.{get_or-zeros}
 use Rattle.calibration.specs.Gain.{GainValue}
 use Rattle.calibration.specs.Grid.{GridValue}
-use Rattle.turning_points.specs.Points.{points}
-use Rattle.four_point.specs.Reduction.{Reduces, IsIrreducible, IsFourPointResult}
+use Rattle.four_point.specs.Reduction.{IsIrreducible}
 use Rattle.level_crossing.specs.Crossings.{no_crossings}
 use Rattle.level_crossing.proofs.PushJoin.{none_counted}
 use Rattle.segment.specs.Segment.{Stands, empty_at}
@@ -21,7 +20,8 @@ empty_stands grid gauge from longest gain = record {
   history = record {
     used = refl;
     result = record { pairs = []; by = refl; counts = λ lo hi. refl; irreducible = no_deletion };
-    crossings = record { some = refl; first = refl; last = refl; counts = λ l some few. none_counted (no_crossings grid.classes grid.reference) grid.classes grid.reference refl l };
+    crossings = record { some = refl; first = refl; last = refl; counts = λ l some few. none_counted
+        (no_crossings grid.classes grid.reference) grid.classes grid.reference refl l };
     simple = record { ends = refl; decided = λ k few. get_or-zeros grid.classes k; extremes = λ l few. get_or-zeros grid.classes l };
   };
 }

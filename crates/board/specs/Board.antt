@@ -3,7 +3,7 @@
 --   spans             how many of the segments name a sample
 --   IsSlot, IsRow     what holds of a place, and of the places of a gauge
 --   IsBlockOf, Fits   a name is a block of a window, and of a board's
---   StandsForNamed          a segment stands for the samples that its name names
+--   StandsIn          a segment stands for the samples that its name names
 --   Carries           each place of a board does, of these samples
 --   SameBoard         the same windows
 --   IsBoard           what holds of every board
@@ -67,13 +67,13 @@ start_of b g = (slice_index_or b.rows g (record { start = 0; slots = [] })).star
 abbrev pub Fits : BoardValue → Name → Type 0
 Fits b n = IsBlockOf b.block (length b.rows) (start_of b n.gauge) n
 
-abbrev pub StandsForNamed : SegmentValue → GainValue → List ℤ → Type 0
-StandsForNamed s gain w = Stands s gain (slice_range w s.from s.to)
+abbrev pub StandsIn : SegmentValue → GainValue → List ℤ → Type 0
+StandsIn s gain w = Stands s gain (slice_range w s.from s.to)
 
 -- A place without an interval has an empty segment, which stands for no samples.
 abbrev pub Carries : BoardValue → (ℕ → GainValue) → (ℕ → List ℤ) → Type 0
 Carries b gain w = (g k : ℕ) (r : Row) (d : SegmentValue) → g < length b.rows → k < 16 →
-    StandsForNamed (slice_index_or (slice_index_or b.rows g r).slots k d) (gain g) (w g)
+    StandsIn (slice_index_or (slice_index_or b.rows g r).slots k d) (gain g) (w g)
 
 -- the same windows, block and grid
 pub record SameBoard (old new : BoardValue) : Type 0 where
@@ -108,4 +108,4 @@ pub record IsFront (b : BoardValue) (g : ℕ) (s : SegmentValue) : Type 0 where
   pub from : s.from ≡ start_of b g
   pub covered : (i : ℕ) → s.from ≤ i → i < s.to → 1 ≤ hits g i b.arrivals
   pub greatest : hits g s.to b.arrivals ≡ 0
-  pub stands : (gain : ℕ → GainValue) (w : ℕ → List ℤ) → Carries b gain w → StandsForNamed s (gain g) (w g)
+  pub stands : (gain : ℕ → GainValue) (w : ℕ → List ℤ) → Carries b gain w → StandsIn s (gain g) (w g)

@@ -11,7 +11,7 @@ use Rattle.calibration.specs.Gain.{GainValue}
 use Rattle.segment_rules.specs.declared.name.Name.{Name}
 use Rattle.segment.specs.Segment.{SegmentValue, Stands}
 use Rattle.segment.specs.Name.{name_of}
-use Rattle.board.specs.Board.{IsRow, spans, StandsForNamed}
+use Rattle.board.specs.Board.{IsRow, spans, StandsIn}
 use Rattle.flow.specs.Flow.{named}
 use Rattle.flow.specs.Kept.{between}
 
@@ -94,13 +94,13 @@ pub record CanPlace (start block k : ℕ) (seg : SegmentValue) : Type 0 where
   pub window : seg.to ≤ start + 16 * block
 
 abbrev pub AllStand : GainValue → List ℤ → List SegmentValue → Type 0
-AllStand gain w slots = (i : ℕ) (d : SegmentValue) → i < 16 → StandsForNamed (slice_index_or slots i d) gain w
+AllStand gain w slots = (i : ℕ) (d : SegmentValue) → i < 16 → StandsIn (slice_index_or slots i d) gain w
 
 pub record Placed (start block : ℕ) (old new : List SegmentValue) (seg : SegmentValue) : Type 0 where
   pub free : spans seg.from old ≡ 0
   pub more : (i : ℕ) → spans i new ≡ spans i old + between seg.from seg.to i
   pub row : IsRow block seg.grid seg.gauge (record { start = start; slots = new })
-  pub stands : (gain : GainValue) (w : List ℤ) → AllStand gain w old → StandsForNamed seg gain w → AllStand gain w new
+  pub stands : (gain : GainValue) (w : List ℤ) → AllStand gain w old → StandsIn seg gain w → AllStand gain w new
 
 pub record Doubled (old new : List SegmentValue) (seg : SegmentValue) (n : Name) : Type 0 where
   pub same : new ≡ old

@@ -74,7 +74,7 @@ fn number_in(start: u64, block: u32, gauges: usize, name: Name) -> Option<u64>
 }
 
 impl Board {
-    ghost use Rattle.board.specs.Board.{IsBoard, IsBegun, SameBoard, Carries, StandsForNamed, IsFront};
+    ghost use Rattle.board.specs.Board.{IsBoard, IsBegun, SameBoard, Carries, StandsIn, IsFront};
     ghost use Rattle.board.specs.Deposits.{Answers};
 
     /// An empty board for blocks of so many samples, whose windows begin at 0. Takes all memory that
@@ -120,7 +120,7 @@ impl Board {
         ensures answer { Answers self.old self.new seg.now result }
         ensures same { SameBoard self.old self.new }
         ensures carries { (gain : ℕ → GainValue) (w : ℕ → List ℤ) → Carries self.old gain w →
-            StandsForNamed seg.now (gain seg.now.gauge) (w seg.now.gauge) → Carries self.new gain w }
+            StandsIn seg.now (gain seg.now.gauge) (w seg.now.gauge) → Carries self.new gain w }
         ensures board { IsBoard self.new }
     {
         let name = seg.name();
