@@ -1,0 +1,194 @@
+-- What a deposit does to a board.
+use Rattle.segment.specs.Name.{name_of}
+use Rattle.recording.specs.declared.TheConstants.{MAX_SAMPLES}
+use Rattle.std.proofs.Common.{◌≡◌, ◌≢◌, ◌≤◌, ◌<◌, ◌+◌, ◌*◌, ℕ, zero, suc, List, [], ◌∷◌, ◌++◌, length, get_or, set, refl, sym, ap, ◌∙◌, subst, arith, cond}
+use Rattle.std.specs.Prelude.{ℤ}
+use Rattle.std.proofs.lemmas.List.{get_or_default, set-get_or}
+use Rattle.std.proofs.lemmas.Bool.{eq-eqb}
+use Rattle.std.proofs.lemmas.Bool.Decides.{nat_tests}
+use Rattle.std.proofs.Math.ListN.{length-set}
+use Rattle.calibration.specs.Gain.{GainValue}
+use Rattle.segment_rules.specs.declared.name.Name.{Name}
+use Rattle.segment.specs.Segment.{SegmentValue}
+use Rattle.flow.specs.Flow.{has, hits}
+use Rattle.flow.specs.Kept.{between, over}
+use Rattle.flow.proofs.Counting.{over_same, has_other, hits-append}
+use Rattle.board.specs.Board.{BoardValue, Row, IsRow, IsBoard, Carries, StandsIn, SameBoard, spans, start_of, blocks_placed, Fits}
+use Rattle.board.specs.Rows.{CanPlace, Placed, Doubled}
+use Rattle.board.specs.Deposits.{Numbered, HasSample}
+use Rattle.board.proofs.Lists.{at_set}
+use Rattle.board.proofs.Counts.{one_block_more, over_most, row_once}
+use Rattle.std.specs.Prelude.{Some}
+
+no_row : Row
+no_row = record { start = 0; slots = [] }
+
+has_between : (g i : ℕ) (n : Name) → n.gauge ≡ g → has g i n ≡ between n.from n.to i
+has_between g i n e = ap (λ t. cond t (between n.from n.to i) 0) (eq-eqb n.gauge g e)
+
+hits_push : (g i : ℕ) (l m : List Name) (n : Name) → m ≡ l ++ n ∷ [] → hits g i m ≡ hits g i l + has g i n
+hits_push g i l m n e = let a : hits g i m ≡ hits g i (l ++ n ∷ []) = ap (hits g i) e in let b : hits g i (l ++ n ∷ []) ≡ hits g i l +
+    (has g i n + 0) = hits-append g i l (n ∷ []) in omega (arith, a, b)
+
+-- a board has at most 16 names for each gauge
+pub board_few : (b : BoardValue) → IsBoard b → length b.arrivals ≤ length b.rows * 16
+board_few b h =
+    let most : blocks_placed b ≤ length b.rows * 16 = over_most (length b.rows) 16
+        (λ g. over 16 (λ k. hits g (start_of b g + k * b.block) b.arrivals)) (λ g m.
+    let sums : over 16 (λ k. hits g (start_of b g + k * b.block) b.arrivals) ≤ 16 * 1 = over_most 16 1
+        (λ k. hits g (start_of b g + k * b.block) b.arrivals) (λ k u.
+    let e = h.intervals g (start_of b g + k * b.block) (record { start = 0; slots = [] }) m in
+    let f = row_once b.block g (start_of b g + k * b.block) b.grid (get_or b.rows g (record { start = 0; slots = [] }))
+        (h.rows g (record { start = 0; slots = [] }) m) in omega (arith, e, f)) in
+    omega (arith, sums)) in
+    omega (arith, h.count, most)
+
+-- the board in which a block was placed
+module _ (b : BoardValue) (k : ℕ) (seg : SegmentValue) (new d : Row) (arrivals : List Name) where
+  abbrev g : ℕ
+  g = seg.gauge
+
+  abbrev was : Row
+  was = get_or b.rows g d
+
+  abbrev pub placed_in : BoardValue
+  placed_in = record { grid = b.grid; block = b.block; rows = set b.rows g new; arrivals = arrivals }
+
+  module _ (known : g < length b.rows) (start : new.start ≡ was.start) where
+    starts_same : (i : ℕ) → start_of placed_in i ≡ start_of b i
+    starts_same i = at_set (λ j r. r.start ≡ start_of b j) b.rows g new i (record { start = 0; slots = [] }) known (λ e. refl)
+        (λ e. start ∙ ap (λ r. r.start) (get_or_default b.rows g d (record { start = 0; slots = [] }) known))
+
+    pub placed_same : SameBoard b placed_in
+    placed_same = record { grid = refl; block = refl; gauges = length-set b.rows g new; starts = starts_same }
+
+    module _ (h : IsBoard b) (kind : seg.grid ≡ b.grid) (fits : CanPlace was.start b.block k seg)
+        (p : Placed was.start b.block was.slots new.slots seg) (grown : arrivals ≡ b.arrivals ++ (name_of seg) ∷ []) where
+      new_row : IsRow b.block b.grid g new
+      new_row = subst (λ s. IsRow b.block b.grid g (record { start = s; slots = new.slots })) (sym start)
+          (subst (λ t. IsRow b.block t g (record { start = was.start; slots = new.slots })) kind p.row)
+
+      more : (x : ℕ) → spans x new.slots ≡ hits g x arrivals
+      more x =
+          let e = p.more x in let f = h.intervals g x d known in let n = hits_push g x b.arrivals arrivals (name_of seg) grown in let t =
+              has_between g x (name_of seg) refl in
+          omega (arith, e, f, n, t)
+
+      others : (i x : ℕ) (r : Row) → i ≢ g → spans x r.slots ≡ hits i x b.arrivals → spans x r.slots ≡ hits i x arrivals
+      others i x r ne e = let n = hits_push i x b.arrivals arrivals (name_of seg) grown in let t = has_other i x (name_of seg)
+          (λ q. ne (sym q)) in omega (arith, e, n, t)
+
+      counted : length arrivals ≡ blocks_placed placed_in
+      counted =
+          let long : length arrivals ≡ length (b.arrivals ++ (name_of seg) ∷ []) = ap length grown in
+          let grew : over (length b.rows) (λ i. over 16 (λ j. hits i (start_of b i + j * b.block)
+              (b.arrivals ++ (name_of seg) ∷ []))) ≡ blocks_placed b + 1 =
+          one_block_more (length b.rows) b.block k (start_of b) b.arrivals (name_of seg) fits.some_block known fits.place
+              (fits.from ∙ ap (λ r. r.start + k * b.block) (get_or_default b.rows g d
+              (record { start = 0; slots = [] }) known)) fits.some fits.short in
+          let same : blocks_placed placed_in ≡ over (length b.rows)
+              (λ i. over 16 (λ j. hits i (start_of b i + j * b.block) (b.arrivals ++ (name_of seg) ∷ []))) =
+          ap (λ n. over n (λ i. over 16 (λ j. hits i (start_of placed_in i + j * b.block) arrivals))) (length-set b.rows g new)
+          ∙ over_same (length b.rows) _ (λ i. over 16 (λ j. hits i (start_of b i + j * b.block) (b.arrivals ++ (name_of seg) ∷ [])))
+              (λ i m. over_same 16 _ (λ j. hits i (start_of b i + j * b.block) (b.arrivals ++ (name_of seg) ∷ []))
+              (λ j u. ap (λ s. hits i (s + j * b.block) arrivals) (starts_same i) ∙ ap (hits i (start_of b i + j * b.block)) grown)) in
+          let plus : length (b.arrivals ++ (name_of seg) ∷ []) ≡ length b.arrivals + 1 = one_longer b.arrivals (name_of seg) in
+          omega (arith, long, plus, grew, same, h.count)
+        where
+          one_longer : (l : List Name) (n : Name) → length (l ++ n ∷ []) ≡ length l + 1
+          one_longer [] n = refl
+          one_longer (x ∷ l) n = let e = one_longer l n in omega (arith, e)
+
+      pub placed_board : IsBoard placed_in
+      placed_board =
+          let size : length (set b.rows g new) ≡ length b.rows = length-set b.rows g new in
+          record {
+            block = h.block;
+            gauges = omega (arith, size, h.gauges);
+            starts = λ i e m. at_set (λ j r. r.start ≤ MAX_SAMPLES) b.rows g new i e known (λ q. h.starts i e (omega (arith, m, size)))
+                (λ q. let s = h.starts g d known in omega (arith, start, s));
+            rows = λ i e m. at_set (λ j r. IsRow b.block b.grid j r) b.rows g new i e known (λ q. h.rows i e (omega (arith, m, size)))
+                (λ q. new_row);
+            intervals = λ i x e m. at_set (λ j r. spans x r.slots ≡ hits j x arrivals) b.rows g new i e known
+                (λ q. others i x (get_or b.rows i e) q (h.intervals i x e (omega (arith, m, size)))) (λ q. more x);
+            count = counted;
+          }
+
+      pub placed_room : length b.arrivals + 1 ≤ 16 * length b.rows
+      placed_room =
+          let few = board_few placed_in placed_board in let size : length (set b.rows g new) ≡ length b.rows = length-set b.rows g new in
+          let n : length arrivals ≡ length b.arrivals + 1 = ap length grown ∙ one_longer b.arrivals (name_of seg) in omega
+              (arith, few, size, n)
+        where
+          one_longer : (l : List Name) (n : Name) → length (l ++ n ∷ []) ≡ length l + 1
+          one_longer [] n = refl
+          one_longer (x ∷ l) n = let e = one_longer l n in omega (arith, e)
+
+      pub placed_carries : (gain : ℕ → GainValue) (w : ℕ → List ℤ) → Carries b gain w → StandsIn seg (gain g) (w g)
+          → Carries placed_in gain w
+      placed_carries gain w all one i j r s m u =
+          let size : length (set b.rows g new) ≡ length b.rows = length-set b.rows g new in
+          at_set (λ x r. StandsIn (get_or r.slots j s) (gain x) (w x)) b.rows g new i r known
+          (λ q. all i j r s (omega (arith, m, size)) u) (λ q. p.stands (gain g) (w g) (λ x y v. all g x d y known v) one j s u)
+
+-- a row that is as it was
+pub row_same : (rows : List Row) (g : ℕ) (new d : Row) → new.start ≡ (get_or rows g d).start → new.slots ≡ (get_or rows g d).slots
+    → set rows g new ≡ rows
+row_same rows g new d e f =
+    let is : new ≡ get_or rows g d = ap (λ s. record { start = s; slots = new.slots }) e ∙ ap
+        (λ l. record { start = (get_or rows g d).start; slots = l }) f in
+    ap (set rows g) is ∙ set-get_or rows g d
+
+pub spans_has : (i : ℕ) (l : List SegmentValue) (k : ℕ) (d : SegmentValue) → k < length l → (get_or l k d).from ≤ i → i < (get_or l k d).to
+    → 1 ≤ spans i l
+spans_has i [] k d m a b = absurd (omega (arith, m))
+spans_has i (s ∷ l) zero d m a b = let e : between s.from s.to i ≡ 1 = inside s.from s.to i a b in omega (arith, e)
+  where
+    inside : (a b i : ℕ) → a ≤ i → i < b → between a b i ≡ 1
+    inside a b i h k = grind (arith, nat_tests)
+spans_has i (s ∷ l) (suc k) d m a b = let e = spans_has i l k d (omega (arith, m)) a b in omega (arith, e)
+
+-- the place has the first sample
+pub doubled : (b : BoardValue) (seg : SegmentValue) (new : List SegmentValue) (n : Name) (d : Row) → IsBoard b → seg.gauge < length b.rows
+    → Doubled (get_or b.rows seg.gauge d).slots new seg n
+    → (1 ≤ hits seg.gauge seg.from b.arrivals) × HasSample b seg.gauge seg.from n
+doubled b seg new n d h known p =
+    let g = seg.gauge in
+    let row = h.rows g d known in
+    let at : (s : SegmentValue) → (name_of (get_or (get_or b.rows g d).slots p.at s)) ≡ n = λ s. sym (p.interval s) in
+    let some : 1 ≤ spans seg.from (get_or b.rows g d).slots = spans_has seg.from (get_or b.rows g d).slots p.at seg
+        (omega (arith, p.within, row.long))
+    (let e : (get_or (get_or b.rows g d).slots p.at seg).from ≡ n.from = ap (λ m. m.from) (at seg) in omega (arith, e, p.from))
+        (let e : (get_or (get_or b.rows g d).slots p.at seg).to ≡ n.to = ap (λ m. m.to) (at seg) in omega (arith, e, p.to)) in
+    let is = h.intervals g seg.from d known in (
+      omega (arith, some, is),
+      record {
+        place = p.at;
+        within = p.within;
+        interval = λ r s. p.interval s ∙ ap (λ (x : Row). name_of (get_or x.slots p.at s)) (get_or_default b.rows g d r known);
+        from = p.from;
+        to = p.to;
+      },
+    )
+
+-- the number of a block, and the block that it numbers
+pub can_place : (b : BoardValue) (seg : SegmentValue) (d : Row) (k : ℕ) → IsBoard b → seg.gauge < length b.rows → Numbered b.block
+    (length b.rows) (get_or b.rows seg.gauge d).start (name_of seg) (Some k) → CanPlace (get_or b.rows seg.gauge d).start b.block k seg
+can_place b seg d k h known n = record { some_block = omega (arith, h.block.0); place = n.0; from = n.4; some = n.2; short = n.3; window =
+    n.5 }
+
+pub number_fits : (b : BoardValue) (name : Name) (d : Row) (k : ℕ) → name.gauge < length b.rows → Numbered b.block (length b.rows)
+    (get_or b.rows name.gauge d).start name (Some k) → Fits b name
+number_fits b name d k known n =
+    let same : (get_or b.rows name.gauge d).start ≡ start_of b name.gauge = ap (λ r. r.start)
+        (get_or_default b.rows name.gauge d (record { start = 0; slots = [] }) known) in
+    record { known = known; some = n.2; short = n.3; number = k; at = n.4 ∙ ap (λ s. s + k * b.block) same; window = omega
+        (arith, n.5, same) }
+
+-- the number that was found in a row that was read there
+pub number_there : (b : BoardValue) (name : Name) (r d : Row) (start gauges block k : ℕ) → name.gauge < length b.rows → start ≡ r.start
+    → gauges ≡ length b.rows → r ≡ get_or b.rows name.gauge r → Numbered block gauges start name (Some k) → Numbered block (length b.rows)
+    (get_or b.rows name.gauge d).start name (Some k)
+number_there b name r d start gauges block k known e f i n =
+    subst (λ l. Numbered block l (get_or b.rows name.gauge d).start name (Some k)) f
+        (subst (λ s. Numbered block gauges s name (Some k)) (e ∙ ap (λ x. x.start) (i ∙ get_or_default b.rows name.gauge r d known)) n)

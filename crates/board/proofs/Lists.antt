@@ -1,0 +1,35 @@
+-- Lists of which one place has changed, that have an item more, and buffers that a slice wrote over.
+use Rattle.std.proofs.Common.{◌≡◌, ◌≢◌, ◌⊎◌, inl, inr, ◌≤◌, ◌<◌, ℕ, ◌+◌, List, [], ◌∷◌, ◌++◌, length, get_or, set, take, drop, ap, sym, ◌∙◌, subst, arith}
+use Rattle.std.proofs.Math.ListN.{get_or-append}
+use Rattle.std.proofs.Math.Seq.{get_or-append_seam}
+use Rattle.std.proofs.lemmas.List.{get_or-set_same, get_or-set_other, take_all, take-append-le}
+use Rattle.std.proofs.lemmas.Bool.{cases_eq}
+
+at_or : {A : Type 0} → (Q : ℕ → A → Type 0) (l : List A) (k : ℕ) (x : A) (i : ℕ) (d : A) → k < length l → (i ≢ k → Q i (get_or l i d)) →
+    (i ≡ k → Q k x) → ((i ≡ k) ⊎ (i ≡ k → ⊥)) → Q i (get_or (set l k x) i d)
+at_or Q l k x i d h old new (inl e) = subst (λ j. Q j (get_or (set l k x) j d)) (sym e)
+    (subst (Q k) (sym (get_or-set_same l k x d h)) (new e))
+at_or Q l k x i d h old new (inr e) = subst (Q i) (sym (get_or-set_other l k i x d e)) (old e)
+
+-- a fact of each place, where one has changed
+pub at_set : {A : Type 0} → (Q : ℕ → A → Type 0) (l : List A) (k : ℕ) (x : A) (i : ℕ) (d : A) → k < length l → (i ≢ k → Q i (get_or l i d))
+    → (i ≡ k → Q k x) → Q i (get_or (set l k x) i d)
+at_set Q l k x i d h old new = at_or Q l k x i d h old new (cases_eq i k)
+
+pub all_written : {A : Type 0} → (old new : List A) (n : ℕ) → n ≡ length old → length new ≡ length old → take n
+    (new ++ drop (length new) old) ≡ new
+all_written old new n e l =
+    let few : n ≤ length new = omega (arith, e, l) in
+    take-append-le n new (drop (length new) old) few ∙ take_all n new (omega (arith, e, l))
+
+pushed_or : {A : Type 0} → (P : A → Type 0) (l : List A) (x : A) (n : ℕ) → length l ≡ n → ((k : ℕ) (d : A) → k < n → P (get_or l k d))
+    → P x → (k : ℕ) (d : A) → k < n + 1 → ((k ≡ n) ⊎ (k ≡ n → ⊥)) → P (get_or (l ++ x ∷ []) k d)
+pushed_or P l x n e all new k d m (inl is) = subst P (sym (ap (λ i. get_or (l ++ x ∷ []) i d) (is ∙ sym e)
+    ∙ get_or-append_seam l x [] d)) new
+pushed_or P l x n e all new k d m (inr other) = subst P (sym (get_or-append l (x ∷ []) d k (omega (arith, e, m, other))))
+    (all k d (omega (arith, m, other)))
+
+-- a fact of each item, where there is one more
+pub each_pushed : {A : Type 0} → (P : A → Type 0) (l : List A) (x : A) (n : ℕ) → length l ≡ n →
+    ((k : ℕ) (d : A) → k < n → P (get_or l k d)) → P x → (k : ℕ) (d : A) → k < n + 1 → P (get_or (l ++ x ∷ []) k d)
+each_pushed P l x n e all new k d m = pushed_or P l x n e all new k d m (cases_eq k n)
