@@ -106,6 +106,7 @@ pub record IsFront (b : BoardValue) (g : ℕ) (s : SegmentValue) : Type 0 where
   pub gauge : s.gauge ≡ g
   pub grid : s.grid ≡ b.grid
   pub from : s.from ≡ start_of b g
+  pub ordered : s.from ≤ s.to
   pub covered : (i : ℕ) → s.from ≤ i → i < s.to → 1 ≤ hits g i b.arrivals
   pub greatest : hits g s.to b.arrivals ≡ 0
   pub stands : (gain : ℕ → GainValue) (w : ℕ → List ℤ) → Carries b gain w → StandsIn s (gain g) (w g)

@@ -1,0 +1,114 @@
+-- The blocks of a round, counted over its workers.
+use Rattle.std.proofs.Common.{◌≡◌, ◌≤◌, ◌<◌, ◌+◌, ◌%◌, ℕ, zero, suc, List, [], ◌∷◌, ◌++◌, refl, sym, ap, ◌∙◌, arith, append_assoc, Bool, true, false, cond, eqb}
+use Rattle.std.proofs.lemmas.Bool.{eq-eqb, ne_eqb}
+use Rattle.std.proofs.lemmas.Bool.Decides.{nat_tests}
+use Rattle.std.proofs.lemmas.List.{append_cancel_left}
+use Rattle.segment_rules.specs.declared.name.Name.{Name}
+use Rattle.flow.specs.Flow.{named, has, hits}
+use Rattle.flow.specs.Kept.{over, between}
+use Rattle.flow.proofs.Counting.{over_same, over_one, over_none}
+use Rattle.block_pool.specs.Units.{FilledValue}
+use Rattle.block_workers.specs.declared.item.Item.{Item}
+use Rattle.block_workers.specs.declared.item.Item.TheVariants.{Block, Mark}
+use Rattle.block_workers.specs.declared.desk.Desk.{Desk}
+use Rattle.block_workers.specs.Dealing.{round_of, dealt}
+use Rattle.block_workers.specs.Reading.{AreBlocks}
+use Rattle.block_workers.specs.Reading.AreBlocks.{none, last, more}
+use Rattle.arrivals.specs.Arrivals.{names_of}
+
+-- two rounds of a ring that begin alike are one, and nothing is behind it
+abbrev rest_of : List Item → List Item
+rest_of [] = []
+rest_of (x ∷ xs) = xs
+
+abbrev block_in : FilledValue → List Item → FilledValue
+block_in d [] = d
+block_in d (Block u ∷ l) = u
+block_in d (Mark ∷ l) = d
+
+abbrev kind_of : List Item → ℕ
+kind_of [] = 0
+kind_of (Block u ∷ l) = 1
+kind_of (Mark ∷ l) = 2
+
+pub same_round : (us vs : List FilledValue) (rest : List Item) → round_of us ≡ round_of vs ++ rest → (vs ≡ us) × (rest ≡ [])
+same_round [] [] rest e = (refl, sym (ap rest_of e))
+same_round [] (v ∷ vs) rest e = let k : 2 ≡ 1 = ap kind_of e in absurd (omega (arith, k))
+same_round (u ∷ us) [] rest e = let k : 1 ≡ 2 = ap kind_of e in absurd (omega (arith, k))
+same_round (u ∷ us) (v ∷ vs) rest e =
+    let tail_is = same_round us vs rest (ap rest_of e) in
+    let head : u ≡ v = ap (block_in u) e in
+    (ap (λ x. x ∷ vs) (sym head) ∙ ap (λ l. u ∷ l) tail_is.0, tail_is.1)
+
+-- a ring that was even before a round is even after it, and what was taken is what was dealt
+pub even : (f fed taken left : List Item) (us vs : List FilledValue) → fed ≡ f ++ round_of us → taken ≡ f ++ round_of vs
+    → fed ≡ taken ++ left → (vs ≡ us) × (fed ≡ taken)
+even f fed taken left us vs a b e =
+    let both_ends : f ++ round_of us ≡ f ++ (round_of vs ++ left) = sym a ∙ e ∙ ap (λ t. t ++ left) b ∙ append_assoc f (round_of vs) left in
+    let (same, no_more) = same_round us vs left (append_cancel_left f (round_of us) (round_of vs ++ left) both_ends) in
+    (same, rw (a, b, same) refl)
+
+dealt_test : (g i : ℕ) (u : FilledValue) (l : List FilledValue) (b : Bool)
+    → hits g i (names_of (cond b (u ∷ l) l)) ≡ cond b (has g i u.name) 0 + hits g i (names_of l)
+dealt_test g i u l true = refl
+dealt_test g i u l false = omega arith
+
+dealt_hits : (g i n k v : ℕ) (u : FilledValue) (us : List FilledValue)
+    → hits g i (names_of (dealt n v k (u ∷ us))) ≡ cond (eqb (k % n) v) (has g i u.name) 0 + hits g i (names_of (dealt n v (k + 1) us))
+dealt_hits g i n k v u us = dealt_test g i u (dealt n v (k + 1) us) (eqb (k % n) v)
+
+pub one_worker : (n w x : ℕ) → w < n → over n (λ v. cond (eqb w v) x 0) ≡ x
+one_worker n w x l =
+    let f : ℕ → ℕ = λ v. cond (eqb w v) x 0 in
+    let z : ℕ → ℕ = λ v. 0 in
+    let split : over n f + z w ≡ over n z + f w = over_one n w f z l (λ u d. ap (λ b. cond b x 0) (ne_eqb w u (λ q. d (sym q)))) in
+    let zeros : over n z ≡ 0 = over_none n z (λ v h. refl) in
+    let here : f w ≡ x = ap (λ b. cond b x 0) (eq-eqb w w refl) in omega (arith, split, zeros, here)
+
+pub over_sum : (n : ℕ) (f h : ℕ → ℕ) → over n (λ v. f v + h v) ≡ over n f + over n h
+over_sum zero f h = refl
+over_sum (suc n) f h = let e : over n (λ v. f v + h v) ≡ over n f + over n h = over_sum n f h in omega (arith, e)
+
+-- each block of a lane goes to one worker
+pub dealt_once : (g i n k : ℕ) (us : List FilledValue) → 0 < n → over n (λ v. hits g i (names_of (dealt n v k us))) ≡ hits g i (names_of us)
+dealt_once g i n k [] h = over_none n (λ v. 0) (λ v l. refl)
+dealt_once g i n k (u ∷ us) h =
+    let x = has g i u.name in
+    let parts : over n (λ v. hits g i (names_of (dealt n v k (u ∷ us))))
+    ≡ over n (λ v. cond (eqb (k % n) v) x 0 + hits g i (names_of (dealt n v (k + 1) us))) =
+    over_same n _ _ (λ v l. dealt_hits g i n k v u us) in
+    let sums : over n (λ v. cond (eqb (k % n) v) x 0 + hits g i (names_of (dealt n v (k + 1) us)))
+    ≡ over n (λ v. cond (eqb (k % n) v) x 0) + over n (λ v. hits g i (names_of (dealt n v (k + 1) us))) =
+    over_sum n (λ v. cond (eqb (k % n) v) x 0) (λ v. hits g i (names_of (dealt n v (k + 1) us))) in
+    let here : over n (λ v. cond (eqb (k % n) v) x 0) ≡ x = one_worker n (k % n) x (omega (arith, h)) in
+    let rest : over n (λ v. hits g i (names_of (dealt n v (k + 1) us))) ≡ hits g i (names_of us) = dealt_once g i n (k + 1) us h in
+    omega (arith, parts, sums, here, rest)
+
+between_two : (a b c i : ℕ) → a ≤ b → b ≤ c → between a b i + between b c i ≡ between a c i
+between_two a b c i h k = grind (arith, nat_tests)
+
+named_has : (g a b i : ℕ) → has g i (named g a b) ≡ between a b i
+named_has g a b i = ap (λ t. cond t (between a b i) 0) (eq-eqb g g refl)
+
+has_named : (g a b i : ℕ) (n : Name) → n ≡ named g a b → has g i n ≡ between a b i
+has_named g a b i n e = ap (has g i) e ∙ named_has g a b i
+
+nothing_between : (a i : ℕ) → between a a i ≡ 0
+nothing_between a i = grind (arith, nat_tests)
+
+pub blocks_ascend : (d : Desk) (a b : ℕ) (us : List FilledValue) → AreBlocks d a us b → a ≤ b
+blocks_ascend d a b [] none = omega arith
+blocks_ascend d a b (u ∷ []) (last i) = omega (arith, i.some)
+blocks_ascend d a b (u ∷ us) (more i r) = omega (arith, i.some, blocks_ascend d (a + d.block) b us r)
+
+-- the blocks of a lane name its samples once each
+pub blocks_once : (d : Desk) (a b i : ℕ) (us : List FilledValue) → AreBlocks d a us b → hits d.gauge i (names_of us) ≡ between a b i
+blocks_once d a b i [] none = sym (nothing_between a i)
+blocks_once d a b i (u ∷ []) (last h) = let e : has d.gauge i u.name ≡ between a b i = has_named d.gauge a b i u.name h.name in
+    omega (arith, e)
+blocks_once d a b i (u ∷ us) (more h r) =
+    let e : has d.gauge i u.name ≡ between a (a + d.block) i = has_named d.gauge a (a + d.block) i u.name h.name in
+    let f : hits d.gauge i (names_of us) ≡ between (a + d.block) b i = blocks_once d (a + d.block) b i us r in
+    let s : between a (a + d.block) i + between (a + d.block) b i ≡ between a b i =
+    between_two a (a + d.block) b i (omega arith) (blocks_ascend d (a + d.block) b us r) in
+    omega (arith, e, f, s)

@@ -1,0 +1,31 @@
+-- What goes through the rings of a round.
+use Rattle.std.specs.Prelude.{◌≡◌, ◌+◌, ◌%◌, ◌<◌, ℕ, List, [], ◌∷◌, ◌++◌, length, map, cond, eqb, slice_index_or}
+use Rattle.gauge_ring.specs.declared.feeder.Feeder.{Feeder}
+use Rattle.gauge_ring.specs.Ends.{fed, IsSameFeeder}
+use Rattle.block_pool.specs.Units.{FilledValue}
+use Rattle.block_workers.specs.declared.item.Item.{Item}
+use Rattle.block_workers.specs.declared.item.Item.TheVariants.{Block, Mark}
+
+abbrev pub block_of : FilledValue → Item
+block_of u = Block u
+
+-- a round of a ring: its blocks, and then the mark
+abbrev pub round_of : List FilledValue → List Item
+round_of us = map block_of us ++ Mark ∷ []
+
+-- of the blocks of a lane, numbered from k, those of a worker
+abbrev pub dealt : ℕ → ℕ → ℕ → List FilledValue → List FilledValue
+dealt workers v k [] = []
+dealt workers v k (u ∷ us) = cond (eqb (k % workers) v) (u ∷ dealt workers v (k + 1) us) (dealt workers v (k + 1) us)
+
+-- one of the rings was fed these items, and the others nothing
+pub record Feeds (old new : List (Feeder Item)) (v : ℕ) (items : List Item) : Type 0 where
+  pub long : length new ≡ length old
+  pub same : (u : ℕ) (d : Feeder Item) → IsSameFeeder (slice_index_or old u d) (slice_index_or new u d)
+  pub here : (d : Feeder Item) → fed (slice_index_or new v d) ≡ fed (slice_index_or old v d) ++ items
+  pub there : (u : ℕ) (d : Feeder Item) → (u ≡ v → ⊥) → fed (slice_index_or new u d) ≡ fed (slice_index_or old u d)
+
+pub record MarksAll (old new : List (Feeder Item)) : Type 0 where
+  pub long : length new ≡ length old
+  pub same : (u : ℕ) (d : Feeder Item) → IsSameFeeder (slice_index_or old u d) (slice_index_or new u d)
+  pub marked : (u : ℕ) (d : Feeder Item) → u < length old → fed (slice_index_or new u d) ≡ fed (slice_index_or old u d) ++ Mark ∷ []

@@ -1,0 +1,62 @@
+-- What a worker does in a round.
+use Rattle.std.specs.Prelude.{◌≡◌, ◌<◌, ℕ, List, [], ◌∷◌, ◌++◌, length, map, drop, slice_index_or}
+use Rattle.gauge_ring.specs.declared.taker.Taker.{Taker}
+use Rattle.gauge_ring.specs.declared.feeder.Feeder.{Feeder}
+use Rattle.gauge_ring.specs.Ends.{fed, taken, IsSameFeeder, IsSameTaker}
+use Rattle.block_pool.specs.Units.{FilledValue, CountedValue, IsCountOf}
+use Rattle.block_workers.specs.declared.item.Item.{Item}
+use Rattle.block_workers.specs.declared.item.Item.TheVariants.{Block, Mark}
+use Rattle.block_workers.specs.declared.item.Back.{Back}
+use Rattle.block_workers.specs.declared.item.Back.TheVariants.{Unit, Over}
+use Rattle.block_workers.specs.Dealing.{round_of}
+
+-- the blocks among the items
+abbrev pub blocks_in : List Item → List FilledValue
+blocks_in [] = []
+blocks_in (Block u ∷ l) = u ∷ blocks_in l
+blocks_in (Mark ∷ l) = blocks_in l
+
+-- the blocks that were taken between the two
+abbrev pub new_blocks : Taker Item → Taker Item → List FilledValue
+new_blocks old new = blocks_in (drop (length (taken old)) (taken new))
+
+abbrev pub all_new : List (Taker Item) → List (Taker Item) → List FilledValue
+all_new [] ns = []
+all_new (o ∷ os) [] = []
+all_new (o ∷ os) (n ∷ ns) = new_blocks o n ++ all_new os ns
+
+-- the units, counted
+pub data AreCounts : List FilledValue → List CountedValue → Type 0 where
+  nil : AreCounts [] []
+  one : {f : FilledValue} {c : CountedValue} {fs : List FilledValue} {cs : List CountedValue} → IsCountOf f c → AreCounts fs cs
+      → AreCounts (f ∷ fs) (c ∷ cs)
+
+abbrev pub back_of : CountedValue → Back
+back_of c = Unit c
+
+-- a round of a return ring: its units, and then the mark
+abbrev pub returned : List CountedValue → List Back
+returned cs = map back_of cs ++ Over ∷ []
+
+pub record Took (old new : Taker Item) : Type 0 where
+  pub round : taken new ≡ taken old ++ round_of (new_blocks old new)
+  pub same : IsSameTaker old new
+
+-- the counts of these units were fed back, in order
+pub record Gave (old new : Feeder Back) (fs : List FilledValue) : Type 0 where
+  pub units : List CountedValue
+  pub counts : AreCounts fs units
+  pub fed : fed new ≡ fed old ++ map back_of units
+  pub same : IsSameFeeder old new
+
+pub record Drained (old new : Taker Item) (before now : Feeder Back) : Type 0 where
+  pub took : Took old new
+  pub gave : Gave before now (new_blocks old new)
+
+-- what was taken from each ring, counted and fed back, and then the mark
+pub record Worked (old new : List (Taker Item)) (before now : Feeder Back) : Type 0 where
+  pub took : (g : ℕ) (d : Taker Item) → g < length old → Took (slice_index_or old g d) (slice_index_or new g d)
+  pub units : List CountedValue
+  pub counts : AreCounts (all_new old new) units
+  pub fed : fed now ≡ fed before ++ returned units
+  pub same : IsSameFeeder before now

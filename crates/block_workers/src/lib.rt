@@ -1,0 +1,22 @@
+//! Readers and workers: what they do in a round, and how all of them run beside each other.
+//!
+//! A reader takes up to 16 blocks of its lane, fills a unit with each and deals them to its rings,
+//! one ring to a worker. A worker takes its rings one after another, each to its mark, counts each
+//! block and feeds it to its return ring. All memory stands before a round; nobody here takes any.
+//!
+//! `specs/Dealing.antt` says what goes through the rings, `specs/Reading.antt` what a reader reads
+//! and how it ends, `specs/Working.antt` what a worker counts, and `specs/Jobs.antt` what a round
+//! does to all of them. A feed or a take that finds no place or no item is made again after a
+//! yield: these are the waits.
+#![tactic(auto)]
+
+mod desk;
+mod item;
+mod jobs;
+mod waits;
+mod worker;
+
+pub use desk::Desk;
+pub use item::{Back, Item};
+pub use jobs::{Reader, run_all, settle_all};
+pub use worker::Worker;

@@ -1,0 +1,16 @@
+//! The collector, which places what the workers have counted while they count on, and a whole round
+//! of readers, workers and collector beside each other.
+//!
+//! The collector goes round the return rings until it has the mark of each. What comes is a mix of
+//! the workers' lists; each unit is deposited and given back as it comes (`specs/Collecting.antt`).
+//! After a round both ends of each return ring are looked at (`specs/Settling.antt`). No call here
+//! takes memory.
+#![tactic(auto)]
+
+mod collecting;
+mod running;
+mod settling;
+
+pub use collecting::{Return, collect};
+pub use running::run_round;
+pub use settling::settle_returns;

@@ -1,0 +1,19 @@
+-- What rounds are prepared for, and what is seen of them at first.
+--   IsPlan   a plan within the limits
+--   IsNew    rounds that nothing was read in
+use Rattle.std.specs.Prelude.{◌≡◌, ◌≤◌, [], length}
+use Rattle.block_pool.specs.declared.TheConstants.{MAX_BLOCK}
+use Rattle.round_making.specs.Resting.{PreparedValue}
+use Rattle.count_workers.specs.declared.plan.Plan.{Plan}
+
+pub record IsPlan (p : Plan) : Type 0 where
+  pub gauges : (1 ≤ p.gauges) × (p.gauges ≤ 32)
+  pub block : (1 ≤ p.block) × (p.block ≤ 4096)
+  pub workers : (1 ≤ p.workers) × (p.workers ≤ 8)
+
+pub record IsNew (plan : Plan) (p : PreparedValue) : Type 0 where
+  pub grid : p.grid ≡ plan.grid
+  pub gauges : p.gauges ≡ plan.gauges
+  pub block : p.block ≡ plan.block
+  pub workers : p.workers ≡ plan.workers
+  pub board : (p.board.grid ≡ plan.grid) × (p.board.block ≡ plan.block) × (length p.board.rows ≡ plan.gauges) × (p.board.arrivals ≡ [])

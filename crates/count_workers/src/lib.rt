@@ -1,0 +1,24 @@
+//! Rounds: recordings are read and counted by threads beside each other, a few blocks of each gauge
+//! at a time, in memory that was taken before the first round.
+//!
+//! A [`Plan`] says for how many gauges, which block and how many workers rounds are [`Prepared`]. A
+//! round reads up to 16 blocks of each [`Lane`], deals them to the workers, and puts together what
+//! they counted: the front of a gauge stands for exactly the samples that its lane gave in this
+//! round, with any number of workers. A round starts a thread for each worker, one for the
+//! collector and at most two for the readers; where a thread can't be made, its work is done by the
+//! caller.
+//!
+//! What a round does is said by `RoundDone` (crate `round_making`, specs/Round.antt).
+#![tactic(auto)]
+
+mod plan;
+mod prepared;
+mod preparing;
+#[cfg(test)]
+mod tests;
+
+pub use lane_ends::End;
+pub use lane_loans::Lane;
+pub use plan::Plan;
+pub use prepared::Prepared;
+pub use std::alloc::AllocError as OutOfMemory;

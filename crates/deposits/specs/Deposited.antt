@@ -1,0 +1,61 @@
+-- What the deposit of a list of units does to a board and a pool.
+--   Each         a fact of each item
+--   unit_name    the name of a unit, and the names of units
+--   IsGood       the units are blocks of the board's windows and of the pool, and no sample is named twice
+--   UnitStands   a unit's segment stands for the samples that its name names
+--   Came         what comes of good units
+--   Stepped      one unit was deposited and given back
+--   Deposited    a list of units was, in this order; what comes of it is said where the list is good
+use Rattle.std.specs.Prelude.{◌≡◌, ◌+◌, ◌<◌, ◌≤◌, ℕ, ℤ, List, [], ◌∷◌, ◌++◌, length, map}
+use Rattle.calibration.specs.Gain.{GainValue}
+use Rattle.segment_rules.specs.declared.name.Name.{Name}
+use Rattle.segment.specs.Name.{name_of}
+use Rattle.block_pool.specs.Units.{CountedValue, PoolValue}
+use Rattle.flow.specs.Flow.{hits}
+use Rattle.board.specs.Board.{BoardValue, Carries, StandsForNamed, SameBoard, Fits}
+
+pub data Each {A : Type 0} (P : A → Type 0) : List A → Type 0 where
+  none : Each P []
+  both : {x : A} {l : List A} → P x → Each P l → Each P (x ∷ l)
+
+abbrev pub unit_name : CountedValue → Name
+unit_name u = name_of u.segment
+
+abbrev pub unit_names : List CountedValue → List Name
+unit_names us = map unit_name us
+
+-- the unit is one of the pool's
+abbrev pub IsOfPool : PoolValue → CountedValue → Type 0
+IsOfPool p u = (u.block ≡ p.block) × (u.grid ≡ p.grid)
+
+-- It holds of each prefix too.
+pub record IsGood (b : BoardValue) (p : PoolValue) (us : List CountedValue) : Type 0 where
+  pub blocks : Each (λ u. Fits b (unit_name u)) us
+  pub units : Each (IsOfPool p) us
+  pub once : (g i : ℕ) → hits g i (b.arrivals ++ unit_names us) ≤ 1
+  pub room : p.inside + length us ≤ p.units
+
+pub record SamePool (old new : PoolValue) : Type 0 where
+  pub units : new.units ≡ old.units
+  pub block : new.block ≡ old.block
+  pub grid : new.grid ≡ old.grid
+
+abbrev pub UnitStands : (ℕ → GainValue) → (ℕ → List ℤ) → CountedValue → Type 0
+UnitStands gain w u = StandsForNamed u.segment (gain u.segment.gauge) (w u.segment.gauge)
+
+-- each is placed, is in the pool again, and the board carries what they stand for
+pub record Came (b c : BoardValue) (p q : PoolValue) (us : List CountedValue) : Type 0 where
+  pub arrivals : c.arrivals ≡ b.arrivals ++ unit_names us
+  pub inside : q.inside ≡ p.inside + length us
+  pub carries : (gain : ℕ → GainValue) (w : ℕ → List ℤ) → Carries b gain w → Each (UnitStands gain w) us → Carries c gain w
+
+pub record Stepped (b c : BoardValue) (p q : PoolValue) (u : CountedValue) : Type 0 where
+  pub board : SameBoard b c
+  pub pool : SamePool p q
+  pub came : Fits b (unit_name u) → hits u.segment.gauge u.segment.from b.arrivals ≡ 0 → IsOfPool p u → p.inside < p.units
+      → Came b c p q (u ∷ [])
+
+pub record Deposited (b c : BoardValue) (p q : PoolValue) (us : List CountedValue) : Type 0 where
+  pub board : SameBoard b c
+  pub pool : SamePool p q
+  pub came : IsGood b p us → Came b c p q us

@@ -1,0 +1,178 @@
+-- In what order the units came back.
+use Rattle.std.proofs.Common.{◌≡◌, ◌≢◌, ◌⊎◌, inl, inr, ◌≤◌, ◌<◌, ◌+◌, ◌*◌, ◌-◌, ◌/◌, ◌%◌, ℕ, zero, suc, List, [], ◌∷◌, ◌++◌, length, refl, sym, ap, ◌∙◌, subst, arith, Bool, true, false, cond, eqb}
+use Rattle.std.specs.Prelude.{◌&&◌}
+use Rattle.std.specs.List.{filter}
+use Rattle.std.proofs.lemmas.Bool.{cases_eq, cases_lt, eq-eqb, ne_eqb}
+use Rattle.std.proofs.lemmas.List.{append-nil}
+use Rattle.std.proofs.Math.Nat.{mul-div_cancel}
+use Rattle.calibration.specs.Grid.{GridValue}
+use Rattle.segment_rules.specs.declared.name.Name.{Name}
+use Rattle.flow.specs.Kept.{Every}
+use Rattle.flow.specs.Kept.Every.{none as no_name, both as name_and}
+use Rattle.block_pool.specs.Units.{FilledValue, CountedValue}
+use Rattle.deposits.specs.Deposited.{Each, unit_names}
+use Rattle.deposits.specs.Deposited.Each.{none as no_unit, both}
+use Rattle.deposits.proofs.Mixing.{mixed_filter, mixed_beyond, filter_both}
+use Rattle.arrivals.specs.Arrivals.{Round as RoundOfFlow, names_of, fed_to, worker_of, AreArrivals}
+use Rattle.arrivals.proofs.Reached.{past_end}
+use Rattle.block_workers.specs.declared.desk.Desk.{Desk}
+use Rattle.block_workers.specs.Dealing.{dealt}
+use Rattle.block_workers.specs.Reading.{AreBlocks}
+use Rattle.block_workers.specs.Reading.AreBlocks.{none, last, more}
+use Rattle.round_accounts.proofs.Lists.{in_turn}
+use Rattle.round_accounts.proofs.Names.{dealt_names}
+use Rattle.round_accounts.proofs.Taken.{AreTaken, blocks_reach, every_name, list_names, mixed_names, taken_known}
+
+-- a name of a gauge, and of a block that a worker gets
+pub record IsOf (block workers : ℕ) (r : RoundOfFlow) (g v : ℕ) (x : Name) : Type 0 where
+  pub gauge : x.gauge ≡ g
+  pub worker : worker_of block workers r x ≡ v
+
+number_of : (block workers : ℕ) (r : RoundOfFlow) (g k : ℕ) (x : Name) → 0 < block → x.gauge ≡ g → x.from ≡ r.at g + k * block
+    → worker_of block workers r x ≡ k % workers
+number_of block workers r g k x pos e f =
+    let start : r.at x.gauge ≡ r.at g = ap r.at e in
+    let over_start : x.from - r.at x.gauge ≡ k * block = omega (arith, f, start) in
+    ap (λ z. (z / block) % workers) over_start ∙ ap (λ z. z % workers) (mul-div_cancel k pos)
+
+of_cond : (P : FilledValue → Type 0) (k v n : ℕ) (u : FilledValue) (l : List FilledValue) → ((k % n ≡ v) → P u) → Each P l
+    → ((k % n ≡ v) ⊎ (k % n ≡ v → ⊥)) → Each P (cond (eqb (k % n) v) (u ∷ l) l)
+of_cond P k v n u l p d (inl e) = subst (λ t. Each P (cond t (u ∷ l) l)) (sym (eq-eqb (k % n) v e)) (both (p e) d)
+of_cond P k v n u l p d (inr o) = subst (λ t. Each P (cond t (u ∷ l) l)) (sym (ne_eqb (k % n) v o)) d
+
+-- the blocks of a lane that a worker is dealt
+pub dealt_of : (block workers : ℕ) (r : RoundOfFlow) (v k : ℕ) (d : Desk) (a b : ℕ) (us : List FilledValue) → 0 < block → d.block ≡ block
+    → AreBlocks d a us b → a ≡ r.at d.gauge + k * block → Each (λ u. IsOf block workers r d.gauge v u.name) (dealt workers v k us)
+dealt_of block workers r v k d a b [] pos s none e = no_unit
+dealt_of block workers r v k d a b (u ∷ []) pos s (last i) e =
+    let gauge : u.name.gauge ≡ d.gauge = ap (λ x. x.gauge) i.name in let from : u.name.from ≡ a = ap (λ x. x.from) i.name in
+    of_cond (λ x. IsOf block workers r d.gauge v x.name) k v workers u []
+    (λ q. record { gauge = gauge; worker = number_of block workers r d.gauge k u.name pos gauge (from ∙ e) ∙ q }) no_unit
+    (cases_eq (k % workers) v)
+dealt_of block workers r v k d a b (u ∷ us) pos s (more i h) e =
+    let gauge : u.name.gauge ≡ d.gauge = ap (λ x. x.gauge) i.name in let from : u.name.from ≡ a = ap (λ x. x.from) i.name in
+    let next : a + d.block ≡ r.at d.gauge + (k + 1) * block = let m : (k + 1) * block ≡ k * block + block = omega arith in
+    omega (arith, e, s, m) in
+    of_cond (λ x. IsOf block workers r d.gauge v x.name) k v workers u (dealt workers v (k + 1) us)
+    (λ q. record { gauge = gauge; worker = number_of block workers r d.gauge k u.name pos gauge (from ∙ e) ∙ q })
+    (dealt_of block workers r v (k + 1) d (a + d.block) b us pos s h next) (cases_eq (k % workers) v)
+
+-- lists that pass a test, and lists that do not
+pub filter_all : (t : Name → Bool) (l : List Name) → Every (λ x. t x ≡ true) l → filter t l ≡ l
+filter_all t [] no_name = refl
+filter_all t (x ∷ l) (name_and p d) = ap (λ b. cond b (x ∷ filter t l) (filter t l)) p ∙ ap (λ m. x ∷ m) (filter_all t l d)
+
+pub filter_none : (t : Name → Bool) (l : List Name) → Every (λ x. t x ≡ false) l → filter t l ≡ []
+filter_none t [] no_name = refl
+filter_none t (x ∷ l) (name_and p d) = ap (λ b. cond b (x ∷ filter t l) (filter t l)) p ∙ filter_none t l d
+
+turn_filter : (t : Name → Bool) (n g : ℕ) (f : ℕ → List Name) → g < n → ((h : ℕ) → h < n → h ≢ g → filter t (f h) ≡ [])
+    → filter t (in_turn n f) ≡ filter t (f g)
+turn_filter t zero g f l o = absurd (omega (arith, l))
+turn_filter t (suc n) g f l o = elim (cases_eq g n) [
+  | inl e ↦ (
+      let rest : filter t (in_turn n f) ≡ [] = turn_none t n f (λ h m. o h (omega arith) (λ q. absurd (omega (arith, q, e, m)))) in
+      filter_both t (in_turn n f) (f n) ∙ ap (λ m. m ++ filter t (f n)) rest ∙ ap (λ j. filter t (f j)) (sym e))
+  | inr d ↦ (
+      let here : filter t (f n) ≡ [] = o n (omega arith) (λ q. d (sym q)) in
+      filter_both t (in_turn n f) (f n) ∙ ap (λ m. filter t (in_turn n f) ++ m) here ∙ append-nil (filter t (in_turn n f))
+      ∙ turn_filter t n g f (omega (arith, l, d)) (λ h m q. o h (omega arith) q))
+]
+  where
+    turn_none : (t : Name → Bool) (n : ℕ) (f : ℕ → List Name) → ((h : ℕ) → h < n → filter t (f h) ≡ []) → filter t (in_turn n f) ≡ []
+    turn_none t zero f o = refl
+    turn_none t (suc n) f o = filter_both t (in_turn n f) (f n)
+        ∙ ap (λ m. m ++ filter t (f n)) (turn_none t n f (λ h m. o h (omega arith))) ∙ o n (omega arith)
+
+every_map : {P Q : Name → Type 0} → (l : List Name) → ((x : Name) → P x → Q x) → Every P l → Every Q l
+every_map [] f no_name = no_name
+every_map (x ∷ l) f (name_and p d) = name_and (f x p) (every_map l f d)
+
+module _ (block : ℕ) (kind : GridValue) (n workers : ℕ) (at to : ℕ → ℕ) (desk : ℕ → Desk) (given : ℕ → List FilledValue) (lists : ℕ
+    → List CountedValue) (units : List CountedValue) (h : AreTaken block kind n workers at to desk given lists units)
+    (r : RoundOfFlow) (starts : (g : ℕ) → g < n → r.at g ≡ at g) (ends : (g : ℕ) → g < n → length (r.samples g) ≡ to g) where
+  abbrev test : ℕ → ℕ → Name → Bool
+  test g v x = eqb x.gauge g && eqb (worker_of block workers r x) v
+
+  ring_names : (g v : ℕ) → g < n → Every (IsOf block workers r g v) (names_of (dealt workers v 0 (given g)))
+  ring_names g v l =
+      let z : at g ≡ r.at (desk g).gauge + 0 * block = let e : r.at (desk g).gauge ≡ at g = ap r.at (h.gauge g l) ∙ starts g l in
+      omega (arith, e) in
+      subst (λ j. Every (IsOf block workers r j v) (names_of (dealt workers v 0 (given g)))) (h.gauge g l)
+      (every_name (dealt workers v 0 (given g))
+      (dealt_of block workers r v 0 (desk g) (at g) (to g) (given g) h.some.0 (h.size g l) (h.blocks g l) z))
+
+  passes : (g v : ℕ) (x : Name) → IsOf block workers r g v x → test g v x ≡ true
+  passes g v x i = ap (λ b. b && eqb (worker_of block workers r x) v) (eq-eqb x.gauge g i.gauge)
+      ∙ eq-eqb (worker_of block workers r x) v i.worker
+
+  and_false : (b : Bool) → (b && false) ≡ false
+  and_false true = refl
+  and_false false = refl
+
+  fails_gauge : (g v k u : ℕ) (x : Name) → k ≢ g → IsOf block workers r k u x → test g v x ≡ false
+  fails_gauge g v k u x o i = ap (λ b. b && eqb (worker_of block workers r x) v) (ne_eqb x.gauge g (λ q. o (sym i.gauge ∙ q)))
+
+  fails_worker : (g v k u : ℕ) (x : Name) → u ≢ v → IsOf block workers r k u x → test g v x ≡ false
+  fails_worker g v k u x o i = ap (λ b. eqb x.gauge g && b) (ne_eqb (worker_of block workers r x) v (λ q. o (sym i.worker ∙ q)))
+      ∙ and_false (eqb x.gauge g)
+
+  -- of the names that were dealt to a worker, those of a gauge
+  of_worker : (g v : ℕ) → g < n → v < workers → filter (test g v) (unit_names (lists v)) ≡ names_of (dealt workers v 0 (given g))
+  of_worker g v l m =
+      ap (filter (test g v)) (list_names block kind n workers at to desk given lists units h v m)
+      ∙ turn_filter (test g v) n g (λ k. names_of (dealt workers v 0 (given k))) l
+      (λ k q o. filter_none (test g v) (names_of (dealt workers v 0 (given k)))
+      (every_map (names_of (dealt workers v 0 (given k))) (λ x i. fails_gauge g v k v x o i) (ring_names k v q)))
+      ∙ filter_all (test g v) (names_of (dealt workers v 0 (given g)))
+      (every_map (names_of (dealt workers v 0 (given g))) (passes g v) (ring_names g v l))
+
+  of_other : (g v u : ℕ) → u < workers → u ≢ v → filter (test g v) (unit_names (lists u)) ≡ []
+  of_other g v u m o =
+      ap (filter (test g v)) (list_names block kind n workers at to desk given lists units h u m)
+      ∙ filter_none (test g v) (in_turn n (λ k. names_of (dealt workers u 0 (given k)))) (turn_every (test g v) n u)
+    where
+      both_lists : {P : Name → Type 0} → (k l : List Name) → Every P k → Every P l → Every P (k ++ l)
+      both_lists [] l no_name d = d
+      both_lists (x ∷ k) l (name_and p c) d = name_and p (both_lists k l c d)
+
+      turn_some : (j : ℕ) → j ≤ n → Every (λ x. test g v x ≡ false) (in_turn j (λ k. names_of (dealt workers u 0 (given k))))
+      turn_some zero q = no_name
+      turn_some (suc j) q = both_lists (in_turn j (λ k. names_of (dealt workers u 0 (given k)))) (names_of (dealt workers u 0 (given j)))
+          (turn_some j (omega (arith, q)))
+          (every_map (names_of (dealt workers u 0 (given j))) (λ x i. fails_worker g v j u x o i) (ring_names j u (omega (arith, q))))
+
+      turn_every : (t : Name → Bool) (j w : ℕ) → Every (λ x. test g v x ≡ false) (in_turn n (λ k. names_of (dealt workers u 0 (given k))))
+      turn_every t j w = turn_some n (omega arith)
+
+  of_others : (g v u : ℕ) → u ≢ v → ((u < workers) ⊎ (workers ≤ u)) → filter (test g v) (unit_names (lists u)) ≡ []
+  of_others g v u o (inl m) = of_other g v u m o
+  of_others g v u o (inr b) = ap (filter (test g v))
+      (mixed_beyond workers u (λ w. unit_names (lists w)) (unit_names units)
+      (mixed_names block kind n workers at to desk given lists units h) b)
+
+  -- the names of a ring are those of the flow
+  pub ring_is_fed : (g v : ℕ) → g < n → names_of (dealt workers v 0 (given g)) ≡ fed_to block workers r g v 16
+  ring_is_fed g v l =
+      let gauge = h.gauge g l in
+      let stops : length (r.samples (desk g).gauge) ≡ to g = ap (λ k. length (r.samples k)) gauge ∙ ends g l in
+      let start : at g ≡ r.at (desk g).gauge + 0 * block = let e : r.at (desk g).gauge ≡ at g = ap r.at gauge ∙ starts g l in
+      omega (arith, e) in
+      let fed = dealt_names block workers r (desk g) (to g) (sym (h.size g l)) stops v 0 (at g) (to g) (given g)
+      (h.blocks g l) start refl in
+      let reach : length (r.samples g) ≤ r.at g + length (given g) * block =
+      let m = blocks_reach (desk g) (at g) (to g) (given g) (h.blocks g l) in
+      let s : length (given g) * (desk g).block ≡ length (given g) * block = ap (λ k. length (given g) * k) (h.size g l) in
+      let e = ends g l in let f = starts g l in omega (arith, m, s, e, f) in
+      let sum : length (given g) + (16 - length (given g)) ≡ 16 = let f = h.few g l in omega (arith, f) in
+      let from_none : 0 + length (given g) ≡ length (given g) = omega arith in
+      fed ∙ ap (fed_to block workers r (desk g).gauge v) from_none ∙ ap (λ k. fed_to block workers r k v (length (given g))) gauge
+      ∙ sym (past_end block workers r g v (length (given g)) (16 - length (given g)) reach) ∙ ap (fed_to block workers r g v) sum
+
+  pub arrived : AreArrivals block workers r n (unit_names units)
+  arrived = record {
+    known = taken_known block kind n workers at to desk given lists units h;
+    through = λ g v l m. mixed_filter workers v (test g v) (λ u. unit_names (lists u)) (unit_names units)
+        (λ u o. of_others g v u o (cases_lt u workers)) (mixed_names block kind n workers at to desk given lists units h)
+        ∙ of_worker g v l m ∙ ring_is_fed g v l;
+  }

@@ -1,0 +1,5 @@
+pub mod Lists
+pub mod Names
+pub mod Standing
+pub mod Taken
+pub mod Arrived
