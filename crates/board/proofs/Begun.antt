@@ -97,6 +97,6 @@ rows_fresh b starts rows h was new n e l r is =
       long,
       λ g d m. subst (λ x. IsFresh b.block b.grid g (get_or starts g 0) (get_or x g d)) (sym same)
           (begun_fresh b.block b.grid g (get_or starts g 0) (get_or b.rows g d) (get_or new g d) (h.rows g d (omega (arith, m, long)))
-              (subst (λ x. RowBegun g (get_or starts g 0) (get_or x g d) (get_or new g d)) e
-              (r.row g d (omega (arith, m, long, ap length e))))),
+          (subst (λ x. RowBegun g (get_or starts g 0) (get_or x g d) (get_or new g d)) e
+          (r.row g d (omega (arith, m, long, ap length e))))),
     )

@@ -29,7 +29,7 @@ over_only (suc n) w x f l h o = elim (cases_eq w n) [
   | inl e ↦ (
       let at : f n ≡ f w = ap f (sym e) in
       let rest : over n f ≡ 0 = over_none n f (λ v m. o v (omega arith) (λ q. absurd (omega (arith, q, m, e)))) in omega
-          (arith, at, h, rest))
+      (arith, at, h, rest))
   | inr e ↦ (
       let ne : w ≢ n = e in
       let at : f n ≡ 0 = o n (omega arith) (λ q. e (sym q)) in
@@ -57,28 +57,28 @@ other_block g start block k b n pos from short ne = elim (cases_lt k b) [
 pub one_block_more : (gauges block b : ℕ) (starts : ℕ → ℕ) (l : List Name) (n : Name) → 0 < block → n.gauge < gauges → b < 16
     → n.from ≡ starts n.gauge + b * block → n.from < n.to → n.to ≤ n.from + block
     → over gauges (λ g. over 16 (λ k. hits g (starts g + k * block) (l ++ n ∷ []))) ≡ over gauges
-        (λ g. over 16 (λ k. hits g (starts g + k * block) l)) + 1
+    (λ g. over 16 (λ k. hits g (starts g + k * block) l)) + 1
 one_block_more gauges block b starts l n pos known few from some short =
     let one : (g k : ℕ) → hits g (starts g + k * block) (l ++ n ∷ []) ≡ hits g (starts g + k * block) l + has g (starts g + k * block) n =
     λ g k. (let e : hits g (starts g + k * block) (l ++ n ∷ []) ≡ hits g (starts g + k * block) l + (has g (starts g + k * block) n + 0) =
-        hits-append g (starts g + k * block) l (n ∷ []) in omega (arith, e)) in
+    hits-append g (starts g + k * block) l (n ∷ []) in omega (arith, e)) in
     let inner : (g : ℕ) → over 16 (λ k. hits g (starts g + k * block) (l ++ n ∷ [])) ≡ over 16
-        (λ k. hits g (starts g + k * block) l) + over 16 (λ k. has g (starts g + k * block) n) =
+    (λ k. hits g (starts g + k * block) l) + over 16 (λ k. has g (starts g + k * block) n) =
     λ g. over_same 16 _ (λ k. hits g (starts g + k * block) l + has g (starts g + k * block) n) (λ k m. one g k) ∙ over_sum 16
-        (λ k. hits g (starts g + k * block) l) (λ k. has g (starts g + k * block) n) in
+    (λ k. hits g (starts g + k * block) l) (λ k. has g (starts g + k * block) n) in
     let outer : over gauges (λ g. over 16 (λ k. hits g (starts g + k * block) (l ++ n ∷ []))) ≡ over gauges
-        (λ g. over 16 (λ k. hits g (starts g + k * block) l)) + over gauges (λ g. over 16 (λ k. has g (starts g + k * block) n)) =
+    (λ g. over 16 (λ k. hits g (starts g + k * block) l)) + over gauges (λ g. over 16 (λ k. has g (starts g + k * block) n)) =
     over_same gauges _ (λ g. over 16 (λ k. hits g (starts g + k * block) l) + over 16 (λ k. has g (starts g + k * block) n))
-        (λ g m. inner g) ∙ over_sum gauges (λ g. over 16 (λ k. hits g (starts g + k * block) l))
-        (λ g. over 16 (λ k. has g (starts g + k * block) n)) in
+    (λ g m. inner g) ∙ over_sum gauges (λ g. over 16 (λ k. hits g (starts g + k * block) l))
+    (λ g. over 16 (λ k. has g (starts g + k * block) n)) in
     let here : has n.gauge (starts n.gauge + b * block) n ≡ 1 = has_inside n.gauge (starts n.gauge + b * block) n refl
-        (omega (arith, from)) (omega (arith, from, some)) in
+    (omega (arith, from)) (omega (arith, from, some)) in
     let block_sum : over 16 (λ k. has n.gauge (starts n.gauge + k * block) n) ≡ 1 = over_only 16 b 1
-        (λ k. has n.gauge (starts n.gauge + k * block) n) few here
-        (λ k m ne. other_block n.gauge (starts n.gauge) block k b n pos from short ne) in
+    (λ k. has n.gauge (starts n.gauge + k * block) n) few here
+    (λ k m ne. other_block n.gauge (starts n.gauge) block k b n pos from short ne) in
     let sums : over gauges (λ g. over 16 (λ k. has g (starts g + k * block) n)) ≡ 1 =
     over_only gauges n.gauge 1 (λ g. over 16 (λ k. has g (starts g + k * block) n)) known block_sum
-        (λ g m ne. over_none 16 (λ k. has g (starts g + k * block) n) (λ k h. has_other g (starts g + k * block) n (λ q. ne (sym q)))) in
+    (λ g m ne. over_none 16 (λ k. has g (starts g + k * block) n) (λ k h. has_other g (starts g + k * block) n (λ q. ne (sym q)))) in
     omega (arith, outer, sums)
 
 between_means : (a b i : ℕ) → (between a b i ≡ 0) ⊎ ((between a b i ≡ 1) × (a ≤ i) × (i < b))
@@ -93,8 +93,8 @@ spans_one i (s ∷ l) h = elim (between_means s.from s.to i) [
       (omega (arith, u)) a b) in omega (arith, none, e))
   | inr (one, from, to) ↦ (
       let rest : spans i l ≡ 0 = spans_none i l (λ k d m. between_off (get_or l k d).from (get_or l k d).to i
-          (λ some. inr (let far : s.to ≤ (get_or l k d).from = h 0 (suc k) d (omega arith) (omega (arith, m))
-          (omega (arith, from, to)) some in omega (arith, far, to)))) in
+      (λ some. inr (let far : s.to ≤ (get_or l k d).from = h 0 (suc k) d (omega arith) (omega (arith, m))
+      (omega (arith, from, to)) some in omega (arith, far, to)))) in
       omega (arith, one, rest))
 ]
 

@@ -34,12 +34,12 @@ hits_push g i l m n e = let a : hits g i m ≡ hits g i (l ++ n ∷ []) = ap (hi
 pub board_few : (b : BoardValue) → IsBoard b → length b.arrivals ≤ length b.rows * 16
 board_few b h =
     let most : blocks_placed b ≤ length b.rows * 16 = over_most (length b.rows) 16
-        (λ g. over 16 (λ k. hits g (start_of b g + k * b.block) b.arrivals)) (λ g m.
+    (λ g. over 16 (λ k. hits g (start_of b g + k * b.block) b.arrivals)) (λ g m.
     let sums : over 16 (λ k. hits g (start_of b g + k * b.block) b.arrivals) ≤ 16 * 1 = over_most 16 1
-        (λ k. hits g (start_of b g + k * b.block) b.arrivals) (λ k u.
+    (λ k. hits g (start_of b g + k * b.block) b.arrivals) (λ k u.
     let e = h.intervals g (start_of b g + k * b.block) (record { start = 0; slots = [] }) m in
     let f = row_once b.block g (start_of b g + k * b.block) b.grid (get_or b.rows g (record { start = 0; slots = [] }))
-        (h.rows g (record { start = 0; slots = [] }) m) in omega (arith, e, f)) in
+    (h.rows g (record { start = 0; slots = [] }) m) in omega (arith, e, f)) in
     omega (arith, sums)) in
     omega (arith, h.count, most)
 
@@ -71,7 +71,7 @@ module _ (b : BoardValue) (k : ℕ) (seg : SegmentValue) (new d : Row) (arrivals
       more : (x : ℕ) → spans x new.slots ≡ hits g x arrivals
       more x =
           let e = p.more x in let f = h.intervals g x d known in let n = hits_push g x b.arrivals arrivals (name_of seg) grown in let t =
-              has_between g x (name_of seg) refl in
+          has_between g x (name_of seg) refl in
           omega (arith, e, f, n, t)
 
       others : (i x : ℕ) (r : Row) → i ≢ g → spans x r.slots ≡ hits i x b.arrivals → spans x r.slots ≡ hits i x arrivals
@@ -82,16 +82,16 @@ module _ (b : BoardValue) (k : ℕ) (seg : SegmentValue) (new d : Row) (arrivals
       counted =
           let long : length arrivals ≡ length (b.arrivals ++ (name_of seg) ∷ []) = ap length grown in
           let grew : over (length b.rows) (λ i. over 16 (λ j. hits i (start_of b i + j * b.block)
-              (b.arrivals ++ (name_of seg) ∷ []))) ≡ blocks_placed b + 1 =
+          (b.arrivals ++ (name_of seg) ∷ []))) ≡ blocks_placed b + 1 =
           one_block_more (length b.rows) b.block k (start_of b) b.arrivals (name_of seg) fits.some_block known fits.place
-              (fits.from ∙ ap (λ r. r.start + k * b.block) (get_or_default b.rows g d
-              (record { start = 0; slots = [] }) known)) fits.some fits.short in
+          (fits.from ∙ ap (λ r. r.start + k * b.block) (get_or_default b.rows g d
+          (record { start = 0; slots = [] }) known)) fits.some fits.short in
           let same : blocks_placed placed_in ≡ over (length b.rows)
-              (λ i. over 16 (λ j. hits i (start_of b i + j * b.block) (b.arrivals ++ (name_of seg) ∷ []))) =
+          (λ i. over 16 (λ j. hits i (start_of b i + j * b.block) (b.arrivals ++ (name_of seg) ∷ []))) =
           ap (λ n. over n (λ i. over 16 (λ j. hits i (start_of placed_in i + j * b.block) arrivals))) (length-set b.rows g new)
           ∙ over_same (length b.rows) _ (λ i. over 16 (λ j. hits i (start_of b i + j * b.block) (b.arrivals ++ (name_of seg) ∷ [])))
-              (λ i m. over_same 16 _ (λ j. hits i (start_of b i + j * b.block) (b.arrivals ++ (name_of seg) ∷ []))
-              (λ j u. ap (λ s. hits i (s + j * b.block) arrivals) (starts_same i) ∙ ap (hits i (start_of b i + j * b.block)) grown)) in
+          (λ i m. over_same 16 _ (λ j. hits i (start_of b i + j * b.block) (b.arrivals ++ (name_of seg) ∷ []))
+          (λ j u. ap (λ s. hits i (s + j * b.block) arrivals) (starts_same i) ∙ ap (hits i (start_of b i + j * b.block)) grown)) in
           let plus : length (b.arrivals ++ (name_of seg) ∷ []) ≡ length b.arrivals + 1 = one_longer b.arrivals (name_of seg) in
           omega (arith, long, plus, grew, same, h.count)
         where
@@ -118,7 +118,7 @@ module _ (b : BoardValue) (k : ℕ) (seg : SegmentValue) (new d : Row) (arrivals
       placed_room =
           let few = board_few placed_in placed_board in let size : length (set b.rows g new) ≡ length b.rows = length-set b.rows g new in
           let n : length arrivals ≡ length b.arrivals + 1 = ap length grown ∙ one_longer b.arrivals (name_of seg) in omega
-              (arith, few, size, n)
+          (arith, few, size, n)
         where
           one_longer : (l : List Name) (n : Name) → length (l ++ n ∷ []) ≡ length l + 1
           one_longer [] n = refl
@@ -136,7 +136,7 @@ pub row_same : (rows : List Row) (g : ℕ) (new d : Row) → new.start ≡ (get_
     → set rows g new ≡ rows
 row_same rows g new d e f =
     let is : new ≡ get_or rows g d = ap (λ s. record { start = s; slots = new.slots }) e ∙ ap
-        (λ l. record { start = (get_or rows g d).start; slots = l }) f in
+    (λ l. record { start = (get_or rows g d).start; slots = l }) f in
     ap (set rows g) is ∙ set-get_or rows g d
 
 pub spans_has : (i : ℕ) (l : List SegmentValue) (k : ℕ) (d : SegmentValue) → k < length l → (get_or l k d).from ≤ i → i < (get_or l k d).to
@@ -157,9 +157,9 @@ doubled b seg new n d h known p =
     let row = h.rows g d known in
     let at : (s : SegmentValue) → (name_of (get_or (get_or b.rows g d).slots p.at s)) ≡ n = λ s. sym (p.interval s) in
     let some : 1 ≤ spans seg.from (get_or b.rows g d).slots = spans_has seg.from (get_or b.rows g d).slots p.at seg
-        (omega (arith, p.within, row.long))
+    (omega (arith, p.within, row.long))
     (let e : (get_or (get_or b.rows g d).slots p.at seg).from ≡ n.from = ap (λ m. m.from) (at seg) in omega (arith, e, p.from))
-        (let e : (get_or (get_or b.rows g d).slots p.at seg).to ≡ n.to = ap (λ m. m.to) (at seg) in omega (arith, e, p.to)) in
+    (let e : (get_or (get_or b.rows g d).slots p.at seg).to ≡ n.to = ap (λ m. m.to) (at seg) in omega (arith, e, p.to)) in
     let is = h.intervals g seg.from d known in (
       omega (arith, some, is),
       record {
@@ -174,16 +174,30 @@ doubled b seg new n d h known p =
 -- the number of a block, and the block that it numbers
 pub can_place : (b : BoardValue) (seg : SegmentValue) (d : Row) (k : ℕ) → IsBoard b → seg.gauge < length b.rows → Numbered b.block
     (length b.rows) (get_or b.rows seg.gauge d).start (name_of seg) (Some k) → CanPlace (get_or b.rows seg.gauge d).start b.block k seg
-can_place b seg d k h known n = record { some_block = omega (arith, h.block.0); place = n.0; from = n.4; some = n.2; short = n.3; window =
-    n.5 }
+can_place b seg d k h known n = record {
+  some_block = omega (arith, h.block.0);
+  place = n.0;
+  from = n.4;
+  some = n.2;
+  short = n.3;
+  window =
+      n.5;
+}
 
 pub number_fits : (b : BoardValue) (name : Name) (d : Row) (k : ℕ) → name.gauge < length b.rows → Numbered b.block (length b.rows)
     (get_or b.rows name.gauge d).start name (Some k) → Fits b name
 number_fits b name d k known n =
     let same : (get_or b.rows name.gauge d).start ≡ start_of b name.gauge = ap (λ r. r.start)
-        (get_or_default b.rows name.gauge d (record { start = 0; slots = [] }) known) in
-    record { known = known; some = n.2; short = n.3; number = k; at = n.4 ∙ ap (λ s. s + k * b.block) same; window = omega
-        (arith, n.5, same) }
+    (get_or_default b.rows name.gauge d (record { start = 0; slots = [] }) known) in
+    record {
+      known = known;
+      some = n.2;
+      short = n.3;
+      number = k;
+      at = n.4 ∙ ap (λ s. s + k * b.block) same;
+      window = omega
+          (arith, n.5, same);
+    }
 
 -- the number that was found in a row that was read there
 pub number_there : (b : BoardValue) (name : Name) (r d : Row) (start gauges block k : ℕ) → name.gauge < length b.rows → start ≡ r.start
@@ -191,4 +205,4 @@ pub number_there : (b : BoardValue) (name : Name) (r d : Row) (start gauges bloc
     (get_or b.rows name.gauge d).start name (Some k)
 number_there b name r d start gauges block k known e f i n =
     subst (λ l. Numbered block l (get_or b.rows name.gauge d).start name (Some k)) f
-        (subst (λ s. Numbered block gauges s name (Some k)) (e ∙ ap (λ x. x.start) (i ∙ get_or_default b.rows name.gauge r d known)) n)
+    (subst (λ s. Numbered block gauges s name (Some k)) (e ∙ ap (λ x. x.start) (i ∙ get_or_default b.rows name.gauge r d known)) n)

@@ -20,8 +20,13 @@ empty_stands grid gauge from longest gain = record {
   history = record {
     used = refl;
     result = record { pairs = []; by = refl; counts = λ lo hi. refl; irreducible = no_deletion };
-    crossings = record { some = refl; first = refl; last = refl; counts = λ l some few. none_counted
-        (no_crossings grid.classes grid.reference) grid.classes grid.reference refl l };
+    crossings = record {
+      some = refl;
+      first = refl;
+      last = refl;
+      counts = λ l some few. none_counted
+          (no_crossings grid.classes grid.reference) grid.classes grid.reference refl l;
+    };
     simple = record { ends = refl; decided = λ k few. get_or-zeros grid.classes k; extremes = λ l few. get_or-zeros grid.classes l };
   };
 }

@@ -34,7 +34,7 @@ is_front b g r s h known is =
     let here : 0 < length (get_or b.rows g r).slots = omega (arith, row.long) in
     let e : s ≡ get_or (get_or b.rows g r).slots 0 s = is s in
     let start : (get_or b.rows g r).start ≡ start_of b g = ap (λ x. x.start)
-        (get_or_default b.rows g r (record { start = 0; slots = [] }) known) in
+    (get_or_default b.rows g r (record { start = 0; slots = [] }) known) in
     record {
       gauge = ap (λ x. x.gauge) e ∙ (row.each 0 s (omega arith)).gauge;
       grid = ap (λ x. x.grid) e ∙ (row.each 0 s (omega arith)).grid;

@@ -35,15 +35,20 @@ later start block k b from to at pos h e s f =
     let m = b - k - 1 in
     let is : b ≡ k + 1 + m = omega (arith, h) in
     let more : b * block ≡ (k + 1 + m) * block = ap (λ n. n * block) is in
-    let split : (k + 1 + m) * block ≡ k * block + block + m * block = omega arith in
-    (omega (arith, e, s, f, more, split), λ q. elim (cases_lt 0 m) [ inl some ↦
-        (let far : 1 * block ≤ m * block = mul-le-mul_right block some in absurd
-        (omega (arith, e, s, f, more, split, q, far, pos))) | inr few ↦ omega (arith, is, few) ])
+    let split : (k + 1 + m) * block ≡ k * block + block + m * block = omega arith in (
+      omega (arith, e, s, f, more, split),
+      λ q. elim (cases_lt 0 m) [
+        | inl some ↦
+            (let far : 1 * block ≤ m * block = mul-le-mul_right block some in absurd
+            (omega (arith, e, s, f, more, split, q, far, pos)))
+        | inr few ↦ omega (arith, is, few)
+      ],
+    )
 
 pub put_loose : (start block k : ℕ) (old new : List SegmentValue) (seg : SegmentValue) → IsRow block seg.grid seg.gauge
     (record { start = start; slots = old }) → CanPlace start block k seg
     → ((i : ℕ) (d : SegmentValue) → i ≤ k → (get_or old i d).from < (get_or old i d).to → (get_or old i d).to < seg.from) →
-        (p : Put old new k seg) → Loose start block seg.gauge seg.grid k (k + 1) (set old k p.now)
+    (p : Put old new k seg) → Loose start block seg.gauge seg.grid k (k + 1) (set old k p.now)
 put_loose start block k old new seg r c before p =
     let l : k < length old = omega (arith, r.long, c.place) in
     let x = p.now in
@@ -64,15 +69,15 @@ put_loose start block k old new seg r c before p =
       apart = λ i j d h m. at_set (λ i s. i < j → s.from < s.to → (get_or (set old k x) j d).from < (get_or (set old k x) j d).to →
           (s.to ≤ (get_or (set old k x) j d).from) × (s.to ≡ (get_or (set old k x) j d).from → (i ≡ k) × (j ≡ k + 1))) old k x i d l
           (λ e. at_set (λ j s. i < j → (get_or old i d).from < (get_or old i d).to → s.from < s.to → ((get_or old i d).to ≤ s.from) ×
-              ((get_or old i d).to ≡ s.from → (i ≡ k) × (j ≡ k + 1))) old k x j d l
+          ((get_or old i d).to ≡ s.from → (i ≡ k) × (j ≡ k + 1))) old k x j d l
           (λ f u a b. let far : (get_or old i d).to < (get_or old j d).from = r.apart i j d u m a b in
-              (omega (arith, far), λ q. absurd (omega (arith, far, q))))
+          (omega (arith, far), λ q. absurd (omega (arith, far, q))))
           (λ f u a b. let near : (get_or old i d).to < seg.from = before i d (omega (arith, u)) a in
-              (omega (arith, near, from), λ q. absurd (omega (arith, near, from, q)))))
+          (omega (arith, near, from), λ q. absurd (omega (arith, near, from, q)))))
           (λ e. at_set (λ j s. k < j → x.from < x.to → s.from < s.to → (x.to ≤ s.from) ×
-              (x.to ≡ s.from → (k ≡ k) × (j ≡ k + 1))) old k x j d l
+          (x.to ≡ s.from → (k ≡ k) × (j ≡ k + 1))) old k x j d l
           (λ f u a b. let g = later start block k j seg.from seg.to (get_or old j d).from c.some_block u c.from c.short
-              (r.shape j d m b).0 in (omega (arith, g.0, to), λ q. (refl, g.1 (omega (arith, to, q)))))
+          (r.shape j d m b).0 in (omega (arith, g.0, to), λ q. (refl, g.1 (omega (arith, to, q)))))
           (λ f u a b. absurd (omega (arith, u))))
           h;
     }
@@ -80,8 +85,8 @@ put_loose start block k old new seg r c before p =
 pub extend_loose : (start block j k : ℕ) (old new : List SegmentValue) (seg : SegmentValue) → IsRow block seg.grid seg.gauge
     (record { start = start; slots = old }) → CanPlace start block k seg → j < k
     → ((d : SegmentValue) → (get_or old j d).from < (get_or old j d).to) →
-        ((i : ℕ) (d : SegmentValue) → j < i → i ≤ k → IsEmpty (get_or old i d)) → ((d : SegmentValue) → (get_or old j d).to ≡ seg.from) →
-        (p : Extended old new j seg) → Loose start block seg.gauge seg.grid j (k + 1) (set old j p.now)
+    ((i : ℕ) (d : SegmentValue) → j < i → i ≤ k → IsEmpty (get_or old i d)) → ((d : SegmentValue) → (get_or old j d).to ≡ seg.from) →
+    (p : Extended old new j seg) → Loose start block seg.gauge seg.grid j (k + 1) (set old j p.now)
 extend_loose start block j k old new seg r c less full empties touch p =
     let l : j < length old = omega (arith, r.long, c.place, less) in
     let x = p.now in
@@ -105,13 +110,13 @@ extend_loose start block j k old new seg r c less full empties touch p =
       apart = λ a b d h m. at_set (λ i s. i < b → s.from < s.to → (get_or (set old j x) b d).from < (get_or (set old j x) b d).to →
           (s.to ≤ (get_or (set old j x) b d).from) × (s.to ≡ (get_or (set old j x) b d).from → (i ≡ j) × (b ≡ k + 1))) old j x a d l
           (λ e. at_set (λ i s. a < i → (get_or old a d).from < (get_or old a d).to → s.from < s.to → ((get_or old a d).to ≤ s.from) ×
-              ((get_or old a d).to ≡ s.from → (a ≡ j) × (i ≡ k + 1))) old j x b d l
+          ((get_or old a d).to ≡ s.from → (a ≡ j) × (i ≡ k + 1))) old j x b d l
           (λ f u s t. let far : (get_or old a d).to < (get_or old b d).from = r.apart a b d u m s t in
-              (omega (arith, far), λ q. absurd (omega (arith, far, q))))
+          (omega (arith, far), λ q. absurd (omega (arith, far, q))))
           (λ f u s t. let far : (get_or old a d).to < (get_or old j d).from = r.apart a j d u js s (full d) in
-              (omega (arith, far, was_from d), λ q. absurd (omega (arith, far, was_from d, q)))))
+          (omega (arith, far, was_from d), λ q. absurd (omega (arith, far, was_from d, q)))))
           (λ e. at_set (λ i s. j < i → x.from < x.to → s.from < s.to → (x.to ≤ s.from) ×
-              (x.to ≡ s.from → (j ≡ j) × (i ≡ k + 1))) old j x b d l
+          (x.to ≡ s.from → (j ≡ j) × (i ≡ k + 1))) old j x b d l
           (λ f u s t. elim (cases_lt k b) [
             | inl past ↦ (let g = later start block k b seg.from seg.to (get_or old b d).from c.some_block past c.from c.short
                 (r.shape b d m t).0 in (omega (arith, g.0, to), λ q. (refl, g.1 (omega (arith, to, q)))))
@@ -136,7 +141,7 @@ close_row start block gauge kind j n old new less full_j r (inr (same, open_ther
             let at : (get_or old a d).to ≡ (get_or old b d).from = omega (arith, near.0, touch) in
             let who = near.1 at in
             absurd (open_there d (omega (arith, who.1, m, r.long)) (subst (λ i. (get_or old i d).from < (get_or old i d).to) who.1 t)
-                (ap (λ i. (get_or old i d).to) (sym who.0) ∙ at ∙ ap (λ i. (get_or old i d).from) who.1)))
+            (ap (λ i. (get_or old i d).to) (sym who.0) ∙ at ∙ ap (λ i. (get_or old i d).from) who.1)))
       ];
     })
 close_row start block gauge kind j n old new less full_j r (inl (p, (inside, touch, full))) =
@@ -147,13 +152,13 @@ close_row start block gauge kind j n old new less full_j r (inl (p, (inside, tou
     let n16 : n < 16 = omega (arith, inside, r.long) in let j16 : j < 16 = omega (arith, n16, less) in
     let gauge_x : x.gauge ≡ p.was.gauge = ap (λ m. m.gauge) p.join.name in
     let from_x : (d : SegmentValue) → x.from ≡ (get_or old j d).from = λ d. ap (λ m. m.from) p.join.name ∙ ap (λ s. s.from)
-        (sym (p.at d)) in
+    (sym (p.at d)) in
     let to_x : (d : SegmentValue) → x.to ≡ (get_or old n d).to = λ d. ap (λ m. m.to) p.join.name ∙ ap (λ s. s.to) (sym (p.at_next d)) in
     let gone : y.to ≡ y.from = p.emptied.to ∙ sym p.emptied.from in
     let final = set (set old j x) n y in
     let place : (Q : ℕ → SegmentValue → Type 0) (i : ℕ) (d : SegmentValue) → (i ≢ n → i ≢ j → Q i (get_or old i d)) → (i ≡ j → Q j x) →
-        (i ≡ n → Q n y) → Q i (get_or final i d) = λ Q i d a b c. at_set Q (set old j x) n y i d ln
-        (λ e. at_set Q old j x i d lj (a e) b) c in
+    (i ≡ n → Q n y) → Q i (get_or final i d) = λ Q i d a b c. at_set Q (set old j x) n y i d ln
+    (λ e. at_set Q old j x i d lj (a e) b) c in
     subst (λ l. IsRow block kind gauge (record { start = start; slots = l })) (sym p.set) (record {
       long = length-set (set old j x) n y ∙ long ∙ r.long;
       each = λ i d h. place (λ i s. IsSlot block kind gauge s) i d (λ e f. r.each i d h)
@@ -176,21 +181,30 @@ close_row start block gauge kind j n old new less full_j r (inl (p, (inside, tou
           (λ e s. absurd (omega (arith, s, gone)));
       apart = λ a b d h m.
           let Pair : ℕ → SegmentValue → ℕ → SegmentValue → Type 0 = λ i s k z. i < k → k < 16 → s.from < s.to → z.from < z.to
-              → s.to < z.from in
+          → s.to < z.from in
           place (λ i s. Pair i s b (get_or final b d)) a d
           (λ na ja. place (λ k z. Pair a (get_or old a d) k z) b d
           (λ nb jb u v s z. let near = r.apart a b d u v s z in elim
-              (cases_lt (get_or old a d).to (get_or old b d).from) [ inl far ↦ far | inr touch_ab ↦ absurd
-              (ja (near.1 (omega (arith, near.0, touch_ab))).0) ])
+          (cases_lt (get_or old a d).to (get_or old b d).from) [
+            | inl far ↦ far
+            | inr touch_ab ↦ absurd
+                (ja (near.1 (omega (arith, near.0, touch_ab))).0)
+          ])
           (λ jb u v s z. let near = r.apart a j d u j16 s (full_j d) in elim
-              (cases_lt (get_or old a d).to (get_or old j d).from) [ inl far ↦ omega (arith, far, from_x d) | inr touch_ab ↦ absurd
-              (ja (near.1 (omega (arith, near.0, touch_ab))).0) ])
+          (cases_lt (get_or old a d).to (get_or old j d).from) [
+            | inl far ↦ omega (arith, far, from_x d)
+            | inr touch_ab ↦ absurd
+                (ja (near.1 (omega (arith, near.0, touch_ab))).0)
+          ])
           (λ nb u v s z. absurd (omega (arith, z, gone))))
           (λ ja. place (λ k z. Pair j x k z) b d
           (λ nb jb u v s z. elim (cases_lt n b) [
             | inl past ↦ (let near = r.apart n b d past v (full d) z in elim
-                (cases_lt (get_or old n d).to (get_or old b d).from) [ inl far ↦ omega (arith, far, to_x d) | inr touch_nb ↦
-                (let is : n ≡ j = (near.1 (omega (arith, near.0, touch_nb))).0 in absurd (omega (arith, is, less))) ])
+                (cases_lt (get_or old n d).to (get_or old b d).from) [
+                  | inl far ↦ omega (arith, far, to_x d)
+                  | inr touch_nb ↦
+                      (let is : n ≡ j = (near.1 (omega (arith, near.0, touch_nb))).0 in absurd (omega (arith, is, less)))
+                ])
             | inr upto ↦ (
                 let before : b < n = omega (arith, upto, nb) in
                 let one = r.apart j b d u v (full_j d) z in
@@ -220,7 +234,7 @@ pub put_spans : (k i : ℕ) (old : List SegmentValue) (seg x : SegmentValue) →
     (set old k x) ≡ spans i old + between seg.from seg.to i
 put_spans k i old seg x l empty e =
     let s : spans i (set old k x) + between (get_or old k x).from (get_or old k x).to i ≡ spans i old + between x.from x.to i =
-        spans-set i old k x x l in
+    spans-set i old k x x l in
     omega (arith, s, between_empty (get_or old k x).from (get_or old k x).to i (empty x), ap (λ n. between n.from n.to i) e)
 
 pub extend_spans : (j i : ℕ) (old new : List SegmentValue) (seg : SegmentValue) → j < length old → (p : Extended old new j seg) →
@@ -229,14 +243,14 @@ pub extend_spans : (j i : ℕ) (old new : List SegmentValue) (seg : SegmentValue
 extend_spans j i old new seg l p touch full some =
     let x = p.now in
     let s : spans i (set old j x) + between (get_or old j x).from (get_or old j x).to i ≡ spans i old + between x.from x.to i =
-        spans-set i old j x x l in
+    spans-set i old j x x l in
     let from : x.from ≡ (get_or old j x).from = ap (λ m. m.from) p.join.name ∙ ap (λ s. s.from) (sym (p.at x)) in
     let to : x.to ≡ seg.to = ap (λ m. m.to) p.join.name in
     let whole : between x.from x.to i ≡ between (get_or old j x).from seg.to i = between_same _ _ _ _ i from to in
     let first : between (get_or old j x).from (get_or old j x).to i ≡ between (get_or old j x).from seg.from i =
-        between_same _ _ _ _ i refl (touch x) in
+    between_same _ _ _ _ i refl (touch x) in
     let parts : between (get_or old j x).from seg.from i + between seg.from seg.to i ≡ between (get_or old j x).from seg.to i =
-        between_parts _ _ _ i (omega (arith, full x, touch x)) (omega (arith, some)) in
+    between_parts _ _ _ i (omega (arith, full x, touch x)) (omega (arith, some)) in
     omega (arith, s, whole, first, parts)
 
 pub close_spans : (j n i : ℕ) (old new : List SegmentValue) → j < n → ((d : SegmentValue) → (get_or old j d).from < (get_or old j d).to)
@@ -247,20 +261,20 @@ close_spans j n i old new less full_j (inl (p, (inside, touch, full))) =
     let lj : j < length old = omega (arith, inside, less) in
     let ln : n < length (set old j x) = omega (arith, length-set old j x, inside) in
     let one : spans i (set old j x) + between (get_or old j x).from (get_or old j x).to i ≡ spans i old + between x.from x.to i =
-        spans-set i old j x x lj in
+    spans-set i old j x x lj in
     let two : spans i (set (set old j x) n y) + between (get_or (set old j x) n x).from (get_or (set old j x) n x).to i ≡ spans i
-        (set old j x) + between y.from y.to i = spans-set i (set old j x) n y x ln in
+    (set old j x) + between y.from y.to i = spans-set i (set old j x) n y x ln in
     let other : get_or (set old j x) n x ≡ get_or old n x = get_or-set_other old j n x x (λ e. omega (arith, e, less)) in
     let second : between (get_or (set old j x) n x).from (get_or (set old j x) n x).to i ≡ between (get_or old n x).from
-        (get_or old n x).to i = ap (λ s. between s.from s.to i) other in
+    (get_or old n x).to i = ap (λ s. between s.from s.to i) other in
     let left : between y.from y.to i ≡ 0 = between_empty _ _ i (omega (arith, p.emptied.from, p.emptied.to)) in
     let from : x.from ≡ (get_or old j x).from = ap (λ m. m.from) p.join.name ∙ ap (λ s. s.from) (sym (p.at x)) in
     let to : x.to ≡ (get_or old n x).to = ap (λ m. m.to) p.join.name ∙ ap (λ s. s.to) (sym (p.at_next x)) in
     let whole : between x.from x.to i ≡ between (get_or old j x).from (get_or old n x).to i = between_same _ _ _ _ i from to in
     let first : between (get_or old j x).from (get_or old j x).to i ≡ between (get_or old j x).from (get_or old n x).from i =
-        between_same _ _ _ _ i refl (touch x) in
+    between_same _ _ _ _ i refl (touch x) in
     let parts : between (get_or old j x).from (get_or old n x).from i + between (get_or old n x).from (get_or old n x).to i ≡ between
-        (get_or old j x).from (get_or old n x).to i = between_parts _ _ _ i (omega (arith, full_j x, touch x)) (omega (arith, full x)) in
+    (get_or old j x).from (get_or old n x).to i = between_parts _ _ _ i (omega (arith, full_j x, touch x)) (omega (arith, full x)) in
     ap (spans i) p.set ∙ omega (arith, one, two, second, left, whole, first, parts)
 
 -- no interval has the sample
@@ -273,13 +287,13 @@ spans_none i (s ∷ l) h = let e : spans i l ≡ 0 = spans_none i l
 pub free_there : (start block k : ℕ) (old : List SegmentValue) (seg : SegmentValue) → IsRow block seg.grid seg.gauge
     (record { start = start; slots = old }) → CanPlace start block k seg
     → ((i : ℕ) (d : SegmentValue) → i ≤ k → (get_or old i d).from < (get_or old i d).to → (get_or old i d).to ≤ seg.from)
-        → spans seg.from old ≡ 0
+    → spans seg.from old ≡ 0
 free_there start block k old seg r c before = spans_none seg.from old
     (λ i d m. between_off (get_or old i d).from (get_or old i d).to seg.from (λ some. elim (cases_lt k i) [
-  | inl past ↦ inr (let g = later start block k i seg.from seg.to (get_or old i d).from c.some_block past c.from c.short
-      (r.shape i d (omega (arith, m, r.long)) some).0 in omega (arith, g.0, c.some))
-  | inr upto ↦ inl (before i d upto some)
-]))
+      | inl past ↦ inr (let g = later start block k i seg.from seg.to (get_or old i d).from c.some_block past c.from c.short
+          (r.shape i d (omega (arith, m, r.long)) some).0 in omega (arith, g.0, c.some))
+      | inr upto ↦ inl (before i d upto some)
+    ]))
 
 drop_nothing : {A : Type 0} → (n : ℕ) → drop {A = A} n [] ≡ []
 drop_nothing zero = refl
@@ -295,7 +309,7 @@ slices w a b c h k =
     let n : a + (b - a) ≡ b = omega (arith, h) in
     let m : (b - a) + (c - b) ≡ c - a = omega (arith, h, k) in
     ap (λ l. take (b - a) (drop a w) ++ take (c - b) l) (sym (drop_twice a (b - a) w ∙ ap (λ i. drop i w) n)) ∙ sym
-        (take-add (b - a) (c - b) (drop a w)) ∙ ap (λ i. take i (drop a w)) m
+    (take-add (b - a) (c - b) (drop a w)) ∙ ap (λ i. take i (drop a w)) m
 
 copy_stands : (gain : GainValue) (w : List ℤ) (m : ℕ) (seg x : SegmentValue) → IsCopy m seg x → StandsIn seg gain w → StandsIn x gain w
 copy_stands gain w m seg x c h = subst (λ n. Stands x gain (slice_range w n.from n.to)) (sym c.name)
@@ -307,7 +321,7 @@ join_stands gain w was seg x j touch a b h k =
     let both_parts : Stands x gain (slice_range w was.from was.to ++ slice_range w seg.from seg.to) = j.stands gain _ _ h k in
     let is : slice_range w was.from was.to ++ slice_range w seg.from seg.to ≡ slice_range w was.from seg.to =
     ap (λ i. slice_range w was.from was.to ++ slice_range w i seg.to) (sym touch) ∙ slices w was.from was.to seg.to a
-        (omega (arith, touch, b)) in
+    (omega (arith, touch, b)) in
     subst (λ n. Stands x gain (slice_range w n.from n.to)) (sym j.name) (subst (Stands x gain) is both_parts)
 
 -- an empty segment
@@ -325,8 +339,8 @@ extend_stands : (gain : GainValue) (j : ℕ) (w : List ℤ) (old new : List Segm
     → seg.from < seg.to → (p : Extended old new j seg) → AllStand gain w old → StandsIn seg gain w → AllStand gain w (set old j p.now)
 extend_stands gain j w old new seg l j16 full touch some p h s i d m = at_set (λ i z. StandsIn z gain w) old j p.now i d l (λ e. h i d m)
     (λ e. join_stands gain w p.was seg p.now p.join (ap (λ z. z.to) (sym (p.at d)) ∙ touch d)
-        (subst (λ (z : SegmentValue). z.from ≤ z.to) (p.at d) (omega (arith, full d))) (omega (arith, some))
-        (subst (λ z. StandsIn z gain w) (p.at d) (h j d j16)) s)
+    (subst (λ (z : SegmentValue). z.from ≤ z.to) (p.at d) (omega (arith, full d))) (omega (arith, some))
+    (subst (λ z. StandsIn z gain w) (p.at d) (h j d j16)) s)
 
 close_stands : (gain : GainValue) (j n : ℕ) (w : List ℤ) (old new : List SegmentValue) → j < n → length old ≡ 16 →
     ((d : SegmentValue) → (get_or old j d).from < (get_or old j d).to) → Closes old new j n → AllStand gain w old → AllStand gain w new
@@ -340,16 +354,16 @@ close_stands gain j n w old new less long full_j (inl (p, (inside, touch, full))
     (λ e. at_set (λ i z. StandsIn z gain w) old j x i d lj (λ f. h i d m)
     (λ f. join_stands gain w p.was p.next x p.join (ap (λ z. z.to) (sym (p.at d)) ∙ touch d ∙ ap (λ z. z.from) (p.at_next d))
     (subst (λ (z : SegmentValue). z.from ≤ z.to) (p.at d) (omega (arith, full_j d)))
-        (subst (λ (z : SegmentValue). z.from ≤ z.to) (p.at_next d) (omega (arith, full d)))
+    (subst (λ (z : SegmentValue). z.from ≤ z.to) (p.at_next d) (omega (arith, full d)))
     (subst (λ z. StandsIn z gain w) (p.at d) (h j d (omega (arith, lj, long))))
-        (subst (λ z. StandsIn z gain w) (p.at_next d) (h n d (omega (arith, inside, long))))))
+    (subst (λ z. StandsIn z gain w) (p.at_next d) (h n d (omega (arith, inside, long))))))
     (λ e. none_stand gain w y gone (p.emptied.stands gain)))
 
 -- the two ways of a deposit
 pub placed_put : (start block k : ℕ) (old mid new : List SegmentValue) (seg : SegmentValue) → IsRow block seg.grid seg.gauge
     (record { start = start; slots = old }) → CanPlace start block k seg
     → ((i : ℕ) (d : SegmentValue) → i ≤ k → (get_or old i d).from < (get_or old i d).to → (get_or old i d).to < seg.from)
-        → Put old mid k seg → Closes mid new k (k + 1) → Placed start block old new seg
+    → Put old mid k seg → Closes mid new k (k + 1) → Placed start block old new seg
 placed_put start block k old mid new seg r c before p close =
     let x = p.now in
     let l : k < length old = omega (arith, r.long, c.place) in
@@ -361,7 +375,7 @@ placed_put start block k old mid new seg r c before p close =
       | inr none ↦ none
     ] in
     let full : (d : SegmentValue) → (get_or (set old k x) k d).from < (get_or (set old k x) k d).to = λ d. subst (λ z. z.from < z.to)
-        (sym (get_or-set_same old k x d l)) (subst (λ n. n.from < n.to) (sym p.copy.name) c.some) in
+    (sym (get_or-set_same old k x d l)) (subst (λ n. n.from < n.to) (sym p.copy.name) c.some) in
     let less : k < k + 1 = omega arith in
     record {
       free = free_there start block k old seg r c (λ i d u s. omega (arith, before i d u s));
@@ -376,29 +390,35 @@ pub extend_less : (start block j k : ℕ) (old : List SegmentValue) (seg : Segme
     (record { start = start; slots = old }) → CanPlace start block k seg → j ≤ k
     → ((d : SegmentValue) → (get_or old j d).from < (get_or old j d).to) → ((d : SegmentValue) → (get_or old j d).to ≡ seg.from) → j < k
 extend_less start block j k old seg r c upto full touch = elim
-    (cases_lt j k) [ inl a ↦ a | inr a ↦ (let same : k ≡ j = omega (arith, a, upto) in let at =
-    (r.shape j seg (omega (arith, upto, c.place)) (full seg)).0 in let far : k * block ≡ j * block = ap (λ n. n * block) same in absurd
-    (omega (arith, at, c.from, far, touch seg, full seg))) ]
+    (cases_lt j k) [
+      | inl a ↦ a
+      | inr a ↦ (let same : k ≡ j = omega (arith, a, upto) in let at =
+          (r.shape j seg (omega (arith, upto, c.place)) (full seg)).0 in let far : k * block ≡ j * block = ap (λ n. n * block) same in absurd
+          (omega (arith, at, c.from, far, touch seg, full seg)))
+    ]
 
 pub placed_extend : (start block j k : ℕ) (old mid new : List SegmentValue) (seg : SegmentValue) → IsRow block seg.grid seg.gauge
     (record { start = start; slots = old }) → CanPlace start block k seg → j ≤ k
     → ((d : SegmentValue) → (get_or old j d).from < (get_or old j d).to) →
-        ((i : ℕ) (d : SegmentValue) → j < i → i ≤ k → IsEmpty (get_or old i d)) → ((d : SegmentValue) → (get_or old j d).to ≡ seg.from)
-        → Extended old mid j seg → Closes mid new j (k + 1) → Placed start block old new seg
+    ((i : ℕ) (d : SegmentValue) → j < i → i ≤ k → IsEmpty (get_or old i d)) → ((d : SegmentValue) → (get_or old j d).to ≡ seg.from)
+    → Extended old mid j seg → Closes mid new j (k + 1) → Placed start block old new seg
 placed_extend start block j k old mid new seg r c upto full empties touch p close =
     let x = p.now in
     let j16 : j < 16 = omega (arith, upto, c.place) in
     let l : j < length old = omega (arith, r.long, j16) in
-    let less : j < k = elim (cases_lt j k) [ inl a ↦ a | inr a ↦
-        (let same : k ≡ j = omega (arith, a, upto) in let at = (r.shape j x j16 (full x)).0 in let far : k * block ≡ j * block = ap
-        (λ n. n * block) same in absurd (omega (arith, at, c.from, far, touch x, full x))) ] in
+    let less : j < k = elim (cases_lt j k) [
+      | inl a ↦ a
+      | inr a ↦
+          (let same : k ≡ j = omega (arith, a, upto) in let at = (r.shape j x j16 (full x)).0 in let far : k * block ≡ j * block = ap
+          (λ n. n * block) same in absurd (omega (arith, at, c.from, far, touch x, full x)))
+    ] in
     let loose = extend_loose start block j k old mid seg r c less full empties touch p in
     let closes : Closes (set old j x) new j (k + 1) = subst (λ z. Closes z new j (k + 1)) p.set close in
     let from : (d : SegmentValue) → x.from ≡ (get_or old j d).from = λ d. ap (λ m. m.from) p.join.name ∙ ap (λ s. s.from) (sym (p.at d)) in
     let to : x.to ≡ seg.to = ap (λ m. m.to) p.join.name in
     let some : x.from < x.to = omega (arith, from x, to, full x, touch x, c.some) in
     let full_now : (d : SegmentValue) → (get_or (set old j x) j d).from < (get_or (set old j x) j d).to = λ d. subst (λ z. z.from < z.to)
-        (sym (get_or-set_same old j x d l)) some in
+    (sym (get_or-set_same old j x d l)) some in
     let behind : j < k + 1 = omega (arith, less) in
     record {
       free = free_there start block k old seg r c (λ i d u s. elim (cases_lt j i) [
@@ -466,22 +486,29 @@ strictly old j from a b l h k d =
 pub window_room : (start block gauge : ℕ) (kind : GridValue) (t n a b : ℕ) (l mid : List SegmentValue) (d : SegmentValue)
     → Loose start block gauge kind t n l → mid ≡ l → a < 16 → b < length mid
     → (get_or mid a d).from < (get_or mid a d).to → (get_or mid b d).from < (get_or mid b d).to → (get_or mid b d).to -
-        (get_or mid a d).from ≤ (get_or mid a d).longest
+    (get_or mid a d).from ≤ (get_or mid a d).longest
 window_room start block gauge kind t n a b l mid d r e h m some next =
     let b16 : b < 16 = omega (arith, m, ap length e, r.long) in
     let same : (k : ℕ) → get_or mid k d ≡ get_or l k d = λ k. ap (λ z. get_or z k d) e in
     let first : (get_or l a d).from < (get_or l a d).to = subst (λ (z : SegmentValue). z.from < z.to) (same a) some in
     let last : (get_or l b d).from < (get_or l b d).to = subst (λ (z : SegmentValue). z.from < z.to) (same b) next in
     let longest : (get_or mid a d).longest ≡ 16 * block = ap (λ (z : SegmentValue). z.longest) (same a) ∙ (r.each a d h).longest in
-    omega (arith, (r.shape a d h first).0, (r.shape b d b16 last).1, longest, ap (λ (z : SegmentValue). z.from) (same a), ap
-        (λ (z : SegmentValue). z.to) (same b))
+    omega (
+      arith,
+      (r.shape a d h first).0,
+      (r.shape b d b16 last).1,
+      longest,
+      ap (λ (z : SegmentValue). z.from) (same a),
+      ap
+          (λ (z : SegmentValue). z.to) (same b),
+    )
 
 -- an interval begins where a segment was put, and where one was joined
 pub slot_at : (k : ℕ) (old new : List SegmentValue) (seg d : SegmentValue) → k < length old → seg.from < seg.to → Put old new k seg →
     (get_or new k d).from < (get_or new k d).to
 slot_at k old new seg d l some p =
     subst (λ (z : SegmentValue). z.from < z.to) (sym (ap (λ z. get_or z k d) p.set ∙ get_or-set_same old k p.now d l))
-        (subst (λ n. n.from < n.to) (sym p.copy.name) some)
+    (subst (λ n. n.from < n.to) (sym p.copy.name) some)
 
 pub extended_at : (j : ℕ) (old new : List SegmentValue) (seg d : SegmentValue) → j < length old → seg.from < seg.to →
     ((e : SegmentValue) → (get_or old j e).from < (get_or old j e).to) → ((e : SegmentValue) → (get_or old j e).to ≡ seg.from)
@@ -490,4 +517,4 @@ extended_at j old new seg d l some full touch p =
     let from : p.now.from ≡ (get_or old j d).from = ap (λ m. m.from) p.join.name ∙ ap (λ (z : SegmentValue). z.from) (sym (p.at d)) in
     let to : p.now.to ≡ seg.to = ap (λ m. m.to) p.join.name in
     subst (λ (z : SegmentValue). z.from < z.to) (sym (ap (λ z. get_or z j d) p.set ∙ get_or-set_same old j p.now d l))
-        (omega (arith, from, to, some, full d, touch d))
+    (omega (arith, from, to, some, full d, touch d))

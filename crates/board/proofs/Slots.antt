@@ -52,10 +52,10 @@ pub merged_from : (s l r : List SegmentValue) (j k : ℕ) (x y p q o : SegmentVa
     → IsEmptied (get_or r 0 o) y → Merged s (set l j x ++ set r 0 y) j k
 merged_from s l r j k x y p q o h m e f i w =
     let at_l : (d : SegmentValue) → get_or s j d ≡ get_or l j p = λ d. get_or_default s j d p (omega (arith, h, m)) ∙ sym
-        (get_or-take k s j p h) ∙ ap (λ z. get_or z j p) (sym e) in
+    (get_or-take k s j p h) ∙ ap (λ z. get_or z j p) (sym e) in
     let zero_more : k + 0 ≡ k = omega arith in
     let at_r : (d c : SegmentValue) → get_or s k d ≡ get_or r 0 c = λ d c. get_or_default s k d c m ∙ sym
-        (get_or-drop k s 0 c ∙ ap (λ z. get_or s z c) zero_more) ∙ ap (λ z. get_or z 0 c) (sym f) in
+    (get_or-drop k s 0 c ∙ ap (λ z. get_or s z c) zero_more) ∙ ap (λ z. get_or z 0 c) (sym f) in
     let same : get_or r 0 q ≡ get_or r 0 o = sym (at_r q q) ∙ at_r q o in
     record {
       was = get_or l j p;

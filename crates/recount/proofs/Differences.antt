@@ -72,6 +72,6 @@ CellsAnswer v found result = MatchOption result (AreSame v.grid.classes (halves_
 pub cells_compared : (v : SegmentValue) (r : Recount) (gain : GainValue) (w : List ℤ) (is : IsRecount v.grid gain r w)
     → v.used ≡ r.counts.used → v.missing ≡ r.counts.missing → v.refused ≡ r.counts.refused
     → (result : Option Difference) → CellsAnswer v r.pairs result → Compares v (counts_of v.grid gain w)
-        (three_point (history v.grid gain w)) result
+    (three_point (history v.grid gain w)) result
 cells_compared v r gain w is used missing refused None same = none_differs v r gain w is None used missing refused refl same
 cells_compared v r gain w is used missing refused (Some other) o = cell_first v r gain w is (Some other) used missing refused other refl o

@@ -19,6 +19,8 @@ module _ (room n : ℕ) (buf rest : List ℤ) (body before after : List ℕ) (w 
 
   pub more_read : end ≡ More → Splits body (w ++ take n (buf ++ rest)) after
   more_read is =
-      let piece = splits_more room n buf before after same (as_ended More is) in
-      (split.0 ∙ ap (λ (l : List ℤ). w ++ l) (piece.0 ∙ ap (λ (l : List ℤ). l ++ samples after) (sym front)) ∙ sym
-          (append_assoc w (take n (buf ++ rest)) (samples after)), piece.1 ∙ split.1)
+      let piece = splits_more room n buf before after same (as_ended More is) in (
+        split.0 ∙ ap (λ (l : List ℤ). w ++ l) (piece.0 ∙ ap (λ (l : List ℤ). l ++ samples after) (sym front)) ∙ sym
+            (append_assoc w (take n (buf ++ rest)) (samples after)),
+        piece.1 ∙ split.1,
+      )

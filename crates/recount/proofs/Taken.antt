@@ -59,7 +59,7 @@ module _ (grid : GridValue) (gain : GainValue) where
       turned_more are =
           subst (λ (h : List ℕ). HasGiven h (are.decided ++ more) turner)
           (ap (λ (l : List ℕ). history grid gain w ++ l) levels ∙ sym (history-append grid gain w raws))
-              (turned (history grid gain w) are.decided are.turned)
+          (turned (history grid gain w) are.decided are.turned)
 
       pub points_below : HasCountedSamples classes room holds start grid gain old w → All (λ point. point < old.run.classes) more
       points_below are =
@@ -69,12 +69,12 @@ module _ (grid : GridValue) (gain : GainValue) where
       pub counted_more : (new : RunningCount C) → new.turner ≡ turner → new.counts ≡ sum_of old.counts
           (counts (length raws) used missing refused)
           → ((before : List ℕ) → HasCounted before old.run.live (holds old.counter) → HasCounted (before ++ more) new.run.live
-              (holds new.counter))
+          (holds new.counter))
           → new.run.classes ≡ old.run.classes → classes new.counter ≡ classes old.counter
           → length more ≤ used
           → room old.counter + length new.run.live ≤ room new.counter + length old.run.live + length more
           → HasCountedSamples classes room holds start grid gain old w → HasCountedSamples classes room holds start grid gain new
-              (w ++ raws)
+          (w ++ raws)
       counted_more new t sum counted same_classes same few rooms are = record {
         counts = sum ∙ ap (λ (c : SampleCounts). sum_of c (counts (length raws) used missing refused)) are.counts ∙ ap
             (λ (c : SampleCounts). sum_of (counts_of grid gain w) c) kinds_are ∙ sym (counts_of-append w raws);
@@ -94,9 +94,9 @@ module _ {C : Type 0} (classes room : C → ℕ) (holds : C → List CountedRang
   last_below point closed are =
       let h = history grid gain w in
       let all : All (λ p. p < grid.classes) (are.decided ++ point ∷ []) = subst (λ (l : List ℕ). All (λ p. p < grid.classes) l)
-          (sym (closed h are.decided are.turned)) (All-points (λ p. p < grid.classes) h (history_below grid gain w)) in
+      (sym (closed h are.decided are.turned)) (All-points (λ p. p < grid.classes) h (history_below grid gain w)) in
       let last : All (λ p. p < grid.classes) (point ∷ []) = rw drop-append_seam at
-          (All-drop (λ p. p < grid.classes) (length are.decided) (are.decided ++ point ∷ []) all) in
+      (All-drop (λ p. p < grid.classes) (length are.decided) (are.decided ++ point ∷ []) all) in
       subst (λ (n : ℕ). point < n) (sym are.levels) (All-head (λ p. p < grid.classes) point [] last)
 
   pub all_points : (last live : List ℕ) (counter : C) → ((h given : List ℕ) → HasGiven h given count.turner → given ++ last ≡ points h)
@@ -104,12 +104,12 @@ module _ {C : Type 0} (classes room : C → ℕ) (holds : C → List CountedRang
       → HasCountedSamples classes room holds start grid gain count w → HasCounted (points (history grid gain w)) live (holds counter)
   all_points last live counter closed push are =
       subst (λ (p : List ℕ). HasCounted p live (holds counter)) (closed (history grid gain w) are.decided are.turned)
-          (push are.decided are.counted)
+      (push are.decided are.counted)
 
 pub recount_of : (grid grid' : GridValue) (gain gain' : GainValue) → grid' ≡ grid → gain' ≡ gain → (count : RunningCount Counts)
     (pairs : Counts) (w : List ℤ)
     → HasCountedPairs grid' gain' count w → HoldsPairs pairs (run [] (points (history grid' gain' w)))
-        → pairs.classes ≡ count.counter.classes
+    → pairs.classes ≡ count.counter.classes
     → IsRecount grid gain (record { counts = count.counts; pairs = pairs }) w
 recount_of grid grid' gain gain' a b count pairs w has holds classes = rw (sym a, sym b)
     (record { counts = has.counts; classes = classes ∙ has.takes; halves = holds })

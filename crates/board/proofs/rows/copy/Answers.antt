@@ -11,9 +11,9 @@ returns c =
     let seg = c.args.seg.now in
     let was = c.clear.new.self in
     let gauge : was.gauge ≡ seg.gauge = ap (λ (z : SegmentValue). z.gauge) c.clear.ensures ∙ ap
-        (λ (n : Name). n.gauge) c.name-name.ensures.value in
+    (λ (n : Name). n.gauge) c.name-name.ensures.value in
     let from : was.from ≡ seg.from = ap (λ (z : SegmentValue). z.from) c.clear.ensures ∙ ap
-        (λ (n : Name). n.from) c.name-name.ensures.value in
+    (λ (n : Name). n.from) c.name-name.ensures.value in
     let to : was.to ≡ seg.from = ap (λ (z : SegmentValue). z.to) c.clear.ensures ∙ ap (λ (n : Name). n.from) c.name-name.ensures.value in
     let ok = joined was seg c.join.result (sym gauge, sym to) c.join.ensures.answer in
     let start : SameStart was c.join.new.self = from_ok c.join.result _ ok c.join.ensures.start in

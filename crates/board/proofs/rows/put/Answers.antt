@@ -5,6 +5,12 @@ use Rattle.board.specs.Rows.{IsCopy}
 use Rattle.board.proofs.rows.put.Goals as goal
 
 pub returns : goal.returns
-returns c = record { was = c.index-slots-k.result; at = λ d. get_or_default c.args.slots.now c.args.k d c.index-slots-k.result
-    (omega arith) ∙ sym c.index-slots-k.is; now = c.copy.new.slot; set = refl; copy = subst
-    (λ (z : SegmentValue). IsCopy z.longest c.args.seg.now c.copy.new.slot) (sym c.index-slots-k.is) c.copy.ensures }
+returns c = record {
+  was = c.index-slots-k.result;
+  at = λ d. get_or_default c.args.slots.now c.args.k d c.index-slots-k.result
+      (omega arith) ∙ sym c.index-slots-k.is;
+  now = c.copy.new.slot;
+  set = refl;
+  copy = subst
+      (λ (z : SegmentValue). IsCopy z.longest c.args.seg.now c.copy.new.slot) (sym c.index-slots-k.is) c.copy.ensures;
+}

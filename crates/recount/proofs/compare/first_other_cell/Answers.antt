@@ -7,7 +7,7 @@ use Rattle.recount.proofs.compare.first_other_cell.Goals as goal
 pub loop-lo-preserved : goal.loop-lo-preserved
 loop-lo-preserved c =
     let classes : c.classes-classes.result ≡ c.args.seg.now.grid.classes = c.classes-classes.ensures.value ∙ ap
-        (λ x. x.classes) c.grid.ensures.value in
+    (λ x. x.classes) c.grid.ensures.value in
     let places : length c.halves_above.new.out ≡ c.classes-classes.result = c.halves_above.ensures.length ∙ c.loop-lo.invariant.places in
     record {
       same = row_more c.classes-classes.result c.loop-lo.lo (halves_of c.args.seg.now) (count_of c.args.found.now.cells)

@@ -10,7 +10,7 @@ take_samples-requires-clause-none g c κs within =
     let grid = c.new-classifier.result.grid in
     let gain = c.new-classifier.result.gain in
     subst (λ (start : ℕ). HasCountedSamples (λ (t : Counts). t.classes)
-        (λ (t : Counts). MAX_TOTAL - total_of t.cells) HoldsPairs start grid gain c.in_ok-count.count [])
+    (λ (t : Counts). MAX_TOTAL - total_of t.cells) HoldsPairs start grid gain c.in_ok-count.count [])
     (ap (λ (t : Counts). MAX_TOTAL - total_of t.cells) c.in_ok-pairs.ensures)
     (c.in_ok-count.ensures grid gain (ap (λ x. x.classes) c.new-classifier.ensures.grid ∙ sym c.classes-classes.ensures.value))
 

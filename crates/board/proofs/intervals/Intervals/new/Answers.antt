@@ -10,6 +10,6 @@ loop-preserved c = record {
   each = λ k d m. subst (λ l. get_or l k d ≡ empty_at c.args.grid.now c.args.gauge 0 (16 * c.args.block))
       (sym c.push_reserved.ensures.items)
       (each_pushed (λ (x : SegmentValue). x ≡ empty_at c.args.grid.now c.args.gauge 0
-          (16 * c.args.block)) c.loop.slots.items c.in_ok-new.field-0 c.loop.counter
-          (omega (arith, c.loop.invariant.long, c.loop.slots.ok.0)) c.loop.invariant.each c.in_ok-new.ensures.empty k d m);
+      (16 * c.args.block)) c.loop.slots.items c.in_ok-new.field-0 c.loop.counter
+      (omega (arith, c.loop.invariant.long, c.loop.slots.ok.0)) c.loop.invariant.each c.in_ok-new.ensures.empty k d m);
 }

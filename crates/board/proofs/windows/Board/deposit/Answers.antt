@@ -10,8 +10,13 @@ use Rattle.board.proofs.windows.Board.deposit.Goals as goal
 
 pub invariant_of-self : goal.invariant_of-self
 invariant_of-self c =
-    let b : BoardValue = record { grid = c.self.inside.grid; block = c.self.inside.block; rows = c.self.inside.rows.items; arrivals =
-        c.self.inside.arrivals.items } in
+    let b : BoardValue = record {
+      grid = c.self.inside.grid;
+      block = c.self.inside.block;
+      rows = c.self.inside.rows.items;
+      arrivals =
+          c.self.inside.arrivals.items;
+    } in
     let seg = c.args.seg.now in
     let n = c.name-name.result in
     let is : n ≡ name_of seg = c.name-name.ensures.value in
@@ -23,18 +28,25 @@ invariant_of-self c =
     let number : Numbered b.block (length b.rows) (get_or b.rows seg.gauge row).start (name_of seg) (Some c.in-Some.number) =
     subst (λ (m : Name). Numbered b.block (length b.rows) (get_or b.rows m.gauge row).start m (Some c.in-Some.number)) is
     (number_there b n c.index.result.now row _ _ b.block c.in-Some.number there c.start-start.ensures
-        (c.len-2.ensures ∙ c.self.inside.rows.ok.0) c.index.ensures c.in-Some.ensures) in
+    (c.len-2.ensures ∙ c.self.inside.rows.ok.0) c.index.ensures c.in-Some.ensures) in
     let double : Doubled (get_or b.rows seg.gauge row).slots c.place.new.self.slots seg c.in-Some-place.interval = subst
-        (λ (r : Row). Doubled r.slots c.place.new.self.slots seg c.in-Some-place.interval) at c.in-Some-place.ensures.placing in
+    (λ (r : Row). Doubled r.slots c.place.new.self.slots seg c.in-Some-place.interval) at c.in-Some-place.ensures.placing in
     let same : set b.rows n.gauge c.place.new.self ≡ b.rows = ap (λ (m : Name). set b.rows m.gauge c.place.new.self) is
-        ∙ row_same b.rows seg.gauge c.place.new.self row start double.same in
-    (c.self.invariant.0, subst (λ r. IsBoard (record { grid = b.grid; block = b.block; rows = r; arrivals = b.arrivals }))
-        (sym same) c.self.invariant.1)
+    ∙ row_same b.rows seg.gauge c.place.new.self row start double.same in (
+      c.self.invariant.0,
+      subst (λ r. IsBoard (record { grid = b.grid; block = b.block; rows = r; arrivals = b.arrivals }))
+          (sym same) c.self.invariant.1,
+    )
 
 pub push_reserved-requires : goal.push_reserved-requires
 push_reserved-requires c =
-    let b : BoardValue = record { grid = c.self.inside.grid; block = c.self.inside.block; rows = c.self.inside.rows.items; arrivals =
-        c.self.inside.arrivals.items } in
+    let b : BoardValue = record {
+      grid = c.self.inside.grid;
+      block = c.self.inside.block;
+      rows = c.self.inside.rows.items;
+      arrivals =
+          c.self.inside.arrivals.items;
+    } in
     let seg = c.args.seg.now in
     let n = c.name-name.result in
     let is : n ≡ name_of seg = c.name-name.ensures.value in
@@ -46,19 +58,24 @@ push_reserved-requires c =
     let number : Numbered b.block (length b.rows) (get_or b.rows seg.gauge row).start (name_of seg) (Some c.in-Some.number) =
     subst (λ (m : Name). Numbered b.block (length b.rows) (get_or b.rows m.gauge row).start m (Some c.in-Some.number)) is
     (number_there b n c.index.result.now row _ _ b.block c.in-Some.number there c.start-start.ensures
-        (c.len-2.ensures ∙ c.self.inside.rows.ok.0) c.index.ensures c.in-Some.ensures) in
+    (c.len-2.ensures ∙ c.self.inside.rows.ok.0) c.index.ensures c.in-Some.ensures) in
     let kind : seg.grid ≡ b.grid = c.requires.grid ∙ sym (ap (λ (v : BoardValue). v.grid) c.self.view_is) in
     let fits = can_place b seg row c.in-Some.number c.self.invariant.1 known number in
     let put : Placed (get_or b.rows seg.gauge row).start b.block (get_or b.rows seg.gauge row).slots c.place.new.self.slots seg = subst
-        (λ (r : Row). Placed r.start b.block r.slots c.place.new.self.slots seg) at c.in-None.ensures.placing in
+    (λ (r : Row). Placed r.start b.block r.slots c.place.new.self.slots seg) at c.in-None.ensures.placing in
     let room : length b.arrivals + 1 ≤ 16 * length b.rows = placed_room b c.in-Some.number seg c.place.new.self row
-        (b.arrivals ++ name_of seg ∷ []) known start c.self.invariant.1 kind fits put refl in
+    (b.arrivals ++ name_of seg ∷ []) known start c.self.invariant.1 kind fits put refl in
     omega (arith, room, c.self.invariant.0, c.self.inside.rows.ok.0, c.self.inside.arrivals.ok.0)
 
 pub invariant_of-self-in-None : goal.invariant_of-self-in-None
 invariant_of-self-in-None c =
-    let b : BoardValue = record { grid = c.self.inside.grid; block = c.self.inside.block; rows = c.self.inside.rows.items; arrivals =
-        c.self.inside.arrivals.items } in
+    let b : BoardValue = record {
+      grid = c.self.inside.grid;
+      block = c.self.inside.block;
+      rows = c.self.inside.rows.items;
+      arrivals =
+          c.self.inside.arrivals.items;
+    } in
     let seg = c.args.seg.now in
     let n = c.name-name.result in
     let is : n ≡ name_of seg = c.name-name.ensures.value in
@@ -70,23 +87,33 @@ invariant_of-self-in-None c =
     let number : Numbered b.block (length b.rows) (get_or b.rows seg.gauge row).start (name_of seg) (Some c.in-Some.number) =
     subst (λ (m : Name). Numbered b.block (length b.rows) (get_or b.rows m.gauge row).start m (Some c.in-Some.number)) is
     (number_there b n c.index.result.now row _ _ b.block c.in-Some.number there c.start-start.ensures
-        (c.len-2.ensures ∙ c.self.inside.rows.ok.0) c.index.ensures c.in-Some.ensures) in
+    (c.len-2.ensures ∙ c.self.inside.rows.ok.0) c.index.ensures c.in-Some.ensures) in
     let kind : seg.grid ≡ b.grid = c.requires.grid ∙ sym (ap (λ (v : BoardValue). v.grid) c.self.view_is) in
     let fits = can_place b seg row c.in-Some.number c.self.invariant.1 known number in
     let put : Placed (get_or b.rows seg.gauge row).start b.block (get_or b.rows seg.gauge row).slots c.place.new.self.slots seg = subst
-        (λ (r : Row). Placed r.start b.block r.slots c.place.new.self.slots seg) at c.in-None.ensures.placing in
+    (λ (r : Row). Placed r.start b.block r.slots c.place.new.self.slots seg) at c.in-None.ensures.placing in
     let grown : c.push_reserved.new.self.items ≡ b.arrivals ++ name_of seg ∷ [] = c.push_reserved.ensures.items ∙ ap
-        (λ (m : Name). b.arrivals ++ m ∷ []) is in (
+    (λ (m : Name). b.arrivals ++ m ∷ []) is in (
       omega (arith, c.self.invariant.0, c.push_reserved.ensures.capacity),
-      subst (λ (m : Name). IsBoard (record { grid = b.grid; block = b.block; rows = set b.rows m.gauge c.place.new.self; arrivals =
-          c.push_reserved.new.self.items })) (sym is)
+      subst (λ (m : Name). IsBoard (record {
+        grid = b.grid;
+        block = b.block;
+        rows = set b.rows m.gauge c.place.new.self;
+        arrivals =
+            c.push_reserved.new.self.items;
+      })) (sym is)
           (placed_board b c.in-Some.number seg c.place.new.self row c.push_reserved.new.self.items known start c.self.invariant.1 kind fits put grown),
     )
 
 pub returns-in-Some-place-clause-answer : goal.returns-in-Some-place-clause-answer
 returns-in-Some-place-clause-answer c =
-    let b : BoardValue = record { grid = c.self.inside.grid; block = c.self.inside.block; rows = c.self.inside.rows.items; arrivals =
-        c.self.inside.arrivals.items } in
+    let b : BoardValue = record {
+      grid = c.self.inside.grid;
+      block = c.self.inside.block;
+      rows = c.self.inside.rows.items;
+      arrivals =
+          c.self.inside.arrivals.items;
+    } in
     let seg = c.args.seg.now in
     let n = c.name-name.result in
     let is : n ≡ name_of seg = c.name-name.ensures.value in
@@ -98,23 +125,42 @@ returns-in-Some-place-clause-answer c =
     let number : Numbered b.block (length b.rows) (get_or b.rows seg.gauge row).start (name_of seg) (Some c.in-Some.number) =
     subst (λ (m : Name). Numbered b.block (length b.rows) (get_or b.rows m.gauge row).start m (Some c.in-Some.number)) is
     (number_there b n c.index.result.now row _ _ b.block c.in-Some.number there c.start-start.ensures
-        (c.len-2.ensures ∙ c.self.inside.rows.ok.0) c.index.ensures c.in-Some.ensures) in
+    (c.len-2.ensures ∙ c.self.inside.rows.ok.0) c.index.ensures c.in-Some.ensures) in
     let double : Doubled (get_or b.rows seg.gauge row).slots c.place.new.self.slots seg c.in-Some-place.interval = subst
-        (λ (r : Row). Doubled r.slots c.place.new.self.slots seg c.in-Some-place.interval) at c.in-Some-place.ensures.placing in
+    (λ (r : Row). Doubled r.slots c.place.new.self.slots seg c.in-Some-place.interval) at c.in-Some-place.ensures.placing in
     let same : set b.rows n.gauge c.place.new.self ≡ b.rows = ap (λ (m : Name). set b.rows m.gauge c.place.new.self) is
-        ∙ row_same b.rows seg.gauge c.place.new.self row start double.same in
+    ∙ row_same b.rows seg.gauge c.place.new.self row start double.same in
     let found = doubled b seg c.place.new.self.slots c.in-Some-place.interval row c.self.invariant.1 known double in
-    let whole : Answers b (record { grid = b.grid; block = b.block; rows = set b.rows n.gauge c.place.new.self; arrivals =
-        b.arrivals }) seg (Double c.in-Some-place.interval) =
-    (number_fits b (name_of seg) row c.in-Some.number known number, found.0, found.1, ap
-        (λ r. record { grid = b.grid; block = b.block; rows = r; arrivals = b.arrivals }) same) in
-    subst (λ v. Answers v (record { grid = b.grid; block = b.block; rows = set b.rows n.gauge c.place.new.self; arrivals =
-        b.arrivals }) seg (Double c.in-Some-place.interval)) c.self.view_is whole
+    let whole : Answers b (record {
+      grid = b.grid;
+      block = b.block;
+      rows = set b.rows n.gauge c.place.new.self;
+      arrivals =
+          b.arrivals;
+    }) seg (Double c.in-Some-place.interval) = (
+      number_fits b (name_of seg) row c.in-Some.number known number,
+      found.0,
+      found.1,
+      ap
+          (λ r. record { grid = b.grid; block = b.block; rows = r; arrivals = b.arrivals }) same,
+    ) in
+    subst (λ v. Answers v (record {
+      grid = b.grid;
+      block = b.block;
+      rows = set b.rows n.gauge c.place.new.self;
+      arrivals =
+          b.arrivals;
+    }) seg (Double c.in-Some-place.interval)) c.self.view_is whole
 
 pub returns-in-Some-place-clause-carries : goal.returns-in-Some-place-clause-carries
 returns-in-Some-place-clause-carries c =
-    let b : BoardValue = record { grid = c.self.inside.grid; block = c.self.inside.block; rows = c.self.inside.rows.items; arrivals =
-        c.self.inside.arrivals.items } in
+    let b : BoardValue = record {
+      grid = c.self.inside.grid;
+      block = c.self.inside.block;
+      rows = c.self.inside.rows.items;
+      arrivals =
+          c.self.inside.arrivals.items;
+    } in
     let seg = c.args.seg.now in
     let n = c.name-name.result in
     let is : n ≡ name_of seg = c.name-name.ensures.value in
@@ -126,21 +172,26 @@ returns-in-Some-place-clause-carries c =
     let number : Numbered b.block (length b.rows) (get_or b.rows seg.gauge row).start (name_of seg) (Some c.in-Some.number) =
     subst (λ (m : Name). Numbered b.block (length b.rows) (get_or b.rows m.gauge row).start m (Some c.in-Some.number)) is
     (number_there b n c.index.result.now row _ _ b.block c.in-Some.number there c.start-start.ensures
-        (c.len-2.ensures ∙ c.self.inside.rows.ok.0) c.index.ensures c.in-Some.ensures) in
+    (c.len-2.ensures ∙ c.self.inside.rows.ok.0) c.index.ensures c.in-Some.ensures) in
     let double : Doubled (get_or b.rows seg.gauge row).slots c.place.new.self.slots seg c.in-Some-place.interval = subst
-        (λ (r : Row). Doubled r.slots c.place.new.self.slots seg c.in-Some-place.interval) at c.in-Some-place.ensures.placing in
+    (λ (r : Row). Doubled r.slots c.place.new.self.slots seg c.in-Some-place.interval) at c.in-Some-place.ensures.placing in
     let same : set b.rows n.gauge c.place.new.self ≡ b.rows = ap (λ (m : Name). set b.rows m.gauge c.place.new.self) is
-        ∙ row_same b.rows seg.gauge c.place.new.self row start double.same in
+    ∙ row_same b.rows seg.gauge c.place.new.self row start double.same in
     λ gain w all one. subst (λ r. Carries (record { grid = b.grid; block = b.block; rows = r; arrivals = b.arrivals }) gain w) (sym same)
-        (subst (λ v. Carries v gain w) (sym c.self.view_is) all)
+    (subst (λ v. Carries v gain w) (sym c.self.view_is) all)
 
 pub returns-in-Some-place-clause-board : goal.returns-in-Some-place-clause-board
 returns-in-Some-place-clause-board c = (invariant_of-self c).1
 
 pub returns-in-None-clause-carries : goal.returns-in-None-clause-carries
 returns-in-None-clause-carries c =
-    let b : BoardValue = record { grid = c.self.inside.grid; block = c.self.inside.block; rows = c.self.inside.rows.items; arrivals =
-        c.self.inside.arrivals.items } in
+    let b : BoardValue = record {
+      grid = c.self.inside.grid;
+      block = c.self.inside.block;
+      rows = c.self.inside.rows.items;
+      arrivals =
+          c.self.inside.arrivals.items;
+    } in
     let seg = c.args.seg.now in
     let n = c.name-name.result in
     let is : n ≡ name_of seg = c.name-name.ensures.value in
@@ -152,16 +203,21 @@ returns-in-None-clause-carries c =
     let number : Numbered b.block (length b.rows) (get_or b.rows seg.gauge row).start (name_of seg) (Some c.in-Some.number) =
     subst (λ (m : Name). Numbered b.block (length b.rows) (get_or b.rows m.gauge row).start m (Some c.in-Some.number)) is
     (number_there b n c.index.result.now row _ _ b.block c.in-Some.number there c.start-start.ensures
-        (c.len-2.ensures ∙ c.self.inside.rows.ok.0) c.index.ensures c.in-Some.ensures) in
+    (c.len-2.ensures ∙ c.self.inside.rows.ok.0) c.index.ensures c.in-Some.ensures) in
     let kind : seg.grid ≡ b.grid = c.requires.grid ∙ sym (ap (λ (v : BoardValue). v.grid) c.self.view_is) in
     let fits = can_place b seg row c.in-Some.number c.self.invariant.1 known number in
     let put : Placed (get_or b.rows seg.gauge row).start b.block (get_or b.rows seg.gauge row).slots c.place.new.self.slots seg = subst
-        (λ (r : Row). Placed r.start b.block r.slots c.place.new.self.slots seg) at c.in-None.ensures.placing in
+    (λ (r : Row). Placed r.start b.block r.slots c.place.new.self.slots seg) at c.in-None.ensures.placing in
     let grown : c.push_reserved.new.self.items ≡ b.arrivals ++ name_of seg ∷ [] = c.push_reserved.ensures.items ∙ ap
-        (λ (m : Name). b.arrivals ++ m ∷ []) is in
+    (λ (m : Name). b.arrivals ++ m ∷ []) is in
     λ gain w all one.
-    subst (λ (m : Name). Carries (record { grid = b.grid; block = b.block; rows = set b.rows m.gauge c.place.new.self; arrivals =
-        c.push_reserved.new.self.items }) gain w) (sym is)
+    subst (λ (m : Name). Carries (record {
+      grid = b.grid;
+      block = b.block;
+      rows = set b.rows m.gauge c.place.new.self;
+      arrivals =
+          c.push_reserved.new.self.items;
+    }) gain w) (sym is)
     (placed_carries b c.in-Some.number seg c.place.new.self row c.push_reserved.new.self.items known start c.self.invariant.1 kind fits put grown gain w (subst (λ v. Carries v gain w) (sym c.self.view_is) all) one)
 
 pub returns-in-None-clause-board : goal.returns-in-None-clause-board

@@ -16,7 +16,7 @@ returns-clause-holds g c = λ start grid gain w are.
     let self = c.args.self in
     let holds = g.C.RangeCounter.holds in
     let read : HasCounted (points (history grid gain w)) c.match-finish.run.live (holds c.match-finish.counter) =
-        elim c.match-finish.branch [
+    elim c.match-finish.branch [
       | in-Some last ↦ rw (last.run-is, last.counter-is) (all_points _ _ holds start grid gain self w
           (last.in-Some.point ∷ []) last.push.new.self.live last.push.new.counter last.in-Some.ensures.closed last.push.ensures.counted are)
       | in_default last ↦ rw (last.run-is, last.counter-is)
