@@ -1,5 +1,5 @@
-ghost use Rattle.std.specs.Prelude.{◌≡◌, ◌+◌, ◌*◌, ◌-◌, ◌^◌, ◌<◌, ◌≤◌, ◌↔◌, ◌++◌, ◌∷◌, ◌⊎◌, [], All, IsTrue, length, take};
-ghost use Rattle.turning_points.specs.Points.{is_turn, points};
+ghost use Rattle.std.specs.Prelude.{◌≡◌, ◌≢◌, ◌+◌, ◌*◌, ◌-◌, ◌^◌, ◌<◌, ◌≤◌, ◌↔◌, ◌++◌, ◌∷◌, ◌⊎◌, [], All, IsTrue, length, take};
+ghost use Rattle.turning_points.specs.Points.{IsBetween, is_turn, points};
 ghost use Rattle.turning_points.specs.Pairs.{range};
 ghost use Rattle.tally.specs.Counts.{count_of, total_of, HasGreatestRoom};
 ghost use Rattle.four_point.specs.Residue.{AddsCycles, HasNoCycleBelow, IsResidue, IsResidueBelow};
@@ -19,6 +19,17 @@ fn is_cycle(a: u16, b: u16, c: u16, d: u16) -> bool
     a.min(d) <= b.min(c) && b.max(c) <= a.max(d)
 }
 
+/// Whether a level goes on in the direction from a point to the last one. Each of the three differs
+/// from the next, so that two comparisons tell it.
+#[inline(always)]
+fn goes_on(before: u16, last: u16, level: u16) -> bool
+    requires direction { before ≢ last }
+    requires change { last ≢ level }
+    ensures { IsTrue result ↔ IsBetween before last level }
+{
+    (before < last) == (last < level)
+}
+
 /// Puts a level behind the first `len` levels, a list of points, and says how many points there are
 /// then.
 #[inline(always)]
@@ -36,7 +47,7 @@ fn extend(levels: &mut [u16], len: usize, level: u16) -> usize
     if levels[len - 1] == level {
         return len;
     }
-    if len >= 2 && is_between(levels[len - 2], levels[len - 1], level) {
+    if len >= 2 && goes_on(levels[len - 2], levels[len - 1], level) {
         levels[len - 1] = level;
         return len;
     }
