@@ -12,7 +12,7 @@ use Rattle.board.specs.Deposits.{Answers}
 use Rattle.block_pool.specs.Units.{CountedValue, PoolValue}
 use Rattle.flow.specs.Flow.{has, hits}
 use Rattle.flow.proofs.Counting.{hits-append, has_inside}
-use Rattle.board.specs.Board.{BoardValue, Carries, StandsForNamed, SameBoard, Fits}
+use Rattle.board.specs.Board.{BoardValue, Carries, StandsIn, SameBoard, Fits}
 use Rattle.deposits.specs.Deposited.{Each, unit_name, unit_names, IsOfPool, IsGood, SamePool, UnitStands, Came, Stepped, Deposited}
 use Rattle.deposits.specs.Deposited.Each.{none, both}
 
@@ -111,7 +111,7 @@ deposited_more b c d p q r us u h s = record {
 -- what one deposit answers
 pub stepped : (b c : BoardValue) (p q : PoolValue) (u : CountedValue) (seg : SegmentValue) (answer : Deposit) → seg ≡ u.segment
     → Answers b c seg answer → SameBoard b c
-    → ((gain : ℕ → GainValue) (w : ℕ → List ℤ) → Carries b gain w → StandsForNamed seg (gain seg.gauge) (w seg.gauge) → Carries c gain w)
+    → ((gain : ℕ → GainValue) (w : ℕ → List ℤ) → Carries b gain w → StandsIn seg (gain seg.gauge) (w seg.gauge) → Carries c gain w)
     → q ≡ record { units = p.units; block = p.block; grid = p.grid; inside = p.inside + 1 } → Stepped b c p q u
 stepped b c p q u seg answer e a s carries g = record {
   board = s;
@@ -122,7 +122,7 @@ stepped b c p q u seg answer e a s carries g = record {
         ap (λ (v : PoolValue). v.grid) g;
   };
   came = λ fits free unit room. came_by b c p q u seg answer e a fits free
-      (λ gain w h k. carries gain w h (subst (λ x. StandsForNamed x (gain x.gauge) (w x.gauge)) (sym e) k)) (ap (λ (v : PoolValue). v.inside) g);
+      (λ gain w h k. carries gain w h (subst (λ x. StandsIn x (gain x.gauge) (w x.gauge)) (sym e) k)) (ap (λ (v : PoolValue). v.inside) g);
 }
   where
     one : {P : CountedValue → Type 0} (u : CountedValue) → Each P (u ∷ []) → P u

@@ -12,7 +12,7 @@ use Rattle.segment_rules.specs.declared.name.Name.{Name}
 use Rattle.segment.specs.Name.{name_of}
 use Rattle.block_pool.specs.Units.{CountedValue, PoolValue}
 use Rattle.flow.specs.Flow.{hits}
-use Rattle.board.specs.Board.{BoardValue, Carries, StandsForNamed, SameBoard, Fits}
+use Rattle.board.specs.Board.{BoardValue, Carries, StandsIn, SameBoard, Fits}
 
 pub data Each {A : Type 0} (P : A → Type 0) : List A → Type 0 where
   none : Each P []
@@ -41,7 +41,7 @@ pub record SamePool (old new : PoolValue) : Type 0 where
   pub grid : new.grid ≡ old.grid
 
 abbrev pub UnitStands : (ℕ → GainValue) → (ℕ → List ℤ) → CountedValue → Type 0
-UnitStands gain w u = StandsForNamed u.segment (gain u.segment.gauge) (w u.segment.gauge)
+UnitStands gain w u = StandsIn u.segment (gain u.segment.gauge) (w u.segment.gauge)
 
 -- each is placed, is in the pool again, and the board carries what they stand for
 pub record Came (b c : BoardValue) (p q : PoolValue) (us : List CountedValue) : Type 0 where
