@@ -5,14 +5,14 @@
 --   AreArrivals        each block of the round once, and those of one gauge through one worker in order
 --   start, feeds, counts   a run that begins with the round, and a schedule that places a list
 --   IsDone             nothing is unread, in a ring or counted
---   ArrivalsAreReached, ReachedAreArrivals    the laws
+--   ArrivalsAreReached, ReachedAreArrivals, ArrivalsAscend    the laws
 use Rattle.std.specs.Prelude.{◌≡◌, ◌+◌, ◌-◌, ◌*◌, ◌/◌, ◌%◌, ◌<◌, ◌≤◌, ◌&&◌, ℕ, zero, suc, ℤ, List, [], ◌∷◌, ◌++◌, length, min, cond, eqb, ltb}
 use Rattle.std.specs.List.{filter}
 use Rattle.segment_rules.specs.declared.name.Name.{Name}
 use Rattle.block_pool.specs.Units.{FilledValue}
 use Rattle.flow.specs.Flow.{Flow, Event, named, run, AllAllowed}
 use Rattle.flow.specs.Flow.Event.{Feed, Count, Deposit}
-use Rattle.flow.specs.Kept.{Every}
+use Rattle.flow.specs.Kept.{Every, Ascends}
 
 abbrev pub names_of : List FilledValue → List Name
 names_of [] = []
@@ -106,3 +106,8 @@ ReachedAreArrivals = (block workers gauges : ℕ) (r : Round) (es : List Event) 
     → IsRound block workers r gauges → AreRoundEvents es → AllAllowed block workers es (start block workers r)
     → IsDone gauges workers (run block workers es (start block workers r))
     → AreArrivals block workers r gauges (run block workers es (start block workers r)).placed
+
+-- the arrivals of one gauge through one worker, each behind the one before it
+abbrev pub ArrivalsAscend : Type 0
+ArrivalsAscend = (block workers gauges : ℕ) (r : Round) (l : List Name) → 0 < block → AreArrivals block workers r gauges l
+    → (g v : ℕ) → g < gauges → v < workers → Ascends (through block workers r g v l)

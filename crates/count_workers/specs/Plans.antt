@@ -3,13 +3,15 @@
 --   IsNew    rounds that nothing was read in
 use Rattle.std.specs.Prelude.{◌≡◌, ◌≤◌, [], length}
 use Rattle.block_pool.specs.declared.TheConstants.{MAX_BLOCK}
+use Rattle.board.specs.declared.TheConstants.{MAX_GAUGES}
+use Rattle.round_making.specs.declared.TheConstants.{MAX_WORKERS}
 use Rattle.round_making.specs.Resting.{PreparedValue}
 use Rattle.count_workers.specs.declared.plan.Plan.{Plan}
 
 pub record IsPlan (p : Plan) : Type 0 where
-  pub gauges : (1 ≤ p.gauges) × (p.gauges ≤ 32)
-  pub block : (1 ≤ p.block) × (p.block ≤ 4096)
-  pub workers : (1 ≤ p.workers) × (p.workers ≤ 8)
+  pub gauges : (1 ≤ p.gauges) × (p.gauges ≤ MAX_GAUGES)
+  pub block : (1 ≤ p.block) × (p.block ≤ MAX_BLOCK)
+  pub workers : (1 ≤ p.workers) × (p.workers ≤ MAX_WORKERS)
 
 pub record IsNew (plan : Plan) (p : PreparedValue) : Type 0 where
   pub grid : p.grid ≡ plan.grid

@@ -21,4 +21,5 @@ pub use lane_ends::End;
 pub use lane_loans::Lane;
 pub use plan::Plan;
 pub use prepared::Prepared;
+pub use round_making::MAX_WORKERS;
 pub use std::alloc::AllocError as OutOfMemory;

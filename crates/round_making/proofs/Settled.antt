@@ -617,6 +617,10 @@ module _ {C : Type 0} (tells : Type 0) (left : C → List ℕ) (faults : C → �
       arrivals = subst (AreArrivals p0.block workers flow n) (sym arrivals3)
           (arrived p0.block p0.grid n workers (at_of ls0) to desk given s.collected.lists s.collected.units are_taken flow
           (λ g m. refl) end_at);
+      once = λ g i m. ap (hits g i) arrivals3
+          ∙ taken_once p0.block p0.grid n workers (at_of ls0) to desk given s.collected.lists s.collected.units are_taken g i m
+          ∙ ap (λ b. between (at_of ls0 g) b i)
+          (sym (map_at (λ (x : Lane C). x.at) ls2 g 0 l (omega (arith, m, lanes3)) ∙ (back_at g m).at));
     }
 
 -- after a round another may be made of the lanes

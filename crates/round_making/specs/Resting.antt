@@ -1,11 +1,18 @@
 -- What contracts see of prepared rounds, and how everything stands between two rounds.
+--   PreparedValue, value_of    what is seen; the rings by worker and gauge
+--   RestingReader, RestingWorker, RestingReturn, IsEven    the parts between two rounds
+--   IsResting                  all of them: the units are in the pool, and what was fed was taken
+--   IsSameBut                  the same but for the board
 use Rattle.std.specs.Prelude.{◌≡◌, ◌*◌, ◌<◌, ◌≤◌, ℕ, List, [], length, map, slice_index_or, vec_len, vec_capacity, None}
 use Rattle.calibration.specs.Grid.{GridValue}
 use Rattle.gauge_ring.specs.declared.taker.Taker.{Taker}
 use Rattle.gauge_ring.specs.declared.feeder.Feeder.{Feeder}
 use Rattle.gauge_ring.specs.Ends.{fed, taken}
 use Rattle.block_pool.specs.Units.{PoolValue}
+use Rattle.block_pool.specs.declared.TheConstants.{MAX_BLOCK}
+use Rattle.board.specs.declared.TheConstants.{MAX_GAUGES}
 use Rattle.board.specs.Board.{BoardValue}
+use Rattle.round_making.specs.declared.TheConstants.{MAX_WORKERS}
 use Rattle.block_workers.specs.declared.item.Item.{Item}
 use Rattle.block_workers.specs.declared.worker.Worker.{Worker}
 use Rattle.block_workers.specs.declared.jobs.Reader.{Reader}
@@ -57,9 +64,9 @@ module _ {C : Type 0} where
 
   pub record IsResting (p : PoolValue) (b : BoardValue) (readers : List (Reader C)) (workers : List Worker)
       (returns : List Return) : Type 0 where
-    pub gauges_few : (1 ≤ length readers) × (length readers ≤ 32)
-    pub block : (1 ≤ p.block) × (p.block ≤ 4096)
-    pub workers_few : (1 ≤ length workers) × (length workers ≤ 8)
+    pub gauges_few : (1 ≤ length readers) × (length readers ≤ MAX_GAUGES)
+    pub block : (1 ≤ p.block) × (p.block ≤ MAX_BLOCK)
+    pub workers_few : (1 ≤ length workers) × (length workers ≤ MAX_WORKERS)
     pub pool : (p.units ≡ 16 * length readers) × (p.inside ≡ 16 * length readers)
     pub board : (b.grid ≡ p.grid) × (b.block ≡ p.block) × (length b.rows ≡ length readers)
     pub each_reader : (g : ℕ) (d : Reader C) → g < length readers → RestingReader p (length workers) g (slice_index_or readers g d)

@@ -1,14 +1,19 @@
 -- What a round does.
+--   ring_at, RingDone    what was taken from a ring, and that it is its blocks of the lane and the mark
+--   LaneDone             where a lane stands, how it ended, and that its source is back
+--   FrontDone            what the front of a lane stands for
+--   flow_of              the round of the flow that the law on arrivals speaks of
+--   RoundDone            all that a round does
 use Rattle.std.specs.Prelude.{◌≡◌, ◌≢◌, ◌+◌, ◌-◌, ◌*◌, ◌<◌, ◌≤◌, ◌++◌, ℕ, pos, List, [], length, map, take, replicate, Some, slice_index_or}
 use Rattle.outside.specs.Fault.{Rose}
 use Rattle.recording.specs.declared.TheConstants.{MAX_SAMPLES}
 use Rattle.recording.specs.Samples.{samples}
 use Rattle.lane_ends.specs.declared.end.End.TheVariants.{More, ReadFault}
 use Rattle.lane_ends.specs.Ends.{Gives}
-use Rattle.segment.specs.Segment.{SegmentValue}
+use Rattle.segment.specs.Segment.{SegmentValue, Stands}
 use Rattle.segment.specs.Name.{name_of}
-use Rattle.segment.specs.Segment.{Stands}
-use Rattle.flow.specs.Flow.{named}
+use Rattle.flow.specs.Flow.{named, hits}
+use Rattle.flow.specs.Kept.{between}
 use Rattle.block_pool.specs.Units.{FilledValue}
 use Rattle.board.specs.Board.{IsFront}
 use Rattle.arrivals.specs.Arrivals.{Round as RoundOfFlow, AreArrivals, IsRound, fed_to, names_of}
@@ -69,3 +74,5 @@ module _ {C : Type 0} where
     pub rings : (g v : ℕ) → g < old.gauges → v < old.workers → RingDone old.block old.workers (flow_of lanes_old lanes_new) old new g v
     pub flow : IsRound old.block old.workers (flow_of lanes_old lanes_new) old.gauges
     pub arrivals : AreArrivals old.block old.workers (flow_of lanes_old lanes_new) old.gauges new.board.arrivals
+    -- each sample that a lane gave is named once, and no other
+    pub once : (g i : ℕ) → g < old.gauges → hits g i new.board.arrivals ≡ between (at_of lanes_old g) (at_of lanes_new g) i

@@ -10,3 +10,6 @@
 mod making;
 
 pub use making::make_round;
+
+/// The most workers of a round.
+pub const MAX_WORKERS: u8 = 8;
