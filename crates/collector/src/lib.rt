@@ -10,6 +10,8 @@
 mod collecting;
 mod running;
 mod settling;
+#[cfg(test)]
+mod tests;
 
 pub use collecting::{Return, collect};
 pub use running::run_round;

@@ -7,5 +7,7 @@
 #![tactic(auto)]
 
 mod depositing;
+#[cfg(test)]
+mod tests;
 
 pub use depositing::deposit_one;
