@@ -1,14 +1,14 @@
 -- An image with the head has no fault of its head.
 use Rattle.std.proofs.Common.{◌≡◌, ℕ, ◌+◌, ◌-◌, ◌*◌, ◌<◌, ◌≤◌, List, [], ◌∷◌, ◌++◌, length, take, drop, slice_range, Option, Some, None, refl, sym, ap, subst, ◌∙◌, arith, append_assoc, length-append}
 use Rattle.std.specs.Prelude.{All}
-use Rattle.std.proofs.lemmas.List.{take_at}
+use Rattle.std.proofs.lemmas.List.{take_at, drop_at}
 use Rattle.std.proofs.lemmas.List.Elements.{All-head, All-tail}
 use Rattle.calibration.specs.Gain.{GainValue, IsGain}
 use Rattle.recording.specs.declared.head.Head.{Head}
 use Rattle.segment_bytes.specs.declared.layout.Layout.{Layout}
 use Rattle.segment_bytes.specs.declared.layout.Layout.TheVariants.{One, Two}
 use Rattle.store_head.specs.Head.{HeadValue, IsHead, IsRecorded, version_of, front, numbers, gauge, gauges, head_of, start_of}
-use Rattle.store_head.specs.Judging.{or_else, unless, front_fault, gauge_fault, gauge_at, gauges_fault, head_fault, layout_in}
+use Rattle.store_head.specs.Judging.{or_else, unless, front_fault, gauge_fault, gauge_at, gauges_fault, head_fault, layout_in, recorded}
 use Rattle.store_head.proofs.Judged.{none_or, none_unless, atmost_true, is_front, is_gauge}
 use Rattle.store_head.proofs.Gauges.{slice_range-middle}
 
@@ -55,3 +55,27 @@ no_fault h rest image is whole some =
     let first : slice_range image 0 22 ≡ front l s = ap (take 22) grouped ∙ take_at (front l s) (gauges h.heads s.gains ++ rest) 22 refl in
     none_or _ _ (none_or _ _ (none_unless _ _ (atmost_true 22 (length image) (omega (arith, size)))) (ap (front_fault s (length image)) first ∙ is_front l s (length image) is.setup is.narrow size))
     (gauges_pass 0 h.heads s.gains (front l s) rest image grouped refl is.same is.each is.setup.gains)
+
+-- the heads are told by their bytes
+pub heads_told : (hs hs2 : List Head) (gs : List GainValue) (t t2 : List ℕ) → length hs ≡ length gs → length hs2 ≡ length gs
+    → All IsRecorded hs → All IsRecorded hs2 → All IsGain gs → gauges hs gs ++ t ≡ gauges hs2 gs ++ t2 → hs ≡ hs2
+heads_told [] [] gs t t2 e e2 r r2 i same = refl
+heads_told [] (h2 ∷ hs2) gs t t2 e e2 r r2 i same = absurd (omega (arith, e, e2))
+heads_told (h ∷ hs) [] gs t t2 e e2 r r2 i same = absurd (omega (arith, e, e2))
+heads_told (h ∷ hs) (h2 ∷ hs2) [] t t2 e e2 r r2 i same = absurd (omega (arith, e))
+heads_told (h ∷ hs) (h2 ∷ hs2) (x ∷ gs) t t2 e e2 r r2 i same =
+    let rh = All-head IsRecorded h hs r in
+    let rh2 = All-head IsRecorded h2 hs2 r2 in
+    let ix = All-head IsGain x gs i in
+    let grouped : gauge h x ++ (gauges hs gs ++ t) ≡ gauge h2 x ++ (gauges hs2 gs ++ t2) =
+        sym (append_assoc (gauge h x) (gauges hs gs) t) ∙ same ∙ append_assoc (gauge h2 x) (gauges hs2 gs) t2 in
+    let long = gauge_long h x rh in
+    let long2 = gauge_long h2 x rh2 in
+    let one : gauge h x ≡ gauge h2 x =
+        sym (take_at (gauge h x) (gauges hs gs ++ t) 40 long) ∙ ap (take 40) grouped ∙ take_at (gauge h2 x) (gauges hs2 gs ++ t2) 40 long2 in
+    let rest : gauges hs gs ++ t ≡ gauges hs2 gs ++ t2 =
+        sym (drop_at (gauge h x) (gauges hs gs ++ t) 40 long) ∙ ap (drop 40) grouped ∙ drop_at (gauge h2 x) (gauges hs2 gs ++ t2) 40 long2 in
+    let first : h ≡ h2 = sym (is_gauge 0 h x rh ix).1 ∙ ap recorded one ∙ (is_gauge 0 h2 x rh2 ix).1 in
+    let others = heads_told hs hs2 gs t t2 (omega (arith, e)) (omega (arith, e2)) (All-tail IsRecorded h hs r) (All-tail IsRecorded h2 hs2 r2)
+        (All-tail IsGain x gs i) rest in
+    ap (λ y. y ∷ hs) first ∙ ap (λ l. h2 ∷ l) others
