@@ -35,9 +35,8 @@ pub record IsOn (s : StoreValue) (bodies : List PartsValue) (seen : Image) (leav
   pub place_is : s.place ≡ length (head_of s.head ++ open_bodies s.head.layout bodies)
   pub durable : Only seen leaves
 
-pub record IsThere (s : StoreValue) (seen : Image) (leaves : Image → Type 0) : Type 0 where
-  pub bodies : List PartsValue
-  pub on : IsOn s bodies seen leaves
+abbrev pub IsThere : StoreValue → Image → (Image → Type 0) → Type 0
+IsThere s seen leaves = (bodies : List PartsValue) × IsOn s bodies seen leaves
 
 -- the lines are those told so far, and the image reads as the bodies, with one more or without it
 abbrev pub InPut : Lines → HeadValue → List PartsValue → List ℕ → PartsValue → IsMoment

@@ -54,8 +54,8 @@ impl Store {
     ) -> Result<Store, ResumeFault>
         requires few { length setup.now.gains ≤ 32 }
         // With Ok the store is on its station, with the bodies joined.
-        ensures on { K.tells → IfOk result (λ s. (bodies : List PartsValue)
-            × IsOn s bodies (K.seen station.new) (K.leaves station.new)) }
+        ensures on { K.tells → IfOk result (λ s.
+            IsThere s (K.seen station.new) (K.leaves station.new)) }
         // Which refusal it is, in the order of the file.
         ensures answer { K.tells → Resumes setup.now (K.seen station.old)
             (λ (s : StoreValue). (s.place, ends_of s.held)) result }

@@ -36,7 +36,8 @@ differs field kept found = unless (int_eq kept found) (Differs field kept found)
 
 -- an open ready byte, and SGST
 abbrev pub is_store : List ℕ → Bool
-is_store b = (slice_index b 0 == 1) && (((slice_index b 1 == 83) && (slice_index b 2 == 71)) && ((slice_index b 3 == 83) && (slice_index b 4 == 84)))
+is_store b = (slice_index b 0 == 1) &&
+    (((slice_index b 1 == 83) && (slice_index b 2 == 71)) && ((slice_index b 3 == 83) && (slice_index b 4 == 84)))
 
 abbrev pub is_version : ℕ → Bool
 is_version v = (v == 1) || (v == 2)
