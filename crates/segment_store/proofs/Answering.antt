@@ -132,12 +132,18 @@ on_station h image s bodies leaves same is lt head f held count only =
     let start = start_of h.setup in
     let whole : image ≡ (head_of h ++ open_bodies h.layout bodies) ++ f.gate ∷ f.rest =
     sym (take-append-drop start image) ∙ ap (λ (l : List ℕ). l ++ drop start image) head ∙ ap (λ (l : List ℕ). head_of h ++ l) f.split
-        ∙ sym (append_assoc (head_of h) (open_bodies h.layout bodies) (f.gate ∷ f.rest)) in
+    ∙ sym (append_assoc (head_of h) (open_bodies h.layout bodies) (f.gate ∷ f.rest)) in
     let long : length (head_of h) ≡ start = omega (arith, ap length head, length-take start image, lt) in
     let place : s.place ≡ length (head_of h ++ open_bodies h.layout bodies) =
-        omega (arith, f.place_is, long, length-append (head_of h) (open_bodies h.layout bodies)) in
-    let reads : Reads h bodies (ends_of s.held) image = record { is_head = is; gate = f.gate; rest = f.rest; whole = whole;
-        closed = f.closed; tiles = f.tiles } in
+    omega (arith, f.place_is, long, length-append (head_of h) (open_bodies h.layout bodies)) in
+    let reads : Reads h bodies (ends_of s.held) image = record {
+      is_head = is;
+      gate = f.gate;
+      rest = f.rest;
+      whole = whole;
+      closed = f.closed;
+      tiles = f.tiles;
+    } in
     record {
       reads = subst (λ (v : HeadValue). Reads v bodies (ends_of s.held) image) (sym same) reads;
       held = subst (λ (v : HeadValue). AreHeld v.setup.grid bodies s.held) (sym same) held;
@@ -165,7 +171,7 @@ module _ (lay : Layout) (s : Setup) (image : Image) (limit limit2 start start2 :
 
   pub starts_moved : (bodies : List PartsValue) (last : List ℕ) (gate : ℕ) (front rest : List ℕ)
       → StartsAt lay s limit2 image start2 ends2 bodies last gate front rest
-          → StartsAt lay s limit image start ends bodies last gate front rest
+      → StartsAt lay s limit image start ends bodies last gate front rest
   starts_moved bodies last gate front rest w = subst (λ n. StartsAt lay s n image start ends bodies last gate front rest) (sym l)
       (subst (λ n. StartsAt lay s limit2 image n ends bodies last gate front rest) (sym a)
       (subst (λ n. StartsAt lay s limit2 image start2 n bodies last gate front rest) (sym e) w))

@@ -30,7 +30,7 @@ module _ (bytes t : List ℕ) (is : bytes ≡ 1 ∷ t) (told : Lines) where
   pub second_is : (mid now : Image) → mid ≡ 0 ∷ [] → Overwrites mid 1 t now → now ≡ 0 ∷ t
   second_is mid now e h =
       let none : drop (1 + length t) (0 ∷ []) ≡ [] = nil_from_length (drop (1 + length t) (0 ∷ []))
-          (omega (arith, length-drop {A = ℕ} (1 + length t) (0 ∷ []))) in
+      (omega (arith, length-drop {A = ℕ} (1 + length t) (0 ∷ []))) in
       h ∙ ap (λ (s : List ℕ). take 1 s ++ t ++ drop (1 + length t) s) e ∙ ap (λ (r : List ℕ). (0 ∷ t) ++ r) none ∙ append-nil (0 ∷ t)
 
   pub in_third : (later : Lines) (mid : Image) (after : Image → Type 0) → later ≡ told → mid ≡ 0 ∷ t → Only mid after

@@ -25,8 +25,8 @@ pub open_more : (lay : Layout) (bodies : List PartsValue) (p : PartsValue) (rest
 open_more lay [] p rest = ap (λ (l : List ℕ). 1 ∷ (l ++ rest)) (sym (append-nil (stored (body_of lay p))))
 open_more lay (q ∷ bodies) p rest =
     ap (λ (l : List ℕ). 1 ∷ l) (append_assoc (stored (body_of lay q)) (open_bodies lay bodies) (1 ∷ (stored (body_of lay p) ++ rest))
-        ∙ ap (λ (l : List ℕ). stored (body_of lay q) ++ l) (open_more lay bodies p rest)
-        ∙ sym (append_assoc (stored (body_of lay q)) (open_bodies lay (bodies ++ p ∷ [])) rest))
+    ∙ ap (λ (l : List ℕ). stored (body_of lay q) ++ l) (open_more lay bodies p rest)
+    ∙ sym (append_assoc (stored (body_of lay q)) (open_bodies lay (bodies ++ p ∷ [])) rest))
 
 -- what stands before the gate
 abbrev pub before : HeadValue → List PartsValue → List ℕ
@@ -36,8 +36,8 @@ before_more : (head : HeadValue) (bodies : List PartsValue) (p : PartsValue) (re
     → before head bodies ++ 1 ∷ (stored (body_of head.layout p) ++ rest) ≡ before head (bodies ++ p ∷ []) ++ rest
 before_more head bodies p rest =
     append_assoc (head_of head) (open_bodies head.layout bodies) (1 ∷ (stored (body_of head.layout p) ++ rest))
-        ∙ ap (λ (l : List ℕ). head_of head ++ l) (open_more head.layout bodies p rest)
-        ∙ sym (append_assoc (head_of head) (open_bodies head.layout (bodies ++ p ∷ [])) rest)
+    ∙ ap (λ (l : List ℕ). head_of head ++ l) (open_more head.layout bodies p rest)
+    ∙ sym (append_assoc (head_of head) (open_bodies head.layout (bodies ++ p ∷ [])) rest)
 
 module _ (head : HeadValue) (bodies : List PartsValue) (ends : List ℕ) (place : ℕ) (seen : Image) (leaves : Image
     → Type 0) (on : IsAt head bodies ends place seen leaves) (p : PartsValue) (next : IsNext head.setup ends p) where
@@ -49,19 +49,32 @@ module _ (head : HeadValue) (bodies : List PartsValue) (ends : List ℕ) (place 
   roomy = omega (arith, ap length on.reads.whole, length-whole (before head bodies) place on.place_is on.reads.gate on.reads.rest)
 
   reads_old : (c : Image) (gate : ℕ) (rest : List ℕ) → gate ≢ 1 → c ≡ before head bodies ++ gate ∷ rest → Reads head bodies ends c
-  reads_old c gate rest shut is = record { is_head = on.reads.is_head; gate = gate; rest = rest; whole = is; closed = shut;
-      tiles = on.reads.tiles }
+  reads_old c gate rest shut is = record {
+    is_head = on.reads.is_head;
+    gate = gate;
+    rest = rest;
+    whole = is;
+    closed = shut;
+    tiles = on.reads.tiles;
+  }
 
   reads_new : (c : Image) (tail : List ℕ) → c ≡ before head bodies ++ 1 ∷ (stored (body_of head.layout p) ++ 0 ∷ tail)
       → Reads head (bodies ++ p ∷ []) (extended ends p) c
-  reads_new c tail is = record { is_head = on.reads.is_head; gate = 0; rest = tail; whole = is
-      ∙ before_more head bodies p (0 ∷ tail); closed = λ e. absurd cc; tiles = tiles_more p on.reads.tiles next }
+  reads_new c tail is = record {
+    is_head = on.reads.is_head;
+    gate = 0;
+    rest = tail;
+    whole = is
+        ∙ before_more head bodies p (0 ∷ tail);
+    closed = λ e. absurd cc;
+    tiles = tiles_more p on.reads.tiles next;
+  }
 
   torn_first : (n : ℕ) (c : Image) → IsTornWrite (place + 1) n seen c → Reads head bodies ends c
   torn_first n c torn =
       reads_old c on.reads.gate (drop (place + 1) c) on.reads.closed
-          (torn_behind (before head bodies) place on.place_is on.reads.gate on.reads.rest n c
-          (subst (λ d. IsTornWrite (place + 1) n d c) on.reads.whole torn))
+      (torn_behind (before head bodies) place on.place_is on.reads.gate on.reads.rest n c
+      (subst (λ d. IsTornWrite (place + 1) n d c) on.reads.whole torn))
 
   pub is_staged : (now : Image) → Overwrites seen (place + 1) (stored (body_of head.layout p) ++ 0 ∷ []) now
       → (tail : List ℕ) × (now ≡ staged tail)
@@ -106,14 +119,25 @@ module _ (head : HeadValue) (bodies : List PartsValue) (ends : List ℕ) (place 
       let s = is_staged mid made in
       let rest = stored (body_of head.layout p) ++ 0 ∷ s.0 in
       let is = written_gate (before head bodies) place on.place_is on.reads.gate rest 1 now
-          (subst (λ d. Overwrites d place (1 ∷ []) now) s.1 opened) in
+      (subst (λ d. Overwrites d place (1 ∷ []) now) s.1 opened) in
       let grown : length (before head bodies) + length (stored (body_of head.layout p)) + 1 ≡ length (before head (bodies ++ p ∷ [])) =
-      omega (arith, ap length (before_more head bodies p []), length-append (before head bodies)
-          (1 ∷ (stored (body_of head.layout p) ++ [])), length-append (stored (body_of head.layout p)) [], length-append
-          (before head (bodies ++ p ∷ [])) []) in
+      omega (
+        arith,
+        ap length (before_more head bodies p []),
+        length-append (before head bodies)
+            (1 ∷ (stored (body_of head.layout p) ++ [])),
+        length-append (stored (body_of head.layout p)) [],
+        length-append
+            (before head (bodies ++ p ∷ [])) [],
+      ) in
       record { reads = reads_new now s.0 is; place_is = omega (arith, on.place_is, grown); durable = only }
 
 -- how long a stored body is
 pub length-stored : (body : List ℕ) → length (stored body) ≡ length body + 36
-length-stored body = omega (arith, length-append (signed body) (sha256 (signed body)), length-append
-    (to_be_bytes w32 (length body)) body, length-sha256 (signed body))
+length-stored body = omega (
+  arith,
+  length-append (signed body) (sha256 (signed body)),
+  length-append
+      (to_be_bytes w32 (length body)) body,
+  length-sha256 (signed body),
+)

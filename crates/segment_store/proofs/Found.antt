@@ -29,44 +29,51 @@ module _ (lay : Layout) (setup : Setup) (limit : ℕ) (small : limit < 2 ^ 32) (
   block at p gate w same bytes =
       let len = length_at image at in
       let long : len ≡ length (body_of lay p) = omega
-          (arith, ap length bytes, length-take (at + 5 + len - (at + 5)) (drop (at + 5) image), length-drop (at + 5) image, w.reaches) in
+      (arith, ap length bytes, length-take (at + 5 + len - (at + 5)) (drop (at + 5) image), length-drop (at + 5) image, w.reaches) in
       let first : drop at image ≡ 1 ∷ drop (at + 1) image = drop_more image at 0 (omega (arith, w.field))
-          ∙ ap (λ (b : ℕ). b ∷ drop (at + 1) image) gate in
+      ∙ ap (λ (b : ℕ). b ∷ drop (at + 1) image) gate in
       let field : field_at image at ≡ to_be_bytes w32 (length (body_of lay p)) = sym w.spelled ∙ ap (to_be_bytes w32) long in
       let digest : kept_at image at ≡ sha256 (signed (body_of lay p)) = sym same
-          ∙ ap (λ (l : List ℕ). sha256 (l ++ bytes_at image at)) field
-          ∙ ap (λ (l : List ℕ). sha256 (to_be_bytes w32 (length (body_of lay p)) ++ l)) bytes in
+      ∙ ap (λ (l : List ℕ). sha256 (l ++ bytes_at image at)) field
+      ∙ ap (λ (l : List ℕ). sha256 (to_be_bytes w32 (length (body_of lay p)) ++ l)) bytes in
       let last : at + 5 + len + 32 ≡ at + len + 37 = omega arith in
       let d3 : drop (at + 5 + len) image ≡ sha256 (signed (body_of lay p)) ++ drop (at + len + 37) image =
       cut image (at + 5 + len) (at + 5 + len + 32) (omega arith) ∙ ap (λ (l : List ℕ). l ++ drop (at + 5 + len + 32) image) digest
-          ∙ ap (λ k. sha256 (signed (body_of lay p)) ++ drop k image) last in
+      ∙ ap (λ k. sha256 (signed (body_of lay p)) ++ drop k image) last in
       let d2 : drop (at + 5) image ≡ body_of lay p ++ (sha256 (signed (body_of lay p)) ++ drop (at + len + 37) image) =
       cut image (at + 5) (at + 5 + len) (omega arith) ∙ ap (λ (l : List ℕ). l ++ drop (at + 5 + len) image) bytes
-          ∙ ap (λ (l : List ℕ). body_of lay p ++ l) d3 in
+      ∙ ap (λ (l : List ℕ). body_of lay p ++ l) d3 in
       let d1 : drop (at + 1) image ≡ to_be_bytes w32 (length (body_of lay p)) ++
-          (body_of lay p ++ (sha256 (signed (body_of lay p)) ++ drop (at + len + 37) image)) =
+      (body_of lay p ++ (sha256 (signed (body_of lay p)) ++ drop (at + len + 37) image)) =
       cut image (at + 1) (at + 5) (omega arith) ∙ ap (λ (l : List ℕ). l ++ drop (at + 5) image) field
-          ∙ ap (λ (l : List ℕ). to_be_bytes w32 (length (body_of lay p)) ++ l) d2 in
+      ∙ ap (λ (l : List ℕ). to_be_bytes w32 (length (body_of lay p)) ++ l) d2 in
       let tail : stored (body_of lay p) ++ drop (at + len + 37) image ≡ to_be_bytes w32 (length (body_of lay p)) ++
-          (body_of lay p ++ (sha256 (signed (body_of lay p)) ++ drop (at + len + 37) image)) =
+      (body_of lay p ++ (sha256 (signed (body_of lay p)) ++ drop (at + len + 37) image)) =
       append_assoc (signed (body_of lay p)) (sha256 (signed (body_of lay p))) (drop (at + len + 37) image)
-          ∙ append_assoc (to_be_bytes w32 (length (body_of lay p))) (body_of lay p)
-          (sha256 (signed (body_of lay p)) ++ drop (at + len + 37) image) in
+      ∙ append_assoc (to_be_bytes w32 (length (body_of lay p))) (body_of lay p)
+      (sha256 (signed (body_of lay p)) ++ drop (at + len + 37) image) in
       (long, first ∙ ap (λ (l : List ℕ). 1 ∷ l) (d1 ∙ sym tail))
 
   -- one body more was passed
   pub pass_more : (start at : ℕ) (ends last : List ℕ) (bodies : List PartsValue) (p : PartsValue) → get_or image at 0 ≡ 1
       → Finds lay setup limit image last at (Ok p)
       → HasPassed lay setup image start ends at last bodies → HasPassed lay setup image start ends (at + length_at image at + 37)
-          (extended last p) (bodies ++ p ∷ [])
+      (extended last p) (bodies ++ p ∷ [])
   pass_more start at ends last bodies p gate (whole w (sound same body g s j)) so_far =
       let b = block at p gate w same body.bytes_are in
       let next : IsNext setup last p = record { body = record { segment = body.segment; gauge = g; some = s }; joins = j } in
       let tail = drop (at + length_at image at + 37) image in
       let one = ap length (open_more lay bodies p []) in
       let grown : length (open_bodies lay bodies) + (length (body_of lay p) + 37) ≡ length (open_bodies lay (bodies ++ p ∷ [])) =
-      omega (arith, one, length-append (open_bodies lay bodies) (1 ∷ (stored (body_of lay p) ++ [])), length-append
-          (stored (body_of lay p)) [], length-append (open_bodies lay (bodies ++ p ∷ [])) [], length-stored (body_of lay p)) in
+      omega (
+        arith,
+        one,
+        length-append (open_bodies lay bodies) (1 ∷ (stored (body_of lay p) ++ [])),
+        length-append
+            (stored (body_of lay p)) [],
+        length-append (open_bodies lay (bodies ++ p ∷ [])) [],
+        length-stored (body_of lay p),
+      ) in
       record {
         split = so_far.split ∙ ap (λ (l : List ℕ). open_bodies lay bodies ++ l) b.1 ∙ open_more lay bodies p tail;
         tiles = tiles_more p so_far.tiles next;

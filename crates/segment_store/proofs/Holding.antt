@@ -84,7 +84,7 @@ module _ (held : List SegmentValue) (seg : SegmentValue) (g : ℕ) (v : SegmentV
             let here : get_or (set held g w) g d ≡ w = get_or-set_same held g w d (omega (arith, g_is, known)) in
             subst (λ n. IsHeld seg.grid n (bodies ++ parts_of seg ∷ []) (get_or (set held g w) n d)) (sym e)
             (subst (λ x. IsHeld seg.grid g (bodies ++ parts_of seg ∷ []) x) (sym here)
-                (joined seg (sym g_is) refl rules (held_at bodies all) j))
+            (joined seg (sym g_is) refl rules (held_at bodies all) j))
         by (inr n) =
             let there : get_or (set held g w) k d ≡ get_or held k d = get_or-set_other held g k w d n in
             let long = length-set held g w in
@@ -99,7 +99,7 @@ empty_more grid held g v long is all k d lt = by (cases_eq k g)
     by : ((k ≡ g) ⊎ (k ≢ g)) → IsHeld grid k [] (get_or (held ++ v ∷ []) k d)
     by (inl e) =
         let here : get_or (held ++ v ∷ []) k d ≡ v = ap (λ n. get_or (held ++ v ∷ []) n d) (e ∙ sym long)
-            ∙ get_or-append_seam held v [] d in
+        ∙ get_or-append_seam held v [] d in
         subst (λ x. IsHeld grid k [] x) (sym (here ∙ is ∙ ap (λ n. empty_at grid n 0 MAX_SAMPLES) (sym e))) none
     by (inr n) =
         let short : k < length held = omega (arith, lt, n, long, length-append held (v ∷ [])) in

@@ -46,8 +46,13 @@ pub step_is : (l : Layout) (g : GridValue) (ends bytes : List ℕ) (at next : �
     → p.name.from ≡ get_or ends p.name.gauge 0 → p.name.from < p.name.to → next ≡ at + 37 + length bytes → IsStep ends at p next
 step_is l g ends bytes at next p grid is joins some e =
     let b = segment_small l g p grid is.segment in
-    record { joins = joins; some = some; to = is.segment.summed.span.1; near = omega
-        (arith, e, ap length is.bytes_are, b.1, some, grid.classes_to) }
+    record {
+      joins = joins;
+      some = some;
+      to = is.segment.summed.span.1;
+      near = omega
+          (arith, e, ap length is.bytes_are, b.1, some, grid.classes_to);
+    }
 
 -- a body's length fits its field
 pub max_small : (l : Layout) (classes : ℕ) → classes ≤ 1024 → max_body l classes < 2 ^ 31

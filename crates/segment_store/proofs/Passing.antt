@@ -13,7 +13,7 @@ use Rattle.segment_store.specs.Reading.{StartsAt}
 -- from its first gate on
 pub starts : (h : HeadValue) (bodies : List PartsValue) (last : List ℕ) (image : Image) → (r : Reads h bodies last image)
     → StartsAt h.layout h.setup (max_body h.layout h.setup.grid.classes) image (start_of h.setup)
-        (nothing_held h.setup) bodies last r.gate (head_of h) r.rest
+    (nothing_held h.setup) bodies last r.gate (head_of h) r.rest
 starts h bodies last image r = record {
   is_setup = r.is_head.setup;
   whole = r.whole ∙ append_assoc (head_of h) (open_bodies h.layout bodies) (r.gate ∷ r.rest);
@@ -27,11 +27,11 @@ pub layout_is : (h : HeadValue) (bodies : List PartsValue) (last : List ℕ) (im
     → layout_in image ≡ h.layout
 layout_is h bodies last image r =
     layout_told h (open_bodies h.layout bodies ++ r.gate ∷ r.rest) image (r.whole
-        ∙ append_assoc (head_of h) (open_bodies h.layout bodies) (r.gate ∷ r.rest))
+    ∙ append_assoc (head_of h) (open_bodies h.layout bodies) (r.gate ∷ r.rest))
 
 pub never : (h : HeadValue) (bodies : List PartsValue) (last : List ℕ) (image : Image) → Reads h bodies last image
     → head_fault h.setup image ≡ None
 never h bodies last image r =
     no_fault h (open_bodies h.layout bodies ++ r.gate ∷ r.rest) image r.is_head (r.whole
-        ∙ append_assoc (head_of h) (open_bodies h.layout bodies) (r.gate ∷ r.rest))
+    ∙ append_assoc (head_of h) (open_bodies h.layout bodies) (r.gate ∷ r.rest))
     (omega (arith, length-append (open_bodies h.layout bodies) (r.gate ∷ r.rest)))

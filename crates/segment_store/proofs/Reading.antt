@@ -72,15 +72,15 @@ module _ (lay : Layout) (setup : Setup) (valid : IsSetup setup) (limit : ℕ) (s
       ap (λ n. slice_range image (at + 5) (at + 5 + n)) length_is
       ∙ ap (λ i. slice_range i (at + 5) (at + 5 + length (body_of lay p))) regroup2
       ∙ slice_range-middle ((a ++ 1 ∷ []) ++ field) (body_of lay p) (sha256 (signed (body_of lay p)) ++ t) (at + 5)
-          (at + 5 + length (body_of lay p)) (sym front2) (omega (arith, front2))
+      (at + 5 + length (body_of lay p)) (sym front2) (omega (arith, front2))
 
   kept_is : kept_at image at ≡ sha256 (signed (body_of lay p))
   kept_is =
       ap (λ n. slice_range image (at + 5 + n) (at + 5 + n + 32)) length_is
       ∙ ap (λ i. slice_range i (at + 5 + length (body_of lay p)) (at + 5 + length (body_of lay p) + 32)) regroup3
       ∙ slice_range-middle (((a ++ 1 ∷ []) ++ field) ++ body_of lay p) (sha256 (signed (body_of lay p))) t
-          (at + 5 + length (body_of lay p)) (at + 5 + length (body_of lay p) + 32) (sym front3)
-          (omega (arith, front3, length-sha256 (signed (body_of lay p))))
+      (at + 5 + length (body_of lay p)) (at + 5 + length (body_of lay p) + 32) (sym front3)
+      (omega (arith, front3, length-sha256 (signed (body_of lay p))))
 
   found_is : found_at image at ≡ kept_at image at
   found_is = ap (λ (l : List ℕ). sha256 (l ++ bytes_at image at)) field_is ∙ ap (λ (l : List ℕ). sha256 (field ++ l)) bytes_is ∙ sym kept_is
@@ -90,8 +90,14 @@ module _ (lay : Layout) (setup : Setup) (valid : IsSetup setup) (limit : ℕ) (s
       (record { segment = next.body.segment; gauge = omega (arith, next.body.gauge, valid.few); bytes_are = refl })
 
   long : length image ≡ at + 1 + (length (body_of lay p) + 36) + length t
-  long = omega (arith, here, length-append a (1 ∷ (stored (body_of lay p) ++ t)), length-append (stored (body_of lay p)) t, length-stored
-      (body_of lay p))
+  long = omega (
+    arith,
+    here,
+    length-append a (1 ∷ (stored (body_of lay p) ++ t)),
+    length-append (stored (body_of lay p)) t,
+    length-stored
+        (body_of lay p),
+  )
 
   pub gate_is : get_or image at 0 ≡ 1
   gate_is = let lt : at < length image = omega (arith, long) in
@@ -134,7 +140,7 @@ closed_gate a rest gate at here = let lt : at < length (a ++ gate ∷ rest) = om
 pub walks_only : (lay : Layout) (setup : Setup) → IsSetup setup → (limit : ℕ) → limit < 2 ^ 32
     → (image : Image) (gate : ℕ) (rest : List ℕ) → gate ≢ 1 → ((p : PartsValue) → IsBody setup p → length (body_of lay p) ≤ limit)
     → (a : List ℕ) (index at : ℕ) (ends last : List ℕ) (bodies : List PartsValue) (r : Result (ℕ × List ℕ) (ℕ × Damage)) → at ≡ length a
-        → image ≡ a ++ (open_bodies lay bodies ++ gate ∷ rest) → Tiles setup ends bodies last
+    → image ≡ a ++ (open_bodies lay bodies ++ gate ∷ rest) → Tiles setup ends bodies last
     → Walks lay setup limit image index at ends r → (place : ℕ) × (r ≡ Ok (place, last))
 walks_only lay setup valid limit fits image gate rest is_shut small a index at ends last bodies r here is none (shut n) = (at, refl)
 walks_only lay setup valid limit fits image gate rest is_shut small a index at ends last bodies r here is none (damaged e f) =
@@ -146,26 +152,26 @@ walks_only lay setup valid limit fits image gate rest is_shut small a index at e
     let t = open_bodies lay ps ++ gate ∷ rest in
     let grouped = is ∙ ap (λ (l : List ℕ). a ++ 1 ∷ l) (append_assoc (stored (body_of lay p)) (open_bodies lay ps) (gate ∷ rest)) in
     absurd (n (ap (λ (i : List ℕ). get_or i at 0) grouped ∙ gate_is lay setup valid limit fits a t at here ends p next (small p next.body)
-        (some_left lay ps gate rest)))
+    (some_left lay ps gate rest)))
 walks_only lay setup valid limit fits image gate rest is_shut small a index at ends last bodies r here is
     (one {p = p} {ps = ps} next tiles) (damaged {d = d} e f) =
     let t = open_bodies lay ps ++ gate ∷ rest in
     let grouped = is ∙ ap (λ (l : List ℕ). a ++ 1 ∷ l) (append_assoc (stored (body_of lay p)) (open_bodies lay ps) (gate ∷ rest)) in
     let found = finds_only lay setup valid limit fits a t at here ends p next (small p next.body) (some_left lay ps gate rest) (Err d)
-        (subst (λ i. Finds lay setup limit i ends at (Err d)) grouped f) in
+    (subst (λ i. Finds lay setup limit i ends at (Err d)) grouped f) in
     absurd cc
 walks_only lay setup valid limit fits image gate rest is_shut small a index at ends last bodies r here is
     (one {p = p} {ps = ps} next tiles) (more {p = q} e f w) =
     let t = open_bodies lay ps ++ gate ∷ rest in
     let grouped = is ∙ ap (λ (l : List ℕ). a ++ 1 ∷ l) (append_assoc (stored (body_of lay p)) (open_bodies lay ps) (gate ∷ rest)) in
     let found = finds_only lay setup valid limit fits a t at here ends p next (small p next.body) (some_left lay ps gate rest) (Ok q)
-        (subst (λ i. Finds lay setup limit i ends at (Ok q)) grouped f) in
+    (subst (λ i. Finds lay setup limit i ends at (Ok q)) grouped f) in
     let same : q ≡ p = cc in
     let place : at + length_at image at + 37 ≡ length (a ++ 1 ∷ stored (body_of lay p)) =
-        ap (λ (i : List ℕ). at + length_at i at + 37) grouped
-        ∙ next_gate lay setup valid limit fits a t at here ends p next (small p next.body) (some_left lay ps gate rest) in
+    ap (λ (i : List ℕ). at + length_at i at + 37) grouped
+    ∙ next_gate lay setup valid limit fits a t at here ends p next (small p next.body) (some_left lay ps gate rest) in
     let next_is : image ≡ (a ++ 1 ∷ stored (body_of lay p)) ++ (open_bodies lay ps ++ gate ∷ rest) = grouped
-        ∙ sym (append_assoc a (1 ∷ stored (body_of lay p)) t) in
+    ∙ sym (append_assoc a (1 ∷ stored (body_of lay p)) t) in
     walks_only lay setup valid limit fits image gate rest is_shut small (a ++ 1 ∷ stored (body_of lay p)) (index + 1)
-        (at + length_at image at + 37) (extended ends p) last ps r place next_is tiles
+    (at + length_at image at + 37) (extended ends p) last ps r place next_is tiles
     (subst (λ (x : PartsValue). Walks lay setup limit image (index + 1) (at + length_at image at + 37) (extended ends x) r) same w)

@@ -32,14 +32,14 @@ module _ (lay : Layout) (setup : Setup) (valid : IsSetup setup) (limit : ℕ) (s
   same_bodies a ends last last2 ps qs none (one {p = q} {ps = qs2} next tiles) same =
       let t = open_bodies lay qs2 ++ gate2 ∷ rest2 in
       let is_open = gate_is lay setup valid limit small a t (length a) refl ends q next (fits q next.body)
-          (some_left lay qs2 gate2 rest2) in
+      (some_left lay qs2 gate2 rest2) in
       absurd (shut (sym (closed_gate a rest gate (length a) refl)
-          ∙ ap (λ (i : List ℕ). get_or i (length a) 0) (same ∙ grouped lay a q qs2 (gate2 ∷ rest2)) ∙ is_open))
+      ∙ ap (λ (i : List ℕ). get_or i (length a) 0) (same ∙ grouped lay a q qs2 (gate2 ∷ rest2)) ∙ is_open))
   same_bodies a ends last last2 ps qs (one {p = p} {ps = ps2} next tiles) none same =
       let t = open_bodies lay ps2 ++ gate ∷ rest in
       let is_open = gate_is lay setup valid limit small a t (length a) refl ends p next (fits p next.body) (some_left lay ps2 gate rest) in
       absurd (shut2 (sym (closed_gate a rest2 gate2 (length a) refl)
-          ∙ ap (λ (i : List ℕ). get_or i (length a) 0) (sym same ∙ grouped lay a p ps2 (gate ∷ rest)) ∙ is_open))
+      ∙ ap (λ (i : List ℕ). get_or i (length a) 0) (sym same ∙ grouped lay a p ps2 (gate ∷ rest)) ∙ is_open))
   same_bodies a ends last last2 ps qs (one {p = p} {ps = ps2} next tiles) (one {p = q} {ps = qs2} next2 tiles2) same =
       let t = open_bodies lay ps2 ++ gate ∷ rest in
       let t2 = open_bodies lay qs2 ++ gate2 ∷ rest2 in
@@ -48,13 +48,13 @@ module _ (lay : Layout) (setup : Setup) (valid : IsSetup setup) (limit : ℕ) (s
       let eq : i ≡ j = sym (grouped lay a p ps2 (gate ∷ rest)) ∙ same ∙ grouped lay a q qs2 (gate2 ∷ rest2) in
       let first = decodes lay setup valid limit small a t (length a) refl ends p next (fits p next.body) (some_left lay ps2 gate rest) in
       let second = decodes lay setup valid limit small a t2 (length a) refl ends q next2 (fits q next2.body)
-          (some_left lay qs2 gate2 rest2) in
+      (some_left lay qs2 gate2 rest2) in
       let pq : p ≡ q = ok_same _ p q first (ap (λ (x : List ℕ). decoded lay setup.grid (bytes_at x (length a))) eq ∙ second) in
       let eq2 : i ≡ a ++ 1 ∷ (stored (body_of lay p) ++ t2) = eq ∙ ap (λ x. a ++ 1 ∷ (stored (body_of lay x) ++ t2)) (sym pq) in
       let moved : (a ++ 1 ∷ stored (body_of lay p)) ++ t ≡ (a ++ 1 ∷ stored (body_of lay p)) ++ t2 =
-          append_assoc a (1 ∷ stored (body_of lay p)) t ∙ eq2 ∙ sym (append_assoc a (1 ∷ stored (body_of lay p)) t2) in
+      append_assoc a (1 ∷ stored (body_of lay p)) t ∙ eq2 ∙ sym (append_assoc a (1 ∷ stored (body_of lay p)) t2) in
       let more = same_bodies (a ++ 1 ∷ stored (body_of lay p)) (extended ends p) last last2 ps2 qs2 tiles
-          (subst (λ x. Tiles setup (extended ends x) qs2 last2) (sym pq) tiles2) moved in
+      (subst (λ x. Tiles setup (extended ends x) qs2 last2) (sym pq) tiles2) moved in
       (ap (λ x. x ∷ ps2) pq ∙ ap (λ l. q ∷ l) more.0, more.1)
 
 abbrev made : Layout → Setup → List Head → HeadValue
@@ -83,15 +83,15 @@ module _ (h h2 : HeadValue) (ps qs : List PartsValue) (ends ends2 : List ℕ) (i
       let g2 = h2.setup.gains in
       let gains : s.gains ≡ g2 = ap (λ (x : Setup). x.gains) setups in
       let one : drop 22 image ≡ gauges h.heads s.gains ++ tail = ap (drop 22) (behind
-          ∙ append_assoc (front h.layout s) (gauges h.heads s.gains) tail)
-          ∙ drop_at (front h.layout s) (gauges h.heads s.gains ++ tail) 22 refl in
+      ∙ append_assoc (front h.layout s) (gauges h.heads s.gains) tail)
+      ∙ drop_at (front h.layout s) (gauges h.heads s.gains ++ tail) 22 refl in
       let two : drop 22 image ≡ gauges h2.heads g2 ++ tail2 = ap (drop 22) (behind2
-          ∙ append_assoc (front h2.layout h2.setup) (gauges h2.heads g2) tail2)
-          ∙ drop_at (front h2.layout h2.setup) (gauges h2.heads g2 ++ tail2) 22 refl in
+      ∙ append_assoc (front h2.layout h2.setup) (gauges h2.heads g2) tail2)
+      ∙ drop_at (front h2.layout h2.setup) (gauges h2.heads g2 ++ tail2) 22 refl in
       let same : gauges h.heads s.gains ++ tail ≡ gauges h2.heads s.gains ++ tail2 = sym one ∙ two
-          ∙ ap (λ g. gauges h2.heads g ++ tail2) (sym gains) in
+      ∙ ap (λ g. gauges h2.heads g ++ tail2) (sym gains) in
       heads_told h.heads h2.heads s.gains tail tail2 r.is_head.same (r2.is_head.same
-          ∙ ap length (sym gains)) r.is_head.each r2.is_head.each r.is_head.setup.gains same
+      ∙ ap length (sym gains)) r.is_head.each r2.is_head.each r.is_head.setup.gains same
 
   pub same_head : h ≡ h2
   same_head = ap (λ l. made l h.setup h.heads) layouts ∙ ap (λ s. made h2.layout s h.heads) setups ∙ ap (made h2.layout h2.setup) heads_are
@@ -108,7 +108,7 @@ same_reading h h2 ps qs ends ends2 image same r moved =
     let a = append_assoc (head_of h) (open_bodies h.layout ps) (r.gate ∷ r.rest) in
     let b = append_assoc (head_of h) (open_bodies h.layout qs) (r2.gate ∷ r2.rest) in
     same_bodies h.layout h.setup is limit (omega (arith, few))
-        (λ p body. (segment_small h.layout h.setup.grid p grid body.segment).0) r.gate r2.gate r.rest r2.rest
+    (λ p body. (segment_small h.layout h.setup.grid p grid body.segment).0) r.gate r2.gate r.rest r2.rest
     r.closed r2.closed (head_of h) _ ends ends2 ps qs r.tiles r2.tiles (sym a ∙ sym r.whole ∙ r2.whole ∙ b)
 
 -- a store that is on its station with some bodies is there with those that are read

@@ -26,7 +26,7 @@ pub gate_is : (image image2 : Image) (buf : List ℕ) (at : ℕ) → image2 ≡ 
 gate_is image image2 buf at same lt is =
     let e : at + 1 - at ≡ 1 = omega arith in
     let one_at : slice_range image at (at + 1) ≡ get_or image at 0 ∷ [] = ap (λ d. take (at + 1 - at) d) (drop_more image at 0 lt)
-        ∙ ap (λ n. take n (get_or image at 0 ∷ drop (at + 1) image)) e in
+    ∙ ap (λ n. take n (get_or image at 0 ∷ drop (at + 1) image)) e in
     ap (λ (l : List ℕ). get_or l 0 0) (is ∙ ap (λ i. slice_range i at (at + 1)) same ∙ one_at)
 
 module _ (lay : Layout) (setup : Setup) (limit limit2 : ℕ) (image image2 : Image) (ends ends2 : List ℕ) (index at : ℕ)

@@ -1,5 +1,19 @@
 ghost use Rattle.std.specs.Prelude.{
-    ◌≡◌, ◌<◌, ◌≤◌, ◌+◌, ◌^◌, ◌++◌, [], ◌∷◌, ℕ, List, length, drop, replicate, OnOk, IfOk,
+  ◌≡◌,
+  ◌<◌,
+  ◌≤◌,
+  ◌+◌,
+  ◌^◌,
+  ◌++◌,
+  [],
+  ◌∷◌,
+  ℕ,
+  List,
+  length,
+  drop,
+  replicate,
+  OnOk,
+  IfOk,
 };
 ghost use Rattle.outside.specs.Fault.{HasCause};
 ghost use Rattle.station.specs.Station.{Image, Since, Only};
@@ -26,7 +40,7 @@ fn write_store<K: Station>(station: &mut K, bytes: &[u8]) -> Result<(), Failed>
         × Only (K.seen station.new) (K.leaves station.new)) }
     ensures any_moment { K.tells → ((c : Image) → K.leaves station.old c → length c ≡ 0) →
         Since (K.clock station.old) (K.moments station.old) (K.clock station.new)
-            (K.moments station.new) (InInit (K.told station.old) bytes.now) }
+        (K.moments station.new) (InInit (K.told station.old) bytes.now) }
     ensures told { K.tells → K.told station.new ≡ K.told station.old }
     ensures cause { HasCause (K.faults station.old) (K.faults station.new) result }
 {
@@ -44,15 +58,15 @@ pub fn init<K: Station>(alloc: Global, station: &mut K, head: &StoreHead) -> Res
     // With Ok every image is the empty store, which reads with this head and no bodies.
     ensures made { K.tells → OnOk result
         ((K.seen station.new ≡ empty_store (see_head Two head.now))
-            × Only (K.seen station.new) (K.leaves station.new)) }
+        × Only (K.seen station.new) (K.leaves station.new)) }
     ensures reads { OnOk result (Reads (see_head Two head.now) [] (nothing_held head.now.setup)
         (empty_store (see_head Two head.now))) }
     // On an empty station each moment is too short for a head, or has no open ready byte, or is the
     // empty store.
     ensures any_moment { K.tells → ((c : Image) → K.leaves station.old c → length c ≡ 0) →
         Since (K.clock station.old) (K.moments station.old) (K.clock station.new)
-            (K.moments station.new)
-            (InInit (K.told station.old) (empty_store (see_head Two head.now))) }
+        (K.moments station.new)
+        (InInit (K.told station.old) (empty_store (see_head Two head.now))) }
     // When it refuses.
     ensures full { K.tells → RefusesFull (length (K.seen station.old)) result }
     ensures unwritten { K.tells → Unwrites result (IsQuiet (K.clock station.old)

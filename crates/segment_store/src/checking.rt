@@ -1,5 +1,18 @@
 ghost use Rattle.std.specs.Prelude.{
-    ◌≡◌, ◌↔◌, ◌<◌, ◌≤◌, ◌+◌, ◌^◌, ◌++◌, IsTrue, List, ℕ, length, slice_index, IfOk, IfErr,
+  ◌≡◌,
+  ◌↔◌,
+  ◌<◌,
+  ◌≤◌,
+  ◌+◌,
+  ◌^◌,
+  ◌++◌,
+  IsTrue,
+  List,
+  ℕ,
+  length,
+  slice_index,
+  IfOk,
+  IfErr,
 };
 ghost use Rattle.sha2.specs.Sha256.{sha256};
 ghost use Rattle.segment.specs.Parts.{parts_of};

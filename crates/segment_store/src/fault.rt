@@ -1,7 +1,8 @@
 ghost use Rattle.std.specs.Prelude.{◌≡◌};
 ghost use Rattle.segment_store.specs.declared.fault.InitFault.TheVariants as inits;
 ghost use Rattle.segment_store.specs.declared.fault.ResumeFault.TheVariants.{
-    DiskFault, OutOfMemory,
+  DiskFault,
+  OutOfMemory,
 };
 
 use crate::damage::Damage;

@@ -1,5 +1,20 @@
 ghost use Rattle.std.specs.Prelude.{
-    ◌≡◌, ◌*◌, ◌+◌, ◌-◌, ◌<◌, ◌≤◌, ◌^◌, ◌++◌, [], ◌∷◌, List, ℕ, length, vec_len, take, drop,
+  ◌≡◌,
+  ◌*◌,
+  ◌+◌,
+  ◌-◌,
+  ◌<◌,
+  ◌≤◌,
+  ◌^◌,
+  ◌++◌,
+  [],
+  ◌∷◌,
+  List,
+  ℕ,
+  length,
+  vec_len,
+  take,
+  drop,
 };
 ghost use Rattle.std.specs.Int.{w32, to_be_bytes};
 ghost use Rattle.sha2.specs.Sha256.{sha256};

@@ -1,13 +1,31 @@
 ghost use Rattle.std.specs.Prelude.{
-    ◌≡◌, ◌<◌, ◌≤◌, ◌+◌, ◌*◌, ℕ, List, All, length, slice_index, slice_range, IfOk,
+  ◌≡◌,
+  ◌<◌,
+  ◌≤◌,
+  ◌+◌,
+  ◌*◌,
+  ℕ,
+  List,
+  All,
+  length,
+  slice_index,
+  slice_range,
+  IfOk,
 };
 ghost use Rattle.calibration.specs.Gain.{IsGain};
 ghost use Rattle.segment_bytes.specs.declared.layout.Layout.TheVariants.{One};
 ghost use Rattle.store_head.specs.Head.{
-    front, gauge as gauge_bytes, gauges as gauges_bytes, IsRecorded,
+  front,
+  gauge as gauge_bytes,
+  gauges as gauges_bytes,
+  IsRecorded,
 };
 ghost use Rattle.store_head.specs.Judging.{
-    start_fault, gauge_fault as gauge_fault_in, gauges_fault, gauge_at, layout_in,
+  start_fault,
+  gauge_fault as gauge_fault_in,
+  gauges_fault,
+  gauge_at,
+  layout_in,
 };
 ghost use Rattle.segment_store.specs.Opening.{Judges, DiskRose, refused as refused_as};
 ghost use Rattle.segment_store.specs.Quiet.{IsQuiet};
@@ -19,9 +37,7 @@ use recording::Head;
 use segment_bytes::Layout;
 use station::Station;
 use std::alloc::Global;
-use store_head::{
-    HeadFault, Heads, StoreHead, front_fault, gauge_fault, layout_of, recorded,
-};
+use store_head::{HeadFault, Heads, StoreHead, front_fault, gauge_fault, layout_of, recorded};
 
 // Bytes are below 256.
 fn fit(bytes: &[u8])
@@ -108,7 +124,7 @@ pub(crate) fn read_gauges<K: Station>(
         (gauges_fault 0 setup.now.gains (K.seen station.old)) }
     ensures bytes { K.tells → IfOk result (λ h.
         slice_range (K.seen station.old) 22 (22 + 40 * length setup.now.gains)
-            ≡ gauges_bytes h.heads setup.now.gains) }
+        ≡ gauges_bytes h.heads setup.now.gains) }
     ensures setup { IfOk result (λ h. h.setup ≡ setup.now) }
     ensures gauges { IfOk result (λ h. length h.heads ≡ length setup.now.gains) }
     ensures recorded { IfOk result (λ h. All IsRecorded h.heads) }

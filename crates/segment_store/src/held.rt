@@ -1,5 +1,16 @@
 ghost use Rattle.std.specs.Prelude.{
-    ◌≡◌, ◌<◌, ◌≤◌, ◌++◌, [], ◌∷◌, List, length, replicate, slice_index, slice_index_or, IfOk,
+  ◌≡◌,
+  ◌<◌,
+  ◌≤◌,
+  ◌++◌,
+  [],
+  ◌∷◌,
+  List,
+  length,
+  replicate,
+  slice_index,
+  slice_index_or,
+  IfOk,
 };
 ghost use Rattle.segment_rules.specs.Parts.{PartsValue};
 ghost use Rattle.segment.specs.Parts.{parts_of};

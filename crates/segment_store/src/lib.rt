@@ -5,7 +5,8 @@
 //! gate that is closed now, in one write; it syncs, opens the gate and syncs again. So at every
 //! moment of a put a crash leaves the bodies from before, or those with the new one.
 //! `Store::resume` reads what is there after a sync, and tells the first thing that is wrong in the
-//! order of the file; of a store that was stopped in a put nothing is wrong. `init` makes a store of version 2.
+//! order of the file; of a store that was stopped in a put nothing is wrong. `init` makes a store
+//! of version 2.
 //!
 //! Cost: resuming reads each body once, takes its digest and decodes it, and joins it to the held
 //! segment of its gauge. A put writes the body once and takes no memory.
@@ -29,6 +30,3 @@ pub use damage::Damage;
 pub use fault::{InitFault, PutFault, ResumeFault};
 pub use store::Store;
 pub use store_head::{Field, Heads, StoreHead};
-
-#[cfg(test)]
-mod tests;

@@ -1,5 +1,16 @@
 ghost use Rattle.std.specs.Prelude.{
-    ◌≡◌, ◌<◌, ◌≤◌, ◌+◌, ◌*◌, ℕ, List, length, vec_len, take, false, IfOk,
+  ◌≡◌,
+  ◌<◌,
+  ◌≤◌,
+  ◌+◌,
+  ◌*◌,
+  ℕ,
+  List,
+  length,
+  vec_len,
+  take,
+  false,
+  IfOk,
 };
 ghost use Rattle.segment_rules.specs.Parts.{PartsValue};
 ghost use Rattle.segment_bytes.specs.Sizes.{max_body as longest_body};
@@ -13,7 +24,12 @@ ghost use Rattle.segment_store.specs.Image.{Reads, nothing_held};
 ghost use Rattle.segment_store.specs.Keeping.{IsKept, see_state};
 ghost use Rattle.segment_store.specs.Moments.{IsOn};
 ghost use Rattle.segment_store.specs.Opening.{
-    fault_is, DiskRose, Judges, WalksAs, Resumes, IsUnharmed,
+  fault_is,
+  DiskRose,
+  Judges,
+  WalksAs,
+  Resumes,
+  IsUnharmed,
 };
 ghost use Rattle.segment_store.specs.Quiet.{IsQuiet};
 ghost use Rattle.segment_store.specs.Reading.{StartsAt, IsFound};
@@ -89,12 +105,12 @@ fn open_bodies<K: Station>(
         (λ (s : StateIs). (s.place, ends_of s.held)) result }
     ensures found { IfOk result (λ s. (bodies : List PartsValue)
         × AreHeld head.setup.grid bodies s.held × (s.count ≡ length bodies) × (K.tells →
-            IsFound layout head.setup (K.seen station.old) (start_of head.setup)
-                (nothing_held head.setup) s.place (ends_of s.held) bodies)) }
+        IsFound layout head.setup (K.seen station.old) (start_of head.setup)
+        (nothing_held head.setup) s.place (ends_of s.held) bodies)) }
     ensures reads { K.tells → (bodies : List PartsValue) (last : List ℕ) (gate : ℕ)
         (front rest : List ℕ) → StartsAt layout head.setup
-            (longest_body layout head.setup.grid.classes) (K.seen station.old)
-            (start_of head.setup) (nothing_held head.setup) bodies last gate front rest →
+        (longest_body layout head.setup.grid.classes) (K.seen station.old)
+        (start_of head.setup) (nothing_held head.setup) bodies last gate front rest →
         IsUnharmed result }
     ensures head { IfOk result (λ s. s.head ≡ head) }
     ensures layout { IfOk result (λ s. s.layout ≡ layout) }
@@ -111,7 +127,17 @@ fn open_bodies<K: Station>(
     let mut held = Held::new(alloc, &head.setup.grid, gauges as u16)?;
     let mut buf = vec![in alloc; 0u8; limit + 37]?;
     let start = 22 + 40 * gauges as u64;
-    match walk(alloc, station, layout, &head.setup, size, limit, &mut held, start, &mut buf) {
+    match walk(
+        alloc,
+        station,
+        layout,
+        &head.setup,
+        size,
+        limit,
+        &mut held,
+        start,
+        &mut buf,
+    ) {
         Ok((place, count)) => Ok(State {
             head,
             layout,

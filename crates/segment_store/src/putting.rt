@@ -1,6 +1,22 @@
 ghost use Rattle.std.specs.Prelude.{
-    ◌≡◌, ◌⊎◌, ◌+◌, ◌<◌, ◌≤◌, ◌++◌, [], ◌∷◌, List, ℕ, true, false, length, vec_len, slice_index,
-    OnOk, OnErr, Err,
+  ◌≡◌,
+  ◌⊎◌,
+  ◌+◌,
+  ◌<◌,
+  ◌≤◌,
+  ◌++◌,
+  [],
+  ◌∷◌,
+  List,
+  ℕ,
+  true,
+  false,
+  length,
+  vec_len,
+  slice_index,
+  OnOk,
+  OnErr,
+  Err,
 };
 ghost use Rattle.outside.specs.Fault.{Rose};
 ghost use Rattle.station.specs.Station.{Since};
@@ -13,7 +29,9 @@ ghost use Rattle.segment_store.specs.Keeping.{IsKept};
 ghost use Rattle.segment_store.specs.Moments.{IsAt, InPut};
 ghost use Rattle.segment_store.specs.Putting.{Refuses, Unwritten};
 ghost use Rattle.segment_store.specs.declared.fault.PutFault.TheVariants.{
-    DiskFault, NotNext, Shut,
+  DiskFault,
+  NotNext,
+  Shut,
 };
 
 use crate::fault::PutFault;
@@ -51,22 +69,22 @@ impl State {
         requires kept { IsKept self.old }
         requires at { K.tells → self.old.shut ≡ false → (bodies : List PartsValue)
             × IsAt (see_head self.old.layout self.old.head) bodies (ends_of self.old.held)
-                self.old.place (K.seen station.old) (K.leaves station.old) }
+            self.old.place (K.seen station.old) (K.leaves station.old) }
         ensures stored { K.tells → (bodies : List PartsValue) → self.old.shut ≡ false →
             IsAt (see_head self.old.layout self.old.head) bodies (ends_of self.old.held)
-                self.old.place (K.seen station.old) (K.leaves station.old) →
+            self.old.place (K.seen station.old) (K.leaves station.old) →
             OnOk result
-                (IsNext self.old.head.setup (ends_of self.old.held) (parts_of segment.now)
-                × IsAt (see_head self.old.layout self.old.head)
-                    (bodies ++ parts_of segment.now ∷ []) (ends_of self.new.held)
-                    self.new.place (K.seen station.new) (K.leaves station.new)) }
+            (IsNext self.old.head.setup (ends_of self.old.held) (parts_of segment.now)
+            × IsAt (see_head self.old.layout self.old.head)
+            (bodies ++ parts_of segment.now ∷ []) (ends_of self.new.held)
+            self.new.place (K.seen station.new) (K.leaves station.new)) }
         ensures any_moment { K.tells → (bodies : List PartsValue) → self.old.shut ≡ false →
             IsAt (see_head self.old.layout self.old.head) bodies (ends_of self.old.held)
-                self.old.place (K.seen station.old) (K.leaves station.old) →
+            self.old.place (K.seen station.old) (K.leaves station.old) →
             Since (K.clock station.old) (K.moments station.old) (K.clock station.new)
-                (K.moments station.new)
-                (InPut (K.told station.old) (see_head self.old.layout self.old.head) bodies
-                    (ends_of self.old.held) (parts_of segment.now)) }
+            (K.moments station.new)
+            (InPut (K.told station.old) (see_head self.old.layout self.old.head) bodies
+            (ends_of self.old.held) (parts_of segment.now)) }
         ensures told { K.tells → K.told station.new ≡ K.told station.old }
         ensures refuses { Refuses self.old.shut
             (slice_index (ends_of self.old.held) segment.now.gauge) segment.now.from result }
@@ -75,7 +93,7 @@ impl State {
         ensures joined { (bodies : List PartsValue) →
             AreHeld self.old.head.setup.grid bodies self.old.held →
             OnOk result (AreHeld self.old.head.setup.grid
-                (bodies ++ parts_of segment.now ∷ []) self.new.held) }
+            (bodies ++ parts_of segment.now ∷ []) self.new.held) }
         ensures held { OnOk result (ends_of self.new.held ≡
             extended (ends_of self.old.held) (parts_of segment.now)) }
         ensures counted { OnOk result (self.new.count ≡ self.old.count + 1) }

@@ -1,5 +1,18 @@
 ghost use Rattle.std.specs.Prelude.{
-    ◌≡◌, ◌<◌, ◌≤◌, ◌+◌, ◌*◌, ◌^◌, ◌++◌, [], List, ℕ, length, slice_index, IfOk, IfErr,
+  ◌≡◌,
+  ◌<◌,
+  ◌≤◌,
+  ◌+◌,
+  ◌*◌,
+  ◌^◌,
+  ◌++◌,
+  [],
+  List,
+  ℕ,
+  length,
+  slice_index,
+  IfOk,
+  IfErr,
 };
 ghost use Rattle.segment_rules.specs.Parts.{PartsValue};
 ghost use Rattle.segment.specs.Parts.{parts_of};
@@ -116,12 +129,12 @@ pub(crate) fn walk<K: Station>(
     // Where the image reads as bodies, nothing is damaged.
     ensures reads { K.tells → (bodies : List PartsValue) (last : List ℕ) (gate : ℕ)
         (front rest : List ℕ) → StartsAt layout setup.now limit (K.seen station.old) start
-            (ends_of held.old) bodies last gate front rest → NoDamage result }
+        (ends_of held.old) bodies last gate front rest → NoDamage result }
     // With Ok it found bodies up to a closed gate, which are joined.
     ensures found { IfOk result (λ x. (bodies : List PartsValue)
         × AreHeld setup.now.grid bodies held.new × (x.1 ≡ length bodies) × (K.tells →
-            IsFound layout setup.now (K.seen station.old) start (ends_of held.old) x.0
-                (ends_of held.new) bodies)) }
+        IsFound layout setup.now (K.seen station.old) start (ends_of held.old) x.0
+        (ends_of held.new) bodies)) }
     ensures near { IfOk result (λ x. IsNear x.0 (ends_of held.new)) }
     ensures count { IfOk result (λ x. x.1 ≤ x.0) }
     ensures disk { IfErr result (λ e.
@@ -159,8 +172,8 @@ fn walk_from<K: Station>(
         (Walks layout setup.now limit (K.seen station.old) 0 start (ends_of held.old)) result }
     ensures found { IfOk result (λ x. (bodies : List PartsValue)
         × AreHeld setup.now.grid bodies held.new × (x.1 ≡ length bodies) × (K.tells →
-            IsFound layout setup.now (K.seen station.old) start (ends_of held.old) x.0
-                (ends_of held.new) bodies)) }
+        IsFound layout setup.now (K.seen station.old) start (ends_of held.old) x.0
+        (ends_of held.new) bodies)) }
     ensures near { IfOk result (λ x. IsNear x.0 (ends_of held.new)) }
     ensures count { IfOk result (λ x. x.1 ≤ x.0) }
     ensures disk { IfErr result (λ e.

@@ -1,6 +1,23 @@
 ghost use Rattle.std.specs.Prelude.{
-    ◌≡◌, ◌<◌, ◌≤◌, ◌⊎◌, ◌↔◌, ◌++◌, [], ◌∷◌, ℕ, List, length, slice_index, slice_index_or, true,
-    false, IfOk, OnOk, OnErr, Err,
+  ◌≡◌,
+  ◌<◌,
+  ◌≤◌,
+  ◌⊎◌,
+  ◌↔◌,
+  ◌++◌,
+  [],
+  ◌∷◌,
+  ℕ,
+  List,
+  length,
+  slice_index,
+  slice_index_or,
+  true,
+  false,
+  IfOk,
+  OnOk,
+  OnErr,
+  Err,
 };
 ghost use Rattle.outside.specs.Fault.{Rose};
 ghost use Rattle.station.specs.Station.{Since};
@@ -65,7 +82,7 @@ impl Store {
             (ends : List ℕ) → head.setup ≡ setup.now →
             Reads head bodies ends (K.seen station.old) →
             IfOk result (λ s. (s.head ≡ head) × (ends_of s.held ≡ ends)
-                × IsOn s bodies (K.seen station.new) (K.leaves station.new)) }
+            × IsOn s bodies (K.seen station.new) (K.leaves station.new)) }
         ensures unharmed { K.tells → (head : HeadValue) (bodies : List PartsValue)
             (ends : List ℕ) → head.setup ≡ setup.now →
             Reads head bodies ends (K.seen station.old) → IsUnharmed result }
@@ -90,11 +107,7 @@ impl Store {
     /// Stores a segment over the store's grid, which is not empty and of a gauge of the store. It
     /// takes no memory: one write behind the closed gate, a sync, the open gate, a sync. After
     /// `DiskFault` the store is shut; after any refusal what is held stays.
-    pub fn put<K: Station>(
-        &mut self,
-        station: &mut K,
-        segment: &Segment,
-    ) -> Result<(), PutFault>
+    pub fn put<K: Station>(&mut self, station: &mut K, segment: &Segment) -> Result<(), PutFault>
         requires grid { segment.now.grid ≡ self.old.head.setup.grid }
         requires gauge { segment.now.gauge < length self.old.head.setup.gains }
         requires some { segment.now.from < segment.now.to }
@@ -104,14 +117,14 @@ impl Store {
         ensures stored { K.tells → (bodies : List PartsValue) → self.old.shut ≡ false →
             IsOn self.old bodies (K.seen station.old) (K.leaves station.old) →
             OnOk result (IsNext self.old.head.setup (ends_of self.old.held) (parts_of segment.now)
-                × IsOn self.new (bodies ++ parts_of segment.now ∷ [])
-                    (K.seen station.new) (K.leaves station.new)) }
+            × IsOn self.new (bodies ++ parts_of segment.now ∷ [])
+            (K.seen station.new) (K.leaves station.new)) }
         // Every moment of it reads as the bodies from before, or with the new one.
         ensures any_moment { K.tells → (bodies : List PartsValue) → self.old.shut ≡ false →
             IsOn self.old bodies (K.seen station.old) (K.leaves station.old) →
             Since (K.clock station.old) (K.moments station.old) (K.clock station.new)
-                (K.moments station.new) (InPut (K.told station.old) self.old.head bodies
-                    (ends_of self.old.held) (parts_of segment.now)) }
+            (K.moments station.new) (InPut (K.told station.old) self.old.head bodies
+            (ends_of self.old.held) (parts_of segment.now)) }
         ensures told { K.tells → K.told station.new ≡ K.told station.old }
         // When it refuses.
         ensures refuses { Refuses self.old.shut

@@ -1,5 +1,19 @@
 ghost use Rattle.std.specs.Prelude.{
-    ◌≡◌, ◌⊎◌, ◌*◌, ◌+◌, ◌<◌, ◌≤◌, ◌^◌, ◌++◌, [], ◌∷◌, List, ℕ, length, OnOk, OnErr,
+  ◌≡◌,
+  ◌⊎◌,
+  ◌*◌,
+  ◌+◌,
+  ◌<◌,
+  ◌≤◌,
+  ◌^◌,
+  ◌++◌,
+  [],
+  ◌∷◌,
+  List,
+  ℕ,
+  length,
+  OnOk,
+  OnErr,
 };
 ghost use Rattle.outside.specs.Fault.{Rose, HasCause};
 ghost use Rattle.station.specs.Station.{Image, Lines, Since, Overwrites, Only};
@@ -18,7 +32,7 @@ pub(crate) fn write_synced<K: Station>(station: &mut K, at: u64, bytes: &[u8]) -
     requires room { at + length bytes.now ≤ 2 ^ 62 }
     ensures done { K.tells → OnOk result
         (Overwrites (K.seen station.old) at bytes.now (K.seen station.new)
-            × Only (K.seen station.new) (K.leaves station.new)) }
+        × Only (K.seen station.new) (K.leaves station.new)) }
     ensures any_moment { K.tells → Since (K.clock station.old) (K.moments station.old)
         (K.clock station.new) (K.moments station.new)
         (InWrite (K.told station.old) (K.leaves station.old) at (length bytes.now)) }
@@ -43,14 +57,14 @@ pub(crate) fn write_body<K: Station>(
         IsAt head bodies ends place (K.seen station.old) (K.leaves station.old) →
         IsNext head.setup ends p → bytes.now ≡ stored (body_of head.layout p) ++ 0 ∷ [] →
         OnOk result (IsAt head (bodies ++ p ∷ []) (extended ends p)
-            (place + length (stored (body_of head.layout p)) + 1)
-            (K.seen station.new) (K.leaves station.new)) }
+        (place + length (stored (body_of head.layout p)) + 1)
+        (K.seen station.new) (K.leaves station.new)) }
     ensures any_moment { K.tells → (head : HeadValue) (bodies : List PartsValue) (ends : List ℕ)
         (p : PartsValue) →
         IsAt head bodies ends place (K.seen station.old) (K.leaves station.old) →
         IsNext head.setup ends p → bytes.now ≡ stored (body_of head.layout p) ++ 0 ∷ [] →
         Since (K.clock station.old) (K.moments station.old) (K.clock station.new)
-            (K.moments station.new) (InPut (K.told station.old) head bodies ends p) }
+        (K.moments station.new) (InPut (K.told station.old) head bodies ends p) }
     ensures told { K.tells → K.told station.new ≡ K.told station.old }
     ensures cause { HasCause (K.faults station.old) (K.faults station.new) result }
 {

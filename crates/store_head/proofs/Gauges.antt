@@ -52,7 +52,7 @@ bytes_more image hs gains h g i long lt more so_far one =
     let e : 22 + 40 * (i + 1) ≡ 22 + 40 * i + 40 = omega arith in
     let same : length hs ≡ length (take i gains) = omega (arith, long, lt, length-take i gains) in
     ap (λ n. slice_range image 22 n) e ∙ slice_more image 22 (22 + 40 * i) (22 + 40 * i + 40) (omega arith) (omega arith)
-        ∙ ap (λ (l : List ℕ). l ++ gauge_at i image) so_far ∙ ap (λ (l : List ℕ). gauges hs (take i gains) ++ l) one
+    ∙ ap (λ (l : List ℕ). l ++ gauge_at i image) so_far ∙ ap (λ (l : List ℕ). gauges hs (take i gains) ++ l) one
     ∙ sym (gauges_more hs (take i gains) h g same) ∙ ap (gauges (hs ++ h ∷ [])) (sym more)
 
 -- the head, from its two parts
@@ -61,8 +61,8 @@ pub head_is : (image : List ℕ) (s : Setup) (h : HeadValue) → h.setup ≡ s �
 head_is image s h same a b =
     let e : start_of s ≡ start_of s - 0 = omega arith in
     ap (λ n. take n image) e ∙ slice_more image 0 22 (start_of s) (omega arith) (omega arith)
-        ∙ ap (λ (l : List ℕ). l ++ slice_range image 22 (start_of s)) a ∙ ap (λ (l : List ℕ). front h.layout s ++ l) b
-        ∙ ap (λ (v : Setup). front h.layout v ++ gauges h.heads v.gains) (sym same)
+    ∙ ap (λ (l : List ℕ). l ++ slice_range image 22 (start_of s)) a ∙ ap (λ (l : List ℕ). front h.layout s ++ l) b
+    ∙ ap (λ (v : Setup). front h.layout v ++ gauges h.heads v.gains) (sym same)
 
 -- so far for the first i gauges, and for one more, which is read from equal lists
 module _ (heads heads2 : List Head) (gains gains2 : List GainValue) (i : ℕ) (d : Head) (x : GainValue) (lt : i < length heads)
@@ -70,7 +70,7 @@ module _ (heads heads2 : List Head) (gains gains2 : List GainValue) (i : ℕ) (d
   more_gains : take (i + 1) gains ≡ take i gains ++ x ∷ []
   more_gains =
       take_more gains i x (omega (arith, lt, same)) ∙ ap (λ y. take i gains ++ y ∷ [])
-          (sym (is ∙ ap (λ (l : List GainValue). get_or l i x) gains_are))
+      (sym (is ∙ ap (λ (l : List GainValue). get_or l i x) gains_are))
 
   more_heads : take (i + 1) heads ≡ take i heads ++ get_or heads2 i d ∷ []
   more_heads = take_more heads i d lt ∙ ap (λ (l : List Head). take i heads ++ get_or l i d ∷ []) (sym heads_are)

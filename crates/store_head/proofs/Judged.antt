@@ -98,7 +98,7 @@ cut : (s : List ℕ) (i n : ℕ) → drop i s ≡ slice_range s i (i + n) ++ dro
 cut s i n =
     let e : i + n - i ≡ n = omega arith in
     sym (take-append-drop n (drop i s)) ∙ ap (λ (l : List ℕ). take n (drop i s) ++ l) (drop-drop n i s)
-        ∙ ap (λ k. take k (drop i s) ++ drop (i + n) s) (sym e)
+    ∙ ap (λ k. take k (drop i s) ++ drop (i + n) s) (sym e)
 
 pub slice_long : (s : List ℕ) (i n : ℕ) → i + n ≤ length s → length (slice_range s i (i + n)) ≡ n
 slice_long s i n le = omega (arith, length-take (i + n - i) (drop i s), length-drop i s)
@@ -126,9 +126,9 @@ step64 : (b : List ℕ) (at : ℕ) (z : ℤ) → at + 8 ≤ length b → IsBytes
 step64 b at z le fits e =
     let s = slice_range b at (at + 8) in
     let n : cast_unsigned w64 z ≡ from_be_bytes w64 s = ap (cast_unsigned w64) (sym e)
-        ∙ of_z-to_z w64 (from_be_bytes w64 s) (below64 s (slice_fits b at (at + 8) fits)) in
+    ∙ of_z-to_z w64 (from_be_bytes w64 s) (below64 s (slice_fits b at (at + 8) fits)) in
     cut b at 8 ∙ ap (λ (l : List ℕ). l ++ drop (at + 8) b)
-        (sym (be_bytes_8 s (cast_unsigned w64 z) (slice_long b at 8 le) (slice_fits b at (at + 8) fits) n))
+    (sym (be_bytes_8 s (cast_unsigned w64 z) (slice_long b at 8 le) (slice_fits b at (at + 8) fits) n))
 
 step1 : (b : List ℕ) (at n : ℕ) → at < length b → eqb (get_or b at 0) n ≡ true → drop at b ≡ n ∷ drop (at + 1) b
 step1 b at n lt e = drop_more b at 0 lt ∙ ap (λ (x : ℕ). x ∷ drop (at + 1) b) (same _ _ e)
@@ -177,16 +177,16 @@ front_is s size b long fits none =
     let m1 = both_true _ _ m.0 in
     let m2 = both_true _ _ m.1 in
     let d20 : drop 20 b ≡ to_be_bytes w16 s.grid.reference =
-        step16 b 20 s.grid.reference (omega (arith, long)) fits (same_number _ _ _ l.1)
-        ∙ ends_here b 22 (to_be_bytes w16 s.grid.reference) long in
+    step16 b 20 s.grid.reference (omega (arith, long)) fits (same_number _ _ _ l.1)
+    ∙ ends_here b 22 (to_be_bytes w16 s.grid.reference) long in
     let d12 = step64 b 12 s.grid.low_kpa (omega (arith, long)) fits (same_of _ _ _ l.0)
-        ∙ ap (λ (r : List ℕ). to_be_bytes w64 (cast_unsigned w64 s.grid.low_kpa) ++ r) d20 in
+    ∙ ap (λ (r : List ℕ). to_be_bytes w64 (cast_unsigned w64 s.grid.low_kpa) ++ r) d20 in
     let d10 = step16 b 10 s.grid.w2 (omega (arith, long)) fits (same_number _ _ _ w.0)
-        ∙ ap (λ (r : List ℕ). to_be_bytes w16 s.grid.w2 ++ r) d12 in
+    ∙ ap (λ (r : List ℕ). to_be_bytes w16 s.grid.w2 ++ r) d12 in
     let d8 = step16 b 8 s.grid.classes (omega (arith, long)) fits (same_number _ _ _ c.0)
-        ∙ ap (λ (r : List ℕ). to_be_bytes w16 s.grid.classes ++ r) d10 in
+    ∙ ap (λ (r : List ℕ). to_be_bytes w16 s.grid.classes ++ r) d10 in
     let d6 = step16 b 6 (length s.gains) (omega (arith, long)) fits (same_number _ _ _ g.0)
-        ∙ ap (λ (r : List ℕ). to_be_bytes w16 (length s.gains) ++ r) d8 in
+    ∙ ap (λ (r : List ℕ). to_be_bytes w16 (length s.gains) ++ r) d8 in
     let v5 = version_of (layout_of (get_or b 5 0)) in
     let d5 = step1 b 5 v5 (omega (arith, long)) (version_back (get_or b 5 0) (unless_none _ _ v.0)) ∙ ap (λ (r : List ℕ). v5 ∷ r) d6 in
     let whole = both_true _ _ (unless_none _ _ z.0) in
@@ -194,9 +194,12 @@ front_is s size b long fits none =
     let d3 = step1 b 3 83 (omega (arith, long)) m2.0 ∙ ap (λ (r : List ℕ). 83 ∷ r) d4 in
     let d2 = step1 b 2 71 (omega (arith, long)) m1.1 ∙ ap (λ (r : List ℕ). 71 ∷ r) d3 in
     let d1 = step1 b 1 83 (omega (arith, long)) m1.0 ∙ ap (λ (r : List ℕ). 83 ∷ r) d2 in
-    let d0 = step1 b 0 1 (omega (arith, long)) magic.0 ∙ ap (λ (r : List ℕ). 1 ∷ r) d1 in
-    (d0, atmost _ _ whole.0, λ one. narrow_is (eqb (get_or b 5 0) 1) (number w16 8 b) s.grid.classes whole.1 (one_back (get_or b 5 0) one)
-        (same_number _ _ _ c.0))
+    let d0 = step1 b 0 1 (omega (arith, long)) magic.0 ∙ ap (λ (r : List ℕ). 1 ∷ r) d1 in (
+      d0,
+      atmost _ _ whole.0,
+      λ one. narrow_is (eqb (get_or b 5 0) 1) (number w16 8 b) s.grid.classes whole.1 (one_back (get_or b 5 0) one)
+          (same_number _ _ _ c.0),
+    )
 
 small_signed : (z : ℤ) → unsigned_abs z ≤ 1000000000 → cast_signed w64 (cast_unsigned w64 z) ≡ z
 small_signed z h = to_z-of_z w64 z (by z h)
@@ -241,7 +244,7 @@ is_front l s size i narrow le =
     (none_or _ _ (of_same _ _ _ (ap pos (from_be_bytes-to_be_bytes_2 s.grid.classes k)))
     (none_or _ _ (of_same _ _ _ (ap pos (from_be_bytes-to_be_bytes_2 s.grid.w2 w)))
     (none_or _ _ (of_same _ _ _ (read_signed s.grid.low_kpa g.low))
-        (of_same _ _ _ (ap pos (from_be_bytes-to_be_bytes_2 s.grid.reference r)))))))))
+    (of_same _ _ _ (ap pos (from_be_bytes-to_be_bytes_2 s.grid.reference r)))))))))
   where
     width_small : (k w : ℕ) → 2 ≤ k → (k - 1) * w ≤ 2000 → w < 2 ^ 16
     width_small k w le h = let m : 1 * w ≤ (k - 1) * w = mul-le 1 w (k - 1) w (omega (arith, le)) (omega arith) in omega (arith, m, h)
@@ -253,12 +256,12 @@ gauge_is g x b long fits none =
     let a = or_none _ _ none in
     let d = or_none _ _ a.1 in
     let d32 = step64 b 32 x.offset (omega (arith, long)) fits (same_of _ _ _ d.1)
-        ∙ ends_here b 40 (to_be_bytes w64 (cast_unsigned w64 x.offset)) long in
+    ∙ ends_here b 40 (to_be_bytes w64 (cast_unsigned w64 x.offset)) long in
     let d28 = step32 b 28 x.den (omega (arith, long)) fits (same_number _ _ _ d.0) ∙ ap (λ (r : List ℕ). to_be_bytes w32 x.den ++ r) d32 in
     let d20 = step64 b 20 x.num (omega (arith, long)) fits (same_of _ _ _ a.0)
-        ∙ ap (λ (r : List ℕ). to_be_bytes w64 (cast_unsigned w64 x.num) ++ r) d28 in
+    ∙ ap (λ (r : List ℕ). to_be_bytes w64 (cast_unsigned w64 x.num) ++ r) d28 in
     let d16 = step32 b 16 (number w32 16 b) (omega (arith, long)) fits refl
-        ∙ ap (λ (r : List ℕ). to_be_bytes w32 (number w32 16 b) ++ r) d20 in
+    ∙ ap (λ (r : List ℕ). to_be_bytes w32 (number w32 16 b) ++ r) d20 in
     sym (take-append-drop 16 b) ∙ ap (λ (r : List ℕ). take 16 b ++ r) d16
 
 abbrev made : List ℕ → ℕ → Head
@@ -279,12 +282,14 @@ pub is_gauge : (g : ℕ) (h : Head) (x : GainValue) → IsRecorded h → IsGain 
 is_gauge g h x r i =
     let b = numbers h x in
     let num : signed_number 20 (gauge h x) ≡ x.num = ap (λ (l : List ℕ). cast_signed w64 (from_be_bytes w64 l)) (behind h.id b 4 12 r.id)
-        ∙ read_signed x.num i.num in
+    ∙ read_signed x.num i.num in
     let den : number w32 28 (gauge h x) ≡ x.den = ap (from_be_bytes w32) (behind h.id b 12 16 r.id)
-        ∙ from_be_bytes-to_be_bytes_4 x.den (omega (arith, i.den_to)) in
+    ∙ from_be_bytes-to_be_bytes_4 x.den (omega (arith, i.den_to)) in
     let offset : signed_number 32 (gauge h x) ≡ x.offset = ap (λ (l : List ℕ). cast_signed w64 (from_be_bytes w64 l))
-        (behind h.id b 16 24 r.id) ∙ read_signed x.offset i.offset in
+    (behind h.id b 16 24 r.id) ∙ read_signed x.offset i.offset in
     let period : number w32 16 (gauge h x) ≡ h.period_us = ap (from_be_bytes w32) (behind h.id b 0 4 r.id)
-        ∙ from_be_bytes-to_be_bytes_4 h.period_us r.period in
-    (none_or _ _ (of_same _ _ _ num) (none_or _ _ (of_same _ _ _ (ap pos den)) (of_same _ _ _ offset)), head_made
-        (take 16 (gauge h x)) h.id (number w32 16 (gauge h x)) h.period_us (take_at h.id b 16 r.id) period)
+    ∙ from_be_bytes-to_be_bytes_4 h.period_us r.period in (
+      none_or _ _ (of_same _ _ _ num) (none_or _ _ (of_same _ _ _ (ap pos den)) (of_same _ _ _ offset)),
+      head_made
+          (take 16 (gauge h x)) h.id (number w32 16 (gauge h x)) h.period_us (take_at h.id b 16 r.id) period,
+    )

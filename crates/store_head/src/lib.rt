@@ -19,6 +19,3 @@ pub use fault::{Field, HeadFault};
 pub use judging::{front_fault, gauge_fault, layout_of, recorded};
 pub use setup::{Heads, StoreHead};
 pub use writing::bytes_of;
-
-#[cfg(test)]
-mod tests;

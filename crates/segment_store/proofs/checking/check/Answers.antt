@@ -42,7 +42,7 @@ pub returns-then-from-gauges-clause-checks : goal.returns-then-from-gauges-claus
 returns-then-from-gauges-clause-checks c =
     let gauge = ap (λ (n : Name). n.gauge) c.name-name.ensures.value in
     subst (λ n. Checks c.args.layout c.args.setup.now (ends_of c.args.held.now) c.args.bytes.now c.args.kept c.args.found
-        (Err (damages.Gauge n))) (sym gauge)
+    (Err (damages.Gauge n))) (sym gauge)
     (stranger (c.are_same.ensures.0 c.if-not-are_same.false) c.in-Ok.ensures.exact (omega (arith, gauge)))
 
 pub returns-then-name-clause-checks : goal.returns-then-name-clause-checks
@@ -50,7 +50,7 @@ returns-then-name-clause-checks c =
     let n = c.name-name.ensures.value in
     let gauge = ap (λ (n : Name). n.gauge) n in
     empty (c.are_same.ensures.0 c.if-not-are_same.false) c.in-Ok.ensures.exact (omega (arith, gauge))
-        (omega (arith, ap (λ (n : Name). n.from) n, ap (λ (n : Name). n.to) n))
+    (omega (arith, ap (λ (n : Name). n.from) n, ap (λ (n : Name). n.to) n))
 
 pub returns-then-name-to-clause-checks : goal.returns-then-name-to-clause-checks
 returns-then-name-to-clause-checks c =
@@ -60,13 +60,13 @@ returns-then-name-to-clause-checks c =
     let to = ap (λ (n : Name). n.to) n in
     let end = c.end-to.ensures ∙ ap (λ g. get_or (ends_of c.args.held.now) g 0) gauge in
     let joins : Checks c.args.layout c.args.setup.now (ends_of c.args.held.now) c.args.bytes.now c.args.kept c.args.found
-        (Err (damages.Join (refusals.NotNext (get_or (ends_of c.args.held.now) c.in-Ok.segment.gauge 0) c.in-Ok.segment.from))) =
+    (Err (damages.Join (refusals.NotNext (get_or (ends_of c.args.held.now) c.in-Ok.segment.gauge 0) c.in-Ok.segment.from))) =
     apart (c.are_same.ensures.0 c.if-not-are_same.false) c.in-Ok.ensures.exact (omega (arith, gauge)) (omega (arith, from, to))
     (λ e. c.if-name-to.true (from ∙ e ∙ sym end)) in
     subst (λ a. Checks c.args.layout c.args.setup.now (ends_of c.args.held.now) c.args.bytes.now c.args.kept c.args.found
-        (Err (damages.Join (refusals.NotNext a c.name-name.result.from)))) (sym end)
+    (Err (damages.Join (refusals.NotNext a c.name-name.result.from)))) (sym end)
     (subst (λ b. Checks c.args.layout c.args.setup.now (ends_of c.args.held.now) c.args.bytes.now c.args.kept c.args.found
-        (Err (damages.Join (refusals.NotNext (get_or (ends_of c.args.held.now) c.in-Ok.segment.gauge 0) b)))) (sym from) joins)
+    (Err (damages.Join (refusals.NotNext (get_or (ends_of c.args.held.now) c.in-Ok.segment.gauge 0) b)))) (sym from) joins)
 
 pub returns-clause-checks : goal.returns-clause-checks
 returns-clause-checks c =
@@ -76,4 +76,4 @@ returns-clause-checks c =
     let to = ap (λ (n : Name). n.to) n in
     let end = c.end-to.ensures ∙ ap (λ g. get_or (ends_of c.args.held.now) g 0) gauge in
     sound (c.are_same.ensures.0 c.if-not-are_same.false) c.in-Ok.ensures.found (omega (arith, gauge, c.gauges.ensures))
-        (omega (arith, from, to)) (sym from ∙ c.if-name-to.false ∙ end)
+    (omega (arith, from, to)) (sym from ∙ c.if-name-to.false ∙ end)

@@ -35,15 +35,15 @@ loop-gain-preserved g c =
           let image = k.seen c.args.station.now in
           let same = (v.quiet tells).seen_same in
           let none : gauge_fault c.loop-gain.gauge x (gauge_at c.loop-gain.gauge image) ≡ None =
-              ap (λ s. gauge_fault c.loop-gain.gauge x (gauge_at c.loop-gain.gauge s)) (sym same) ∙ c.in_ok-head.ensures.judges tells in
+          ap (λ s. gauge_fault c.loop-gain.gauge x (gauge_at c.loop-gain.gauge s)) (sym same) ∙ c.in_ok-head.ensures.judges tells in
           sym (fault_next c.loop-gain.gauge x gains i image here none) ∙ v.fault tells;
       bytes = λ tells.
           let image = k.seen c.args.station.now in
           let same = (v.quiet tells).seen_same in
           let one : gauge_at i image ≡ gauge h x = ap (λ n. gauge_at n image) (sym v.gauge) ∙ ap (gauge_at c.loop-gain.gauge) (sym same)
-              ∙ c.in_ok-head.ensures.bytes tells in
+          ∙ c.in_ok-head.ensures.bytes tells in
           subst (λ l. slice_range image 22 (22 + 40 * (i + 1)) ≡ gauges l (take (i + 1) gains)) (sym c.in_ok-push.ensures.items)
-              (bytes_more image c.loop-gain.heads.items gains h x i v.count lt more (v.bytes tells) one);
+          (bytes_more image c.loop-gain.heads.items gains h x i v.count lt more (v.bytes tells) one);
       gains_are = c.in_ok-push-2.ensures.items ∙ ap (λ l. l ++ x ∷ []) v.gains_are ∙ sym more;
       count = search rules;
       gauge = search rules;

@@ -15,7 +15,7 @@ returns-in-Ok-clause-walks g c tells =
     let count = ap length c.as_slice-gauges.ensures in
     let limit = c.max_body-limit.ensures ∙ ap (max_body c.args.layout) c.classes.ensures.value in
     walks_moved c.args.layout s (g.K.Station.seen c.args.station.now) _ (max_body c.args.layout s.grid.classes) _ (start_of s) _
-        (nothing_held s) limit
+    (nothing_held s) limit
     (ap (λ n. 22 + 40 * n) count) (c.in_ok-held.ensures.ends ∙ ap (λ n. replicate n 0) count) _ (c.in-Ok.ensures.walks tells)
 
 pub returns-in-Err-clause-walks : goal.returns-in-Err-clause-walks
@@ -28,7 +28,7 @@ returns-in-Err-clause-walks g c tells =
     let see : State → ℕ × List ℕ = λ x. (x.place, ends_of x.held) in
     let see2 : ℕ × ℕ → ℕ × List ℕ = λ x. (x.0, ends_of c.walk.new.held) in
     let moved = stops_moved c.args.layout s image _ k _ (start_of s) _ (nothing_held s) limit (ap (λ n. 22 + 40 * n) count)
-        (c.in_ok-held.ensures.ends ∙ ap (λ n. replicate n 0) count) see2 c.in-Err.index c.in-Err.stop (c.in-Err.ensures.walks tells) in
+    (c.in_ok-held.ensures.ends ∙ ap (λ n. replicate n 0) count) see2 c.in-Err.index c.in-Err.stop (c.in-Err.ensures.walks tells) in
     subst (λ f. WalksAs {X = State} c.args.layout s k image see (Err f)) (sym c.fault_of.ensures.fault)
     (walks_err {X = State} c.args.layout s k image see c.in-Err.index c.in-Err.stop see2 moved)
 
@@ -40,7 +40,7 @@ returns-in-Err-clause-reads g c tells bodies last gate front rest starts =
     let limit = c.max_body-limit.ensures ∙ ap (max_body c.args.layout) c.classes.ensures.value in
     let image = g.K.Station.seen c.args.station.now in
     let moved = starts_moved c.args.layout s image _ k _ (start_of s) _ (nothing_held s) limit (ap (λ n. 22 + 40 * n) count)
-        (c.in_ok-held.ensures.ends ∙ ap (λ n. replicate n 0) count) bodies last gate front rest starts in
+    (c.in_ok-held.ensures.ends ∙ ap (λ n. replicate n 0) count) bodies last gate front rest starts in
     subst (λ f. IsUnharmed {X = State} (Err f)) (sym c.fault_of.ensures.fault)
     (unharmed_err {X = State} c.args.layout s k image (λ (x : State). (x.place, ends_of x.held)) c.in-Err.index c.in-Err.stop
     (c.in-Err.ensures.reads tells bodies last gate front rest moved))

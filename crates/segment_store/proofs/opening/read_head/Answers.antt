@@ -12,7 +12,7 @@ returns-in-Ok-clause-bytes g c tells =
     let same = (c.check_front.ensures.quiet tells).seen_same in
     let bytes = subst (λ i. slice_range i 22 (22 + 40 * length s.gains) ≡ gauges h.heads s.gains) same (c.in-Ok.ensures.bytes tells) in
     head_is (k.seen c.args.station.now) s (see_head c.in_ok-layout.layout h) c.in-Ok.ensures.setup
-        (c.in_ok-layout.ensures.front tells) bytes
+    (c.in_ok-layout.ensures.front tells) bytes
 
 pub returns-in-Ok-clause-quiet : goal.returns-in-Ok-clause-quiet
 returns-in-Ok-clause-quiet g c tells = quiet_then (c.check_front.ensures.quiet tells) (c.read_gauges.ensures.quiet tells)

@@ -43,24 +43,24 @@ pub returns-then-size-at-lt5-clause-finds : goal.returns-then-size-at-lt5-clause
 returns-then-size-at-lt5-clause-finds g c tells =
     let size = c.requires.size tells in
     subst (λ n. Finds c.args.layout c.args.setup.now c.args.limit (g.K.Station.seen c.args.station.now)
-        (ends_of c.args.held.now) c.args.at (Err (damages.Cut n))) (sym size) (no_length (omega (arith, size)))
+    (ends_of c.args.held.now) c.args.at (Err (damages.Cut n))) (sym size) (no_length (omega (arith, size)))
 
 pub returns-then-len-limit-clause-finds : goal.returns-then-len-limit-clause-finds
 returns-then-len-limit-clause-finds g c tells =
     let size = c.requires.size tells in
     let n = length_is (g.K.Station.seen c.args.station.now) c.args.at _ c.length_of-len.result
-        (c.in_ok-read_at.ensures.bytes tells) c.length_of-len.ensures.value in
+    (c.in_ok-read_at.ensures.bytes tells) c.length_of-len.ensures.value in
     subst (λ n. Finds c.args.layout c.args.setup.now c.args.limit (g.K.Station.seen c.args.station.now)
-        (ends_of c.args.held.now) c.args.at (Err (damages.Length n))) (sym n) (too_long (omega (arith, size)) (omega (arith, n)))
+    (ends_of c.args.held.now) c.args.at (Err (damages.Length n))) (sym n) (too_long (omega (arith, size)) (omega (arith, n)))
 
 pub returns-then-size-at-clause-finds : goal.returns-then-size-at-clause-finds
 returns-then-size-at-clause-finds g c tells =
     let size = c.requires.size tells in
     let n = length_is (g.K.Station.seen c.args.station.now) c.args.at _ c.length_of-len.result
-        (c.in_ok-read_at.ensures.bytes tells) c.length_of-len.ensures.value in
+    (c.in_ok-read_at.ensures.bytes tells) c.length_of-len.ensures.value in
     subst (λ n. Finds c.args.layout c.args.setup.now c.args.limit (g.K.Station.seen c.args.station.now)
-        (ends_of c.args.held.now) c.args.at (Err (damages.Cut n))) (sym size)
-        (no_gate (omega (arith, size)) (omega (arith, n)) (omega (arith, n, size)))
+    (ends_of c.args.held.now) c.args.at (Err (damages.Cut n))) (sym size)
+    (no_gate (omega (arith, size)) (omega (arith, n)) (omega (arith, n, size)))
 
 pub returns-in-Ok-clause-finds : goal.returns-in-Ok-clause-finds
 returns-in-Ok-clause-finds g c tells =
@@ -73,23 +73,28 @@ returns-in-Ok-clause-finds g c tells =
     let seen2 = c.read_at.ensures.seen tells in
     let seen3 = c.read_at-2.ensures.seen tells ∙ seen2 in
     let body : c.read_at-2.new.buf ≡ bytes_at image at = range_is image _ _ _ _ (at + 5) (length_at image at) seen2 (omega arith)
-        (omega (arith, n, c.split_at_mut-body.ensures.front_len)) (c.in_ok-read_at-2.ensures.bytes tells) in
+    (omega (arith, n, c.split_at_mut-body.ensures.front_len)) (c.in_ok-read_at-2.ensures.bytes tells) in
     let kept : c.read_at-3.new.buf ≡ kept_at image at = range_is image _ _ _ _ (at + 5 + length_at image at) 32 seen3 (omega (arith, n))
-        (omega arith) (c.in_ok-read_at-3.ensures.bytes tells) in
+    (omega arith) (c.in_ok-read_at-3.ensures.bytes tells) in
     let found : c.digest_of-found.result ≡ found_at image at = c.digest_of-found.ensures
-        ∙ ap (λ (l : List ℕ). sha256 (l ++ c.read_at-2.new.buf)) (field_is image at _ field)
-        ∙ ap (λ (l : List ℕ). sha256 (field_at image at ++ l)) body in
+    ∙ ap (λ (l : List ℕ). sha256 (l ++ c.read_at-2.new.buf)) (field_is image at _ field)
+    ∙ ap (λ (l : List ℕ). sha256 (field_at image at ++ l)) body in
     let setup : Setup = c.args.setup.now in
     let checked : Told parts_of (Checks c.args.layout setup (ends_of c.args.held.now) (bytes_at image at) (kept_at image at)
-        (found_at image at)) (Ok c.in-Ok.segment) =
+    (found_at image at)) (Ok c.in-Ok.segment) =
     subst (λ f. Told parts_of (Checks c.args.layout setup (ends_of c.args.held.now) (bytes_at image at) (kept_at image at) f)
-        (Ok c.in-Ok.segment)) found
+    (Ok c.in-Ok.segment)) found
     (subst (λ k. Told parts_of (Checks c.args.layout setup (ends_of c.args.held.now) (bytes_at image at) k c.digest_of-found.result)
-        (Ok c.in-Ok.segment)) kept
+    (Ok c.in-Ok.segment)) kept
     (subst (λ b. Told parts_of (Checks c.args.layout setup (ends_of c.args.held.now) b c.read_at-3.new.buf c.digest_of-found.result)
-        (Ok c.in-Ok.segment)) body c.in-Ok.ensures.checks)) in
-    let is_whole : IsWhole c.args.limit image at = record { field = omega (arith, size); spelled = ap (to_be_bytes w32) (sym n)
-        ∙ c.length_of-len.ensures.spelled ∙ field_is image at _ field; within = omega (arith, n); reaches = omega (arith, n, size) } in
+    (Ok c.in-Ok.segment)) body c.in-Ok.ensures.checks)) in
+    let is_whole : IsWhole c.args.limit image at = record {
+      field = omega (arith, size);
+      spelled = ap (to_be_bytes w32) (sym n)
+          ∙ c.length_of-len.ensures.spelled ∙ field_is image at _ field;
+      within = omega (arith, n);
+      reaches = omega (arith, n, size);
+    } in
     told_ok c.args.layout setup c.args.limit image (ends_of c.args.held.now) at 0 is_whole c.in-Ok.segment checked
 
 pub returns-in-Err-clause-finds : goal.returns-in-Err-clause-finds
@@ -103,66 +108,71 @@ returns-in-Err-clause-finds g c tells =
     let seen2 = c.read_at.ensures.seen tells in
     let seen3 = c.read_at-2.ensures.seen tells ∙ seen2 in
     let body : c.read_at-2.new.buf ≡ bytes_at image at = range_is image _ _ _ _ (at + 5) (length_at image at) seen2 (omega arith)
-        (omega (arith, n, c.split_at_mut-body.ensures.front_len)) (c.in_ok-read_at-2.ensures.bytes tells) in
+    (omega (arith, n, c.split_at_mut-body.ensures.front_len)) (c.in_ok-read_at-2.ensures.bytes tells) in
     let kept : c.read_at-3.new.buf ≡ kept_at image at = range_is image _ _ _ _ (at + 5 + length_at image at) 32 seen3 (omega (arith, n))
-        (omega arith) (c.in_ok-read_at-3.ensures.bytes tells) in
+    (omega arith) (c.in_ok-read_at-3.ensures.bytes tells) in
     let found : c.digest_of-found.result ≡ found_at image at = c.digest_of-found.ensures
-        ∙ ap (λ (l : List ℕ). sha256 (l ++ c.read_at-2.new.buf)) (field_is image at _ field)
-        ∙ ap (λ (l : List ℕ). sha256 (field_at image at ++ l)) body in
+    ∙ ap (λ (l : List ℕ). sha256 (l ++ c.read_at-2.new.buf)) (field_is image at _ field)
+    ∙ ap (λ (l : List ℕ). sha256 (field_at image at ++ l)) body in
     let setup : Setup = c.args.setup.now in
     let checked : Told parts_of (Checks c.args.layout setup (ends_of c.args.held.now) (bytes_at image at) (kept_at image at)
-        (found_at image at)) (Err c.in-Err.stop) =
+    (found_at image at)) (Err c.in-Err.stop) =
     subst (λ f. Told parts_of (Checks c.args.layout setup (ends_of c.args.held.now) (bytes_at image at) (kept_at image at) f)
-        (Err c.in-Err.stop)) found
+    (Err c.in-Err.stop)) found
     (subst (λ k. Told parts_of (Checks c.args.layout setup (ends_of c.args.held.now) (bytes_at image at) k c.digest_of-found.result)
-        (Err c.in-Err.stop)) kept
+    (Err c.in-Err.stop)) kept
     (subst (λ b. Told parts_of (Checks c.args.layout setup (ends_of c.args.held.now) b c.read_at-3.new.buf c.digest_of-found.result)
-        (Err c.in-Err.stop)) body c.in-Err.ensures.checks)) in
-    let is_whole : IsWhole c.args.limit image at = record { field = omega (arith, size); spelled = ap (to_be_bytes w32) (sym n)
-        ∙ c.length_of-len.ensures.spelled ∙ field_is image at _ field; within = omega (arith, n); reaches = omega (arith, n, size) } in
+    (Err c.in-Err.stop)) body c.in-Err.ensures.checks)) in
+    let is_whole : IsWhole c.args.limit image at = record {
+      field = omega (arith, size);
+      spelled = ap (to_be_bytes w32) (sym n)
+          ∙ c.length_of-len.ensures.spelled ∙ field_is image at _ field;
+      within = omega (arith, n);
+      reaches = omega (arith, n, size);
+    } in
     told_err c.args.layout setup c.args.limit image (ends_of c.args.held.now) at 0 is_whole c.in-Err.stop checked
 
 pub returns-in-Ok-clause-quiet : goal.returns-in-Ok-clause-quiet
 returns-in-Ok-clause-quiet g c tells =
     let k = g.K.Station in
     let first = quiet_starts (k.clock c.args.station.now) (k.moments c.args.station.now) (k.told c.args.station.now)
-        (k.seen c.args.station.now) (k.leaves c.args.station.now) (g.met.K.Station.only_now tells c.args.station.now) in
+    (k.seen c.args.station.now) (k.leaves c.args.station.now) (g.met.K.Station.only_now tells c.args.station.now) in
     let one = quiet_on first (c.read_at.ensures.time tells) (c.read_at.ensures.told tells) (c.read_at.ensures.seen tells)
-        (c.read_at.ensures.crash tells).none_new in
+    (c.read_at.ensures.crash tells).none_new in
     let two = quiet_on one (c.read_at-2.ensures.time tells) (c.read_at-2.ensures.told tells) (c.read_at-2.ensures.seen tells)
-        (c.read_at-2.ensures.crash tells).none_new in
+    (c.read_at-2.ensures.crash tells).none_new in
     quiet_on two (c.read_at-3.ensures.time tells) (c.read_at-3.ensures.told tells) (c.read_at-3.ensures.seen tells)
-        (c.read_at-3.ensures.crash tells).none_new
+    (c.read_at-3.ensures.crash tells).none_new
 
 pub returns-in-Err-clause-quiet : goal.returns-in-Err-clause-quiet
 returns-in-Err-clause-quiet g c tells =
     let k = g.K.Station in
     let first = quiet_starts (k.clock c.args.station.now) (k.moments c.args.station.now) (k.told c.args.station.now)
-        (k.seen c.args.station.now) (k.leaves c.args.station.now) (g.met.K.Station.only_now tells c.args.station.now) in
+    (k.seen c.args.station.now) (k.leaves c.args.station.now) (g.met.K.Station.only_now tells c.args.station.now) in
     let one = quiet_on first (c.read_at.ensures.time tells) (c.read_at.ensures.told tells) (c.read_at.ensures.seen tells)
-        (c.read_at.ensures.crash tells).none_new in
+    (c.read_at.ensures.crash tells).none_new in
     let two = quiet_on one (c.read_at-2.ensures.time tells) (c.read_at-2.ensures.told tells) (c.read_at-2.ensures.seen tells)
-        (c.read_at-2.ensures.crash tells).none_new in
+    (c.read_at-2.ensures.crash tells).none_new in
     quiet_on two (c.read_at-3.ensures.time tells) (c.read_at-3.ensures.told tells) (c.read_at-3.ensures.seen tells)
-        (c.read_at-3.ensures.crash tells).none_new
+    (c.read_at-3.ensures.crash tells).none_new
 
 pub returns-in-Ok-clause-gate : goal.returns-in-Ok-clause-gate
 returns-in-Ok-clause-gate g c tells =
     let n = length_is (g.K.Station.seen c.args.station.now) c.args.at _ c.length_of-len.result
-        (c.in_ok-read_at.ensures.bytes tells) c.length_of-len.ensures.value in
+    (c.in_ok-read_at.ensures.bytes tells) c.length_of-len.ensures.value in
     omega (arith, n)
 
 pub returns-in_err-read_at-3-clause-quiet : goal.returns-in_err-read_at-3-clause-quiet
 returns-in_err-read_at-3-clause-quiet g c tells =
     let k = g.K.Station in
     let first = quiet_starts (k.clock c.args.station.now) (k.moments c.args.station.now) (k.told c.args.station.now)
-        (k.seen c.args.station.now) (k.leaves c.args.station.now) (g.met.K.Station.only_now tells c.args.station.now) in
+    (k.seen c.args.station.now) (k.leaves c.args.station.now) (g.met.K.Station.only_now tells c.args.station.now) in
     let one = quiet_on first (c.read_at.ensures.time tells) (c.read_at.ensures.told tells) (c.read_at.ensures.seen tells)
-        (c.read_at.ensures.crash tells).none_new in
+    (c.read_at.ensures.crash tells).none_new in
     let two = quiet_on one (c.read_at-2.ensures.time tells) (c.read_at-2.ensures.told tells) (c.read_at-2.ensures.seen tells)
-        (c.read_at-2.ensures.crash tells).none_new in
+    (c.read_at-2.ensures.crash tells).none_new in
     quiet_on two (c.read_at-3.ensures.time tells) (c.read_at-3.ensures.told tells) (c.read_at-3.ensures.seen tells)
-        (c.read_at-3.ensures.crash tells).none_new
+    (c.read_at-3.ensures.crash tells).none_new
 
 pub returns-in-Ok-clause-step : goal.returns-in-Ok-clause-step
 returns-in-Ok-clause-step g c = step_is c.args.layout c.args.setup.now.grid (ends_of c.args.held.now) _ c.args.at _

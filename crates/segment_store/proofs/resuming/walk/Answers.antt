@@ -12,6 +12,6 @@ returns-clause-reads g c tells bodies last gate front rest starts =
     let image = g.K.Station.seen c.args.station.now in
     let ends = ends_of c.args.held.now in
     no_damage last (Walks lay setup limit image 0 c.args.start ends) (λ x. (x.0, ends_of c.walk_from.new.held)) c.walk_from.result
-        (c.walk_from.ensures.walks tells)
+    (c.walk_from.ensures.walks tells)
     (λ q w. walks_only lay setup starts.is_setup limit c.requires.few image gate rest starts.closed starts.within front 0 c.args.start
-        ends last bodies q starts.here starts.whole starts.tiles w)
+    ends last bodies q starts.here starts.whole starts.tiles w)

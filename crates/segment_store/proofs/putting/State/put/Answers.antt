@@ -18,14 +18,27 @@ use Rattle.segment_store.proofs.putting.State.put.Goals as goal
 pub write_body-requires-clause-room : goal.write_body-requires-clause-room
 write_body-requires-clause-room g c =
     let classes = ap (λ (g : GridValue). g.classes) c.grid-grid.ensures.value in
-    omega (arith, length-take c.stage-n.result c.deref.result.now, near_small _ _ c.requires.kept.near, c.stage-n.ensures.by_samples,
-        c.grid-grid.ensures.rules.span, c.classes-classes.ensures.limits.classes_to, classes)
+    omega (
+      arith,
+      length-take c.stage-n.result c.deref.result.now,
+      near_small _ _ c.requires.kept.near,
+      c.stage-n.ensures.by_samples,
+      c.grid-grid.ensures.rules.span,
+      c.classes-classes.ensures.limits.classes_to,
+      classes,
+    )
 
 pub overflow_add-self : goal.overflow_add-self
 overflow_add-self g c =
     let classes = ap (λ (g : GridValue). g.classes) c.grid-grid.ensures.value in
-    omega (arith, near_small _ _ c.requires.kept.near, c.stage-n.ensures.by_samples, c.grid-grid.ensures.rules.span,
-        c.classes-classes.ensures.limits.classes_to, classes)
+    omega (
+      arith,
+      near_small _ _ c.requires.kept.near,
+      c.stage-n.ensures.by_samples,
+      c.grid-grid.ensures.rules.span,
+      c.classes-classes.ensures.limits.classes_to,
+      classes,
+    )
 
 pub overflow_add-self-in-Ok : goal.overflow_add-self-in-Ok
 overflow_add-self-in-Ok g c = omega (arith, near_small _ _ c.requires.kept.near, c.requires.kept.count)
@@ -41,17 +54,21 @@ returns-in-Ok-clause-stored g c tells bodies isopen at =
     let gauge = ap (λ (n : Name). n.gauge) n in
     let joins = sym (ap (λ (n : Name). n.from) n) ∙ c.if-name-to.false ∙ c.end-to.ensures ∙ ap (λ g. get_or ends g 0) gauge in
     let rules = subst (λ g. IsSegment g p) c.requires.grid c.grid-grid.ensures.parts in
-    let next : IsNext head.setup ends p = record { body = record { segment = rules; gauge = c.requires.gauge; some = c.requires.some };
-        joins = joins } in
+    let next : IsNext head.setup ends p = record {
+      body = record { segment = rules; gauge = c.requires.gauge; some = c.requires.some };
+      joins = joins;
+    } in
     let bytes = body_of s.layout p in
     let grown : s.place + length (stored bytes) + 1 ≡ s.place + c.stage-n.result =
-        omega (arith, length-stored bytes, c.stage-n.ensures.len) in
+    omega (arith, length-stored bytes, c.stage-n.ensures.len) in
     let done = c.in-Ok.ensures.stored tells head bodies ends p at next (ap (take c.stage-n.result) c.deref.ensures.value
-        ∙ c.stage-n.ensures.filled) in
+    ∙ c.stage-n.ensures.filled) in
     let placed = subst (λ place. IsAt head (bodies ++ p ∷ []) (extended ends p) place (k.seen c.write_body.new.station)
-        (k.leaves c.write_body.new.station)) grown done in
-    (next, subst (λ e. IsAt head (bodies ++ p ∷ []) e (s.place + c.stage-n.result) (k.seen c.write_body.new.station)
-        (k.leaves c.write_body.new.station)) (sym c.join.ensures.ends) placed)
+    (k.leaves c.write_body.new.station)) grown done in (
+      next,
+      subst (λ e. IsAt head (bodies ++ p ∷ []) e (s.place + c.stage-n.result) (k.seen c.write_body.new.station)
+          (k.leaves c.write_body.new.station)) (sym c.join.ensures.ends) placed,
+    )
 
 pub returns-in-Ok-clause-any_moment : goal.returns-in-Ok-clause-any_moment
 returns-in-Ok-clause-any_moment g c tells bodies isopen at =
@@ -63,10 +80,12 @@ returns-in-Ok-clause-any_moment g c tells bodies isopen at =
     let gauge = ap (λ (n : Name). n.gauge) n in
     let joins = sym (ap (λ (n : Name). n.from) n) ∙ c.if-name-to.false ∙ c.end-to.ensures ∙ ap (λ g. get_or ends g 0) gauge in
     let rules = subst (λ g. IsSegment g p) c.requires.grid c.grid-grid.ensures.parts in
-    let next : IsNext head.setup ends p = record { body = record { segment = rules; gauge = c.requires.gauge; some = c.requires.some };
-        joins = joins } in
+    let next : IsNext head.setup ends p = record {
+      body = record { segment = rules; gauge = c.requires.gauge; some = c.requires.some };
+      joins = joins;
+    } in
     c.write_body.ensures.any_moment tells head bodies ends p at next (ap (take c.stage-n.result) c.deref.ensures.value
-        ∙ c.stage-n.ensures.filled)
+    ∙ c.stage-n.ensures.filled)
 
 pub returns-in-Err-clause-any_moment : goal.returns-in-Err-clause-any_moment
 returns-in-Err-clause-any_moment g c tells bodies isopen at =
@@ -78,10 +97,12 @@ returns-in-Err-clause-any_moment g c tells bodies isopen at =
     let gauge = ap (λ (n : Name). n.gauge) n in
     let joins = sym (ap (λ (n : Name). n.from) n) ∙ c.if-name-to.false ∙ c.end-to.ensures ∙ ap (λ g. get_or ends g 0) gauge in
     let rules = subst (λ g. IsSegment g p) c.requires.grid c.grid-grid.ensures.parts in
-    let next : IsNext head.setup ends p = record { body = record { segment = rules; gauge = c.requires.gauge; some = c.requires.some };
-        joins = joins } in
+    let next : IsNext head.setup ends p = record {
+      body = record { segment = rules; gauge = c.requires.gauge; some = c.requires.some };
+      joins = joins;
+    } in
     c.write_body.ensures.any_moment tells head bodies ends p at next (ap (take c.stage-n.result) c.deref.ensures.value
-        ∙ c.stage-n.ensures.filled)
+    ∙ c.stage-n.ensures.filled)
 
 pub returns-in-Ok-clause-kept : goal.returns-in-Ok-clause-kept
 returns-in-Ok-clause-kept g c =
@@ -107,7 +128,10 @@ returns-in-Ok-clause-kept g c =
       count = omega (arith, v.count, c.stage-n.ensures.len);
       room = omega (arith, v.room, c.stage-n.ensures.same_room);
       gauges = c.join.ensures.gauges ∙ v.gauges;
-      joined = (v.joined.0 ++ p ∷ [], subst (λ g. AreHeld g (v.joined.0 ++ p ∷ []) c.join.new.self) over
-          (c.join.ensures.held v.joined.0 all));
+      joined = (
+        v.joined.0 ++ p ∷ [],
+        subst (λ g. AreHeld g (v.joined.0 ++ p ∷ []) c.join.new.self) over
+            (c.join.ensures.held v.joined.0 all),
+      );
       narrow = v.narrow;
     }

@@ -22,12 +22,12 @@ returns-clause-stored g c tells bodies isopen on_now =
     let on : IsOn u bodies seen leaves = subst (λ x. IsOn x bodies seen leaves) (sym view) on_now in
     let shut : u.shut ≡ false = subst (λ (x : StoreValue). x.shut ≡ false) (sym view) isopen in
     let at : IsAt u.head bodies (ends_of u.held) u.place seen leaves =
-        record { reads = on.reads; place_is = on.place_is; durable = on.durable } in
+    record { reads = on.reads; place_is = on.place_is; durable = on.durable } in
     let e = c.put.ensures in
     let head : w.head ≡ u.head = ap (λ y. see_head y c.put.new.self.head) e.layout ∙ ap (see_head c.self.inside.state.layout) e.head in
     let seen2 = k.seen c.put.new.station in
     let leaves2 = k.leaves c.put.new.station in
     let done = put_on c.put.result u w bodies p seen2 leaves2 head on.count_is (e.stored tells bodies shut at)
-        (e.joined bodies on.held) e.counted in
+    (e.joined bodies on.held) e.counted in
     subst (λ (x : StoreValue). OnOk c.put.result
-        (IsNext x.head.setup (ends_of x.held) p × IsOn w (bodies ++ p ∷ []) seen2 leaves2)) view done
+    (IsNext x.head.setup (ends_of x.held) p × IsOn w (bodies ++ p ∷ []) seen2 leaves2)) view done
