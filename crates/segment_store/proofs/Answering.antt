@@ -1,0 +1,204 @@
+-- How the answers of resuming are put together.
+use Rattle.std.proofs.Common.{◌≡◌, ℕ, ◌+◌, ◌-◌, ◌*◌, ◌^◌, ◌<◌, ◌≤◌, min, List, [], ◌∷◌, ◌++◌, length, get_or, take, drop, slice_range, Option, Some, None, Result, Ok, Err, refl, sym, ap, subst, ◌∙◌, arith, append_assoc, length-append, take-append-drop, take-add}
+use Rattle.std.specs.Prelude.{IfOk, OnOk}
+use Rattle.std.proofs.lemmas.List.{take_at, drop_at, drop_more, drop-drop, length-take, length-drop, append-nil, nil_from_length}
+use Rattle.outside.specs.Fault.{Rose}
+use Rattle.station.specs.Station.{Image, Only, NoNew}
+use Rattle.calibration.specs.Gain.{GainValue}
+use Rattle.recording.specs.declared.head.Head.{Head}
+use Rattle.segment_rules.specs.Parts.{PartsValue}
+use Rattle.segment_store.specs.declared.damage.Stop.{Stop}
+use Rattle.segment_store.specs.declared.damage.Stop.TheVariants as stops
+use Rattle.segment_store.specs.declared.damage.Damage.{Damage}
+use Rattle.store_head.specs.declared.fault.HeadFault.{HeadFault}
+use Rattle.store_head.specs.declared.fault.HeadFault.TheVariants as heads
+use Rattle.segment_store.specs.declared.fault.PutFault.{PutFault}
+use Rattle.segment_store.specs.declared.fault.ResumeFault.{ResumeFault}
+use Rattle.segment_store.specs.declared.fault.ResumeFault.TheVariants.{NotAStore, Version, Differs, Damaged, DiskFault, OutOfMemory}
+use Rattle.calibration.specs.declared.setup.Setup.{Setup}
+use Rattle.segment_bytes.specs.declared.layout.Layout.{Layout}
+use Rattle.segment_bytes.specs.Sizes.{max_body}
+use Rattle.segment.specs.Segment.{SegmentValue}
+use Rattle.store_head.specs.Head.{HeadValue, IsHead, head_of, start_of}
+use Rattle.segment_store.specs.Image.{open_bodies, IsNext, Tiles, Reads, nothing_held}
+use Rattle.store_head.specs.Judging.{or_else, gauge_fault, gauge_at, gauges_fault, head_fault, layout_in}
+use Rattle.segment_store.specs.Held.{AreHeld, ends_of}
+use Rattle.segment_store.specs.Moments.{StoreValue, IsAt, IsOn}
+use Rattle.segment_store.specs.Resuming.{Walks, Ends}
+use Rattle.segment_store.specs.Reading.{IsFound, NoDamage, StartsAt}
+use Rattle.segment_store.specs.Opening.{fault_is, refused, Judges, DiskRose, WalksAs, Resumes, IsUnharmed}
+
+-- ---- faults of the head
+
+pub judged_err : (X : Type 0) (f : HeadFault) (o : Option HeadFault) → o ≡ Some f → Judges {X = X} (Err (refused f)) o
+judged_err X heads.NotAStore o e = e
+judged_err X (heads.Version v) o e = e
+judged_err X (heads.Differs field kept found) o e = e
+
+pub rose_err : (X : Type 0) (f : HeadFault) (a b : ℕ) → DiskRose {X = X} a b (Err (refused f))
+rose_err X heads.NotAStore a b = tt
+rose_err X (heads.Version v) a b = tt
+rose_err X (heads.Differs field kept found) a b = tt
+
+pub judges_first : (X Y : Type 0) (f : ResumeFault) (a b : Option HeadFault) → Judges {X = X} (Err f) a
+    → Judges {X = Y} (Err f) (or_else a b)
+judges_first X Y NotAStore a b e = ap (λ o. or_else o b) e
+judges_first X Y (Version v) a b e = ap (λ o. or_else o b) e
+judges_first X Y (Differs field kept found) a b e = ap (λ o. or_else o b) e
+judges_first X Y (Damaged index damage) a b e = e
+judges_first X Y DiskFault a b e = tt
+judges_first X Y OutOfMemory a b e = tt
+
+pub judges_then : {X : Type 0} (r : Result X ResumeFault) (a b : Option HeadFault) → a ≡ None → Judges r b → Judges r (or_else a b)
+judges_then r a b e h = subst (λ o. Judges r o) (sym (ap (λ c. or_else c b) e)) h
+
+wider : (a b c d : ℕ) → Rose b c → a ≤ b → c ≤ d → Rose a d
+wider a b c d r e f = grind arith
+
+pub rose_wider : (X Y : Type 0) (f : ResumeFault) (a b c d : ℕ) → DiskRose {X = X} b c (Err f) → a ≤ b → c ≤ d
+    → DiskRose {X = Y} a d (Err f)
+rose_wider X Y NotAStore a b c d r e f = tt
+rose_wider X Y (Version v) a b c d r e f = tt
+rose_wider X Y (Differs field kept found) a b c d r e f = tt
+rose_wider X Y (Damaged index damage) a b c d r e f = tt
+rose_wider X Y DiskFault a b c d r e f = wider a b c d r e f
+rose_wider X Y OutOfMemory a b c d r e f = tt
+
+pub rose_all : {X : Type 0} (r : Result X ResumeFault) (a b c d : ℕ) → DiskRose b c r → a ≤ b → c ≤ d → DiskRose a d r
+rose_all (Ok x) a b c d r e f = tt
+rose_all {X} (Err fault) a b c d r e f = rose_wider X X fault a b c d r e f
+
+-- ---- one gauge after the other
+
+module _ (g : ℕ) (x : GainValue) (gains : List GainValue) (i : ℕ) (image : Image) (here : drop i gains ≡ x ∷ drop (i + 1) gains) where
+  pub fault_here : (X Y : Type 0) (f : ResumeFault) (o : Option HeadFault) → Judges {X = X} (Err f) (gauge_fault g x (gauge_at g image))
+      → gauges_fault g (drop i gains) image ≡ o → Judges {X = Y} (Err f) o
+  fault_here X Y f o h e = subst (λ p. Judges {X = Y} (Err f) p) (sym (ap (λ l. gauges_fault g l image) here)
+      ∙ e) (judges_first X Y f _ _ h)
+
+-- ---- the bodies behind it
+
+module _ {X : Type 0} (lay : Layout) (s : Setup) (limit : ℕ) (image : Image) (see : X → ℕ × List ℕ) where
+  pub walks_err : (index : ℕ) (stop : Stop) (see2 : ℕ × ℕ → ℕ × List ℕ)
+      → Ends see2 (Walks lay s limit image 0 (start_of s) (nothing_held s)) (Err (index, stop))
+      → WalksAs lay s limit image see (Err (fault_is index stop))
+  walks_err index stops.Memory see2 e = tt
+  walks_err index stops.Disk see2 e = tt
+  walks_err index (stops.Damaged d) see2 e = e
+
+  pub unharmed_err : (index : ℕ) (stop : Stop) → NoDamage {X = ℕ × ℕ} (Err (index, stop)) → IsUnharmed {X = X} (Err (fault_is index stop))
+  unharmed_err index stops.Memory e = tt
+  unharmed_err index stops.Disk e = tt
+  unharmed_err index (stops.Damaged d) e = e
+
+module _ {X : Type 0} (s : Setup) (image : Image) (see : X → ℕ × List ℕ) where
+  pub resumes_all : (r : Result X ResumeFault) → head_fault s image ≡ None
+      → WalksAs (layout_in image) s (max_body (layout_in image) s.grid.classes) image see r → Resumes s image see r
+  resumes_all (Ok x) e w = (e, w)
+  resumes_all (Err NotAStore) e w = absurd w
+  resumes_all (Err (Version v)) e w = absurd w
+  resumes_all (Err (Differs field kept found)) e w = absurd w
+  resumes_all (Err (Damaged index d)) e w = (e, w)
+  resumes_all (Err DiskFault) e w = tt
+  resumes_all (Err OutOfMemory) e w = tt
+
+  pub resumes_err : (Y : Type 0) (f : ResumeFault) → Judges {X = Y} (Err f) (head_fault s image) → Resumes s image see (Err f)
+  resumes_err Y NotAStore e = e
+  resumes_err Y (Version v) e = e
+  resumes_err Y (Differs field kept found) e = e
+  resumes_err Y (Damaged index d) e = absurd e
+  resumes_err Y DiskFault e = tt
+  resumes_err Y OutOfMemory e = tt
+
+some_none : {x : HeadFault} → Some x ≡ None → ⊥
+some_none e = absurd cc
+
+pub never_err : (X Y : Type 0) (s : Setup) (image : Image) (f : ResumeFault) → Judges {X = Y} (Err f) (head_fault s image)
+    → head_fault s image ≡ None → IsUnharmed {X = X} (Err f)
+never_err X Y s image NotAStore e n = absurd (some_none (sym e ∙ n))
+never_err X Y s image (Version v) e n = absurd (some_none (sym e ∙ n))
+never_err X Y s image (Differs field kept found) e n = absurd (some_none (sym e ∙ n))
+never_err X Y s image (Damaged index d) e n = absurd e
+never_err X Y s image DiskFault e n = tt
+never_err X Y s image OutOfMemory e n = tt
+
+-- what stands there, from the head and the walk
+pub on_station : (h : HeadValue) (image : Image) (s : StoreValue) (bodies : List PartsValue) (leaves : Image → Type 0) → s.head ≡ h
+    → IsHead h
+    → start_of h.setup < length image → take (start_of h.setup) image ≡ head_of h
+    → IsFound h.layout h.setup image (start_of h.setup) (nothing_held h.setup) s.place (ends_of s.held) bodies
+    → AreHeld h.setup.grid bodies s.held → s.count ≡ length bodies → Only image leaves → IsOn s bodies image leaves
+on_station h image s bodies leaves same is lt head f held count only =
+    let start = start_of h.setup in
+    let whole : image ≡ (head_of h ++ open_bodies h.layout bodies) ++ f.gate ∷ f.rest =
+    sym (take-append-drop start image) ∙ ap (λ (l : List ℕ). l ++ drop start image) head ∙ ap (λ (l : List ℕ). head_of h ++ l) f.split
+    ∙ sym (append_assoc (head_of h) (open_bodies h.layout bodies) (f.gate ∷ f.rest)) in
+    let long : length (head_of h) ≡ start = omega (arith, ap length head, length-take start image, lt) in
+    let place : s.place ≡ length (head_of h ++ open_bodies h.layout bodies) =
+    omega (arith, f.place_is, long, length-append (head_of h) (open_bodies h.layout bodies)) in
+    let reads : Reads h bodies (ends_of s.held) image = record {
+      is_head = is;
+      gate = f.gate;
+      rest = f.rest;
+      whole = whole;
+      closed = f.closed;
+      tiles = f.tiles;
+    } in
+    record {
+      reads = subst (λ (v : HeadValue). Reads v bodies (ends_of s.held) image) (sym same) reads;
+      held = subst (λ (v : HeadValue). AreHeld v.setup.grid bodies s.held) (sym same) held;
+      count_is = count;
+      place_is = subst (λ (v : HeadValue). s.place ≡ length (head_of v ++ open_bodies v.layout bodies)) (sym same) place;
+      durable = only;
+    }
+
+pub if_ok2 : {X E : Type 0} (P Q R : X → Type 0) (r : Result X E) → ((x : X) → P x → Q x → R x) → IfOk r P → IfOk r Q → IfOk r R
+if_ok2 P Q R (Ok x) go p q = go x p q
+if_ok2 P Q R (Err e) go p q = tt
+
+pub if_ok3 : {X E : Type 0} (P Q R S : X → Type 0) (r : Result X E) → ((x : X) → P x → Q x → R x → S x) → IfOk r P → IfOk r Q → IfOk r R
+    → IfOk r S
+if_ok3 P Q R S (Ok x) go p q s = go x p q s
+if_ok3 P Q R S (Err e) go p q s = tt
+
+-- a walk from equal places
+module _ (lay : Layout) (s : Setup) (image : Image) (limit limit2 start start2 : ℕ) (ends ends2 : List ℕ) (l : limit ≡ limit2)
+    (a : start ≡ start2) (e : ends ≡ ends2) where
+  pub walks_moved : (r : Result (ℕ × List ℕ) (ℕ × Damage)) → Walks lay s limit image 0 start ends r
+      → Walks lay s limit2 image 0 start2 ends2 r
+  walks_moved r w = subst (λ n. Walks lay s n image 0 start2 ends2 r) l
+      (subst (λ n. Walks lay s limit image 0 n ends2 r) a (subst (λ n. Walks lay s limit image 0 start n r) e w))
+
+  pub starts_moved : (bodies : List PartsValue) (last : List ℕ) (gate : ℕ) (front rest : List ℕ)
+      → StartsAt lay s limit2 image start2 ends2 bodies last gate front rest
+      → StartsAt lay s limit image start ends bodies last gate front rest
+  starts_moved bodies last gate front rest w = subst (λ n. StartsAt lay s n image start ends bodies last gate front rest) (sym l)
+      (subst (λ n. StartsAt lay s limit2 image n ends bodies last gate front rest) (sym a)
+      (subst (λ n. StartsAt lay s limit2 image start2 n bodies last gate front rest) (sym e) w))
+
+  pub stops_moved : (see : ℕ × ℕ → ℕ × List ℕ) (index : ℕ) (stop : Stop)
+      → Ends see (Walks lay s limit image 0 start ends) (Err (index, stop))
+      → Ends see (Walks lay s limit2 image 0 start2 ends2) (Err (index, stop))
+  stops_moved see index stops.Memory w = tt
+  stops_moved see index stops.Disk w = tt
+  stops_moved see index (stops.Damaged d) w = walks_moved (Err (index, d)) w
+
+-- a put with Ok, by the parts of the store
+pub put_on : (r : Result (Unit {0}) PutFault) (u w : StoreValue) (bodies : List PartsValue) (p : PartsValue) (seen : Image)
+    (leaves : Image → Type 0)
+    → w.head ≡ u.head → u.count ≡ length bodies
+    → OnOk r (IsNext u.head.setup (ends_of u.held) p × IsAt u.head (bodies ++ p ∷ []) (ends_of w.held) w.place seen leaves)
+    → OnOk r (AreHeld u.head.setup.grid (bodies ++ p ∷ []) w.held) → OnOk r (w.count ≡ u.count + 1)
+    → OnOk r (IsNext u.head.setup (ends_of u.held) p × IsOn w (bodies ++ p ∷ []) seen leaves)
+put_on (Err e) u w bodies p seen leaves same count stored held counted = tt
+put_on (Ok t) u w bodies p seen leaves same count stored held counted =
+    let at = subst (λ (h : HeadValue). IsAt h (bodies ++ p ∷ []) (ends_of w.held) w.place seen leaves) (sym same) stored.1 in (
+      stored.0,
+      record {
+        reads = at.reads;
+        held = subst (λ (h : HeadValue). AreHeld h.setup.grid (bodies ++ p ∷ []) w.held) (sym same) held;
+        count_is = omega (arith, counted, count, length-append bodies (p ∷ []));
+        place_is = at.place_is;
+        durable = at.durable;
+      },
+    )

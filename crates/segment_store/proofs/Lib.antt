@@ -1,0 +1,12 @@
+pub mod Answering
+pub mod Begun
+pub mod Bodies
+pub mod Found
+pub mod Holding
+pub mod Nearness
+pub mod Passing
+pub mod Quiet
+pub mod Reading
+pub mod SameReading
+pub mod Tearing
+pub mod Walking

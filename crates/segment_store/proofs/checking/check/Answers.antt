@@ -1,0 +1,79 @@
+use Rattle.std.proofs.Common.{◌≡◌, get_or, sym, ap, subst, ◌∙◌, arith}
+use Rattle.std.proofs.lemmas.Bool.{false≢true}
+use Rattle.std.specs.Prelude.{ℕ, List, Err}
+use Rattle.calibration.specs.declared.setup.Setup.{Setup}
+use Rattle.segment.specs.Parts.{parts_of}
+use Rattle.segment_bytes.specs.declared.fault.BytesFault.{BytesFault}
+use Rattle.segment_bytes.specs.declared.fault.BytesFault.TheVariants as faults
+use Rattle.segment_bytes.specs.declared.layout.Layout.{Layout}
+use Rattle.segment_bytes.specs.Fields.{Fails}
+use Rattle.segment_bytes.specs.Decoding.{decoded}
+use Rattle.segment_rules.specs.declared.name.Name.{Name}
+use Rattle.segment.specs.declared.segment.join.JoinRefusal.TheVariants as refusals
+use Rattle.segment_store.specs.declared.damage.Damage.TheVariants as damages
+use Rattle.segment_store.specs.declared.damage.Stop.{Stop}
+use Rattle.segment_store.specs.Held.{ends_of}
+use Rattle.segment_store.specs.Resuming.{Checks, Told, StopsAs, digest, no_body, stranger, empty, apart, sound}
+use Rattle.segment_store.proofs.checking.check.Goals as goal
+
+module _ (lay : Layout) (setup : Setup) (ends bytes kept found : List ℕ) (same : found ≡ kept) where
+  no_body_of : (e : BytesFault) (stop : Stop) → Fails e (decoded lay setup.grid bytes) → StopsAs e stop
+      → Told parts_of (Checks lay setup ends bytes kept found) (Err stop)
+  no_body_of faults.OutOfMemory stop f is = subst (λ s. Told parts_of (Checks lay setup ends bytes kept found) (Err s)) (sym is) tt
+  no_body_of (faults.Short need have) stop f is =
+      subst (λ s. Told parts_of (Checks lay setup ends bytes kept found) (Err s)) (sym is) (no_body same f)
+  no_body_of (faults.Trailing rest) stop f is =
+      subst (λ s. Told parts_of (Checks lay setup ends bytes kept found) (Err s)) (sym is) (no_body same f)
+  no_body_of (faults.Order list index) stop f is =
+      subst (λ s. Told parts_of (Checks lay setup ends bytes kept found) (Err s)) (sym is) (no_body same f)
+  no_body_of (faults.Sum rule) stop f is = subst (λ s. Told parts_of (Checks lay setup ends bytes kept found) (Err s)) (sym is)
+      (no_body same f)
+  no_body_of (faults.Residue rule) stop f is =
+      subst (λ s. Told parts_of (Checks lay setup ends bytes kept found) (Err s)) (sym is) (no_body same f)
+
+pub returns-then-not-are_same-clause-checks : goal.returns-then-not-are_same-clause-checks
+returns-then-not-are_same-clause-checks c = digest (λ e. absurd (false≢true (sym c.if-not-are_same.true ∙ c.are_same.ensures.1 e)))
+
+pub returns-in-Err-clause-checks : goal.returns-in-Err-clause-checks
+returns-in-Err-clause-checks c = no_body_of _ _ _ _ _ _
+    (c.are_same.ensures.0 c.if-not-are_same.false) c.in-Err.fault c.stop_of.result c.in-Err.ensures.exact c.stop_of.ensures.as_is
+
+pub returns-then-from-gauges-clause-checks : goal.returns-then-from-gauges-clause-checks
+returns-then-from-gauges-clause-checks c =
+    let gauge = ap (λ (n : Name). n.gauge) c.name-name.ensures.value in
+    subst (λ n. Checks c.args.layout c.args.setup.now (ends_of c.args.held.now) c.args.bytes.now c.args.kept c.args.found
+    (Err (damages.Gauge n))) (sym gauge)
+    (stranger (c.are_same.ensures.0 c.if-not-are_same.false) c.in-Ok.ensures.exact (omega (arith, gauge)))
+
+pub returns-then-name-clause-checks : goal.returns-then-name-clause-checks
+returns-then-name-clause-checks c =
+    let n = c.name-name.ensures.value in
+    let gauge = ap (λ (n : Name). n.gauge) n in
+    empty (c.are_same.ensures.0 c.if-not-are_same.false) c.in-Ok.ensures.exact (omega (arith, gauge))
+    (omega (arith, ap (λ (n : Name). n.from) n, ap (λ (n : Name). n.to) n))
+
+pub returns-then-name-to-clause-checks : goal.returns-then-name-to-clause-checks
+returns-then-name-to-clause-checks c =
+    let n = c.name-name.ensures.value in
+    let gauge = ap (λ (n : Name). n.gauge) n in
+    let from = ap (λ (n : Name). n.from) n in
+    let to = ap (λ (n : Name). n.to) n in
+    let end = c.end-to.ensures ∙ ap (λ g. get_or (ends_of c.args.held.now) g 0) gauge in
+    let joins : Checks c.args.layout c.args.setup.now (ends_of c.args.held.now) c.args.bytes.now c.args.kept c.args.found
+    (Err (damages.Join (refusals.NotNext (get_or (ends_of c.args.held.now) c.in-Ok.segment.gauge 0) c.in-Ok.segment.from))) =
+    apart (c.are_same.ensures.0 c.if-not-are_same.false) c.in-Ok.ensures.exact (omega (arith, gauge)) (omega (arith, from, to))
+    (λ e. c.if-name-to.true (from ∙ e ∙ sym end)) in
+    subst (λ a. Checks c.args.layout c.args.setup.now (ends_of c.args.held.now) c.args.bytes.now c.args.kept c.args.found
+    (Err (damages.Join (refusals.NotNext a c.name-name.result.from)))) (sym end)
+    (subst (λ b. Checks c.args.layout c.args.setup.now (ends_of c.args.held.now) c.args.bytes.now c.args.kept c.args.found
+    (Err (damages.Join (refusals.NotNext (get_or (ends_of c.args.held.now) c.in-Ok.segment.gauge 0) b)))) (sym from) joins)
+
+pub returns-clause-checks : goal.returns-clause-checks
+returns-clause-checks c =
+    let n = c.name-name.ensures.value in
+    let gauge = ap (λ (n : Name). n.gauge) n in
+    let from = ap (λ (n : Name). n.from) n in
+    let to = ap (λ (n : Name). n.to) n in
+    let end = c.end-to.ensures ∙ ap (λ g. get_or (ends_of c.args.held.now) g 0) gauge in
+    sound (c.are_same.ensures.0 c.if-not-are_same.false) c.in-Ok.ensures.found (omega (arith, gauge, c.gauges.ensures))
+    (omega (arith, from, to)) (sym from ∙ c.if-name-to.false ∙ end)

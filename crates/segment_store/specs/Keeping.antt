@@ -1,0 +1,25 @@
+-- What a store keeps for its calls.
+--   see_state   a store's parts, as contracts see them
+--   IsKept      the place is near and not before the number of bodies, the buffer has room for a body, each gauge is held, and version 1
+--               has at most 128 classes
+use Rattle.std.specs.Prelude.{◌≡◌, ◌≤◌, ◌+◌, ℕ, List, length, vec_len}
+use Rattle.calibration.specs.Grid.{IsGrid}
+use Rattle.segment_rules.specs.Parts.{PartsValue}
+use Rattle.segment_bytes.specs.Sizes.{max_body}
+use Rattle.segment_bytes.specs.declared.layout.Layout.TheVariants.{One}
+use Rattle.segment_store.specs.declared.putting.State.{State}
+use Rattle.store_head.specs.Head.{see_head}
+use Rattle.segment_store.specs.Held.{AreHeld, ends_of}
+use Rattle.segment_store.specs.Moments.{StoreValue}
+use Rattle.segment_store.specs.Places.{IsNear}
+
+abbrev pub see_state : State → StoreValue
+see_state s = record { head = see_head s.layout s.head; held = s.held; count = s.count; place = s.place; shut = s.shut }
+
+pub record IsKept (s : State) : Type 0 where
+  pub near : IsNear s.place (ends_of s.held)
+  pub count : s.count ≤ s.place
+  pub room : 37 + max_body s.layout s.head.setup.grid.classes ≤ vec_len s.buf
+  pub gauges : length s.held ≡ length s.head.setup.gains
+  pub joined : (bodies : List PartsValue) × AreHeld s.head.setup.grid bodies s.held
+  pub narrow : s.layout ≡ One → s.head.setup.grid.classes ≤ 128

@@ -1,0 +1,11 @@
+pub mod Beginning
+pub mod Held
+pub mod Image
+pub mod Keeping
+pub mod Moments
+pub mod Opening
+pub mod Places
+pub mod Putting
+pub mod Quiet
+pub mod Reading
+pub mod Resuming

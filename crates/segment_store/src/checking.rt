@@ -1,0 +1,102 @@
+ghost use Rattle.std.specs.Prelude.{
+  ◌≡◌,
+  ◌↔◌,
+  ◌<◌,
+  ◌≤◌,
+  ◌+◌,
+  ◌^◌,
+  ◌++◌,
+  IsTrue,
+  List,
+  ℕ,
+  length,
+  slice_index,
+  IfOk,
+  IfErr,
+};
+ghost use Rattle.sha2.specs.Sha256.{sha256};
+ghost use Rattle.segment.specs.Parts.{parts_of};
+ghost use Rattle.segment.specs.Segment.{IsSegment};
+ghost use Rattle.segment_bytes.specs.Decoding.{IsBodyOf};
+ghost use Rattle.segment_bytes.specs.declared.layout.Layout.TheVariants.{One};
+ghost use Rattle.calibration.specs.Grid.{IsGrid};
+ghost use Rattle.segment_store.specs.Held.{ends_of};
+ghost use Rattle.segment_store.specs.Resuming.{Checks, Told, StopsAs, IsNotDisk};
+
+use crate::damage::{Damage, Stop};
+use crate::held::Held;
+use calibration::Setup;
+use segment::{JoinRefusal, Segment};
+use segment_bytes::{BytesFault, Layout, decode};
+use sha2::{Digest, Sha256};
+use std::alloc::Global;
+
+pub(crate) fn digest_of(field: &[u8], body: &[u8]) -> [u8; 32]
+    ensures { result ≡ sha256 (field.now ++ body.now) }
+{
+    let mut hasher = Sha256::new();
+    hasher.update(field);
+    hasher.update(body);
+    hasher.finalize()
+}
+
+fn are_same(found: &[u8; 32], kept: &[u8; 32]) -> bool
+    ensures { IsTrue result ↔ (found.now ≡ kept.now) }
+{
+    found.as_slice() == kept.as_slice()
+}
+
+fn stop_of(fault: BytesFault) -> Stop
+    ensures as_is { StopsAs fault result }
+    ensures sound { IsNotDisk result }
+{
+    match fault {
+        BytesFault::OutOfMemory => Stop::Memory,
+        _ => Stop::Damaged(Damage::Bytes(fault)),
+    }
+}
+
+// The segment of these bytes, if they are sound and come next.
+pub(crate) fn check(
+    alloc: Global,
+    layout: Layout,
+    setup: &Setup,
+    held: &Held,
+    bytes: &[u8],
+    kept: [u8; 32],
+    found: [u8; 32],
+) -> Result<Segment, Stop>
+    requires narrow { layout ≡ One → setup.now.grid.classes ≤ 128 }
+    requires gauges { length held.now ≡ length setup.now.gains }
+    ensures checks { Told parts_of
+        (Checks layout setup.now (ends_of held.now) bytes.now kept found) result }
+    ensures body { IfOk result (λ s. IsBodyOf layout setup.now.grid (parts_of s) bytes.now) }
+    ensures over { IfOk result (λ s. s.grid ≡ setup.now.grid) }
+    ensures gauge { IfOk result (λ s. s.gauge < length held.now) }
+    ensures joins { IfOk result (λ s. s.from ≡ slice_index (ends_of held.now) s.gauge) }
+    ensures some { IfOk result (λ s. s.from < s.to) }
+    ensures grid { IsGrid setup.now.grid }
+    ensures no_disk { IfErr result IsNotDisk }
+{
+    let _classes = setup.grid.classes();
+    if !are_same(&found, &kept) {
+        return Err(Stop::Damaged(Damage::Digest { kept, found }));
+    }
+    let segment = match decode(alloc, layout, &setup.grid, bytes) {
+        Ok(segment) => segment,
+        Err(fault) => return Err(stop_of(fault)),
+    };
+    let name = segment.name();
+    if usize::from(name.gauge) >= held.gauges() {
+        return Err(Stop::Damaged(Damage::Gauge(name.gauge)));
+    }
+    if name.from >= name.to {
+        return Err(Stop::Damaged(Damage::Empty));
+    }
+    let to = held.end(name.gauge);
+    if name.from != to {
+        let from = name.from;
+        return Err(Stop::Damaged(Damage::Join(JoinRefusal::NotNext { to, from })));
+    }
+    Ok(segment)
+}

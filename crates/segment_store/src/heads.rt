@@ -1,0 +1,154 @@
+ghost use Rattle.std.specs.Prelude.{
+  ◌≡◌,
+  ◌<◌,
+  ◌≤◌,
+  ◌+◌,
+  ◌*◌,
+  ℕ,
+  List,
+  All,
+  length,
+  slice_index,
+  slice_range,
+  IfOk,
+};
+ghost use Rattle.calibration.specs.Gain.{IsGain};
+ghost use Rattle.segment_bytes.specs.declared.layout.Layout.TheVariants.{One};
+ghost use Rattle.store_head.specs.Head.{
+  front,
+  gauge as gauge_bytes,
+  gauges as gauges_bytes,
+  IsRecorded,
+};
+ghost use Rattle.store_head.specs.Judging.{
+  start_fault,
+  gauge_fault as gauge_fault_in,
+  gauges_fault,
+  gauge_at,
+  layout_in,
+};
+ghost use Rattle.segment_store.specs.Opening.{Judges, DiskRose, refused as refused_as};
+ghost use Rattle.segment_store.specs.Quiet.{IsQuiet};
+
+use crate::fault::ResumeFault;
+use calibration::{Gain, Gains, Setup};
+use outside::Failed;
+use recording::Head;
+use segment_bytes::Layout;
+use station::Station;
+use std::alloc::Global;
+use store_head::{HeadFault, Heads, StoreHead, front_fault, gauge_fault, layout_of, recorded};
+
+// Bytes are below 256.
+fn fit(bytes: &[u8])
+    ensures { (i : ℕ) → slice_index bytes.now i < 256 }
+{
+    let _ = bytes.len();
+}
+
+fn refused(fault: HeadFault) -> ResumeFault
+    ensures { result ≡ refused_as fault }
+{
+    match fault {
+        HeadFault::NotAStore => ResumeFault::NotAStore,
+        HeadFault::Version(version) => ResumeFault::Version(version),
+        HeadFault::Differs { field, kept, found } => ResumeFault::Differs { field, kept, found },
+    }
+}
+
+// Reads the front of the head, and compares it with the setup.
+pub(crate) fn check_front<K: Station>(
+    station: &mut K,
+    setup: &Setup,
+    size: u64,
+) -> Result<Layout, ResumeFault>
+    requires few { length setup.now.gains ≤ 32 }
+    requires size { K.tells → size ≡ length (K.seen station.old) }
+    ensures judges { K.tells → Judges result (start_fault setup.now (K.seen station.old)) }
+    ensures front { K.tells → IfOk result (λ l.
+        slice_range (K.seen station.old) 0 22 ≡ front l setup.now) }
+    ensures layout { K.tells → IfOk result (λ l. l ≡ layout_in (K.seen station.old)) }
+    ensures narrow { IfOk result (λ l. l ≡ One → setup.now.grid.classes ≤ 128) }
+    ensures size { IfOk result (λ l. 23 + 40 * length setup.now.gains ≤ size) }
+    ensures disk { DiskRose (K.faults station.old) (K.faults station.new) result }
+    ensures later { K.faults station.old ≤ K.faults station.new }
+    ensures quiet { K.tells → IsQuiet (K.clock station.old) (K.moments station.old)
+        (K.clock station.new) (K.moments station.new) (K.told station.old) (K.told station.new)
+        (K.seen station.old) (K.seen station.new) (K.leaves station.old) (K.leaves station.new) }
+{
+    if size < 22 {
+        return Err(ResumeFault::NotAStore);
+    }
+    let mut bytes = [0u8; 22];
+    station.read_at(0, &mut bytes)?;
+    fit(&bytes);
+    match front_fault(setup, size, &bytes) {
+        Some(fault) => Err(refused(fault)),
+        None => Ok(layout_of(bytes[5])),
+    }
+}
+
+// Reads the bytes of a gauge, and compares them with its gain.
+fn read_gauge<K: Station>(station: &mut K, gauge: u16, gain: &Gain) -> Result<Head, ResumeFault>
+    requires few { gauge < 32 }
+    ensures judges { K.tells → Judges result
+        (gauge_fault_in gauge gain.now (gauge_at gauge (K.seen station.old))) }
+    ensures bytes { K.tells → IfOk result (λ h.
+        gauge_at gauge (K.seen station.old) ≡ gauge_bytes h gain.now) }
+    ensures recorded { IfOk result IsRecorded }
+    ensures gain { IsGain gain.now }
+    ensures disk { DiskRose (K.faults station.old) (K.faults station.new) result }
+    ensures later { K.faults station.old ≤ K.faults station.new }
+    ensures quiet { K.tells → IsQuiet (K.clock station.old) (K.moments station.old)
+        (K.clock station.new) (K.moments station.new) (K.told station.old) (K.told station.new)
+        (K.seen station.old) (K.seen station.new) (K.leaves station.old) (K.leaves station.new) }
+{
+    let _den = gain.den();
+    let mut bytes = [0u8; 40];
+    station.read_at(22 + 40 * gauge as u64, &mut bytes)?;
+    fit(&bytes);
+    match gauge_fault(gauge, gain, &bytes) {
+        Some(fault) => Err(refused(fault)),
+        None => Ok(recorded(&bytes)),
+    }
+}
+
+// Reads the bytes of all gauges, and compares them with the setup.
+pub(crate) fn read_gauges<K: Station>(
+    alloc: Global,
+    station: &mut K,
+    setup: &Setup,
+) -> Result<StoreHead, ResumeFault>
+    requires few { length setup.now.gains ≤ 32 }
+    ensures judges { K.tells → Judges result
+        (gauges_fault 0 setup.now.gains (K.seen station.old)) }
+    ensures bytes { K.tells → IfOk result (λ h.
+        slice_range (K.seen station.old) 22 (22 + 40 * length setup.now.gains)
+        ≡ gauges_bytes h.heads setup.now.gains) }
+    ensures setup { IfOk result (λ h. h.setup ≡ setup.now) }
+    ensures gauges { IfOk result (λ h. length h.heads ≡ length setup.now.gains) }
+    ensures recorded { IfOk result (λ h. All IsRecorded h.heads) }
+    ensures gains { IfOk result (λ h. All IsGain setup.now.gains) }
+    ensures disk { DiskRose (K.faults station.old) (K.faults station.new) result }
+    ensures later { K.faults station.old ≤ K.faults station.new }
+    ensures quiet { K.tells → IsQuiet (K.clock station.old) (K.moments station.old)
+        (K.clock station.new) (K.moments station.new) (K.told station.old) (K.told station.new)
+        (K.seen station.old) (K.seen station.new) (K.leaves station.old) (K.leaves station.new) }
+{
+    let mut gains = Vec::new(alloc);
+    let mut heads = Vec::new(alloc);
+    let mut gauge = 0u16;
+    for gain in setup.gains.as_slice() {
+        let head = read_gauge(station, gauge, gain)?;
+        heads.push(head)?;
+        gains.push(*gain)?;
+        gauge += 1;
+    }
+    Ok(StoreHead {
+        setup: Setup {
+            grid: setup.grid,
+            gains: Gains::from_vec(gains),
+        },
+        heads: Heads::from_vec(heads),
+    })
+}

@@ -1,0 +1,32 @@
+//! The store of counted segments: bodies on a station, one behind the other, each behind a gate.
+//!
+//! `specs/Image.antt` says which images read, and as what: a head, open gates with their bodies,
+//! and a gate that is closed. `put` writes a body, its digest and the next gate, closed, behind the
+//! gate that is closed now, in one write; it syncs, opens the gate and syncs again. So at every
+//! moment of a put a crash leaves the bodies from before, or those with the new one.
+//! `Store::resume` reads what is there after a sync, and tells the first thing that is wrong in the
+//! order of the file; of a store that was stopped in a put nothing is wrong. `init` makes a store
+//! of version 2.
+//!
+//! Cost: resuming reads each body once, takes its digest and decodes it, and joins it to the held
+//! segment of its gauge. A put writes the body once and takes no memory.
+#![tactic(auto)]
+
+mod beginning;
+mod checking;
+mod damage;
+mod fault;
+mod filling;
+mod heads;
+mod held;
+mod opening;
+mod putting;
+mod resuming;
+mod store;
+mod writing;
+
+pub use beginning::init;
+pub use damage::Damage;
+pub use fault::{InitFault, PutFault, ResumeFault};
+pub use store::Store;
+pub use store_head::{Field, Heads, StoreHead};

@@ -1,0 +1,207 @@
+ghost use Rattle.std.specs.Prelude.{
+  ◌≡◌,
+  ◌<◌,
+  ◌≤◌,
+  ◌+◌,
+  ◌*◌,
+  ◌^◌,
+  ◌++◌,
+  [],
+  List,
+  ℕ,
+  length,
+  slice_index,
+  IfOk,
+  IfErr,
+};
+ghost use Rattle.segment_rules.specs.Parts.{PartsValue};
+ghost use Rattle.segment.specs.Parts.{parts_of};
+ghost use Rattle.outside.specs.Fault.{Rose};
+ghost use Rattle.station.specs.Station.{Image, Lines};
+ghost use Rattle.segment_bytes.specs.declared.layout.Layout.TheVariants.{One};
+ghost use Rattle.segment_store.specs.Held.{AreHeld, ends_of};
+ghost use Rattle.segment_store.specs.Quiet.{IsQuiet};
+ghost use Rattle.segment_store.specs.Resuming.{Finds, Told, Walks, Ends, length_at, StopRose};
+ghost use Rattle.segment_store.specs.Reading.{StartsAt, NoDamage, IsFound};
+ghost use Rattle.segment_store.specs.Places.{IsStep, IsNear};
+ghost use Rattle.std.specs.Int.{w32, to_be_bytes, from_be_bytes};
+
+use crate::checking::{check, digest_of};
+use crate::damage::{Damage, Stop};
+use crate::held::Held;
+use calibration::Setup;
+use outside::Failed;
+use segment::Segment;
+use segment_bytes::Layout;
+use station::Station;
+use std::alloc::Global;
+
+// The number in a field of length.
+fn length_of(field: &[u8]) -> u32
+    requires { length field.now ≡ 4 }
+    ensures value { result ≡ from_be_bytes w32 field.now }
+    ensures spelled { to_be_bytes w32 result ≡ field.now }
+{
+    u32::from_be_bytes([field[0], field[1], field[2], field[3]])
+}
+
+// Reads the body whose open gate stands there, and tells the next gate's place too.
+fn next_body<K: Station>(
+    alloc: Global,
+    station: &mut K,
+    layout: Layout,
+    setup: &Setup,
+    size: u64,
+    limit: usize,
+    held: &Held,
+    at: u64,
+    buf: &mut [u8],
+) -> Result<(Segment, u64), Stop>
+    requires narrow { layout ≡ One → setup.now.grid.classes ≤ 128 }
+    requires gauges { length held.now ≡ length setup.now.gains }
+    requires size { K.tells → size ≡ length (K.seen station.old) }
+    requires at { at ≤ size }
+    requires few { limit < 2 ^ 32 }
+    requires room { limit ≤ length buf.old }
+    ensures finds { K.tells → Told (λ x. parts_of x.0)
+        (Finds layout setup.now limit (K.seen station.old) (ends_of held.now) at) result }
+    ensures gate { K.tells → IfOk result (λ x.
+        x.1 ≡ at + length_at (K.seen station.old) at + 37) }
+    ensures ahead { IfOk result (λ x. (at < x.1) × (x.1 < size)) }
+    ensures over { IfOk result (λ x. x.0.grid ≡ setup.now.grid) }
+    ensures gauge { IfOk result (λ x. x.0.gauge < length held.now) }
+    ensures joins { IfOk result (λ x. x.0.from ≡ slice_index (ends_of held.now) x.0.gauge) }
+    ensures disk { IfErr result (λ stop.
+        StopRose (K.faults station.old) (K.faults station.new) stop) }
+    ensures step { IfOk result (λ x. IsStep (ends_of held.now) at (parts_of x.0) x.1) }
+    ensures quiet { K.tells → IsQuiet (K.clock station.old) (K.moments station.old)
+        (K.clock station.new) (K.moments station.new) (K.told station.old) (K.told station.new)
+        (K.seen station.old) (K.seen station.new) (K.leaves station.old) (K.leaves station.new) }
+    ensures later { K.faults station.old ≤ K.faults station.new }
+{
+    if size - at < 5 {
+        return Err(Stop::Damaged(Damage::Cut { size }));
+    }
+    let mut field = [0u8; 4];
+    station.read_at(at + 1, &mut field)?;
+    let len = length_of(&field);
+    if len as usize > limit {
+        return Err(Stop::Damaged(Damage::Length(len)));
+    }
+    if size - at < len as u64 + 38 {
+        return Err(Stop::Damaged(Damage::Cut { size }));
+    }
+    let (body, _) = buf.split_at_mut(len as usize);
+    station.read_at(at + 5, body)?;
+    let mut kept = [0u8; 32];
+    station.read_at(at + 5 + len as u64, &mut kept)?;
+    let found = digest_of(&field, body);
+    match check(alloc, layout, setup, held, body, kept, found) {
+        Ok(segment) => Ok((segment, at + 37 + len as u64)),
+        Err(stop) => Err(stop),
+    }
+}
+
+// Reads body after body until a gate is closed, and joins each. It tells that gate's place and the
+// number of bodies; a fault comes with the body's number.
+pub(crate) fn walk<K: Station>(
+    alloc: Global,
+    station: &mut K,
+    layout: Layout,
+    setup: &Setup,
+    size: u64,
+    limit: usize,
+    held: &mut Held,
+    start: u64,
+    buf: &mut [u8],
+) -> Result<(u64, u64), (u64, Stop)>
+    requires narrow { layout ≡ One → setup.now.grid.classes ≤ 128 }
+    requires gauges { length held.old ≡ length setup.now.gains }
+    requires empty { AreHeld setup.now.grid [] held.old }
+    requires size { K.tells → size ≡ length (K.seen station.old) }
+    requires start { start < size }
+    requires near { IsNear start (ends_of held.old) }
+    requires few { limit < 2 ^ 32 }
+    requires room { limit ≤ length buf.old }
+    // It ends as the image says, unless memory runs out or the disk fails.
+    ensures walks { K.tells → Ends (λ x. (x.0, ends_of held.new))
+        (Walks layout setup.now limit (K.seen station.old) 0 start (ends_of held.old)) result }
+    // Where the image reads as bodies, nothing is damaged.
+    ensures reads { K.tells → (bodies : List PartsValue) (last : List ℕ) (gate : ℕ)
+        (front rest : List ℕ) → StartsAt layout setup.now limit (K.seen station.old) start
+        (ends_of held.old) bodies last gate front rest → NoDamage result }
+    // With Ok it found bodies up to a closed gate, which are joined.
+    ensures found { IfOk result (λ x. (bodies : List PartsValue)
+        × AreHeld setup.now.grid bodies held.new × (x.1 ≡ length bodies) × (K.tells →
+        IsFound layout setup.now (K.seen station.old) start (ends_of held.old) x.0
+        (ends_of held.new) bodies)) }
+    ensures near { IfOk result (λ x. IsNear x.0 (ends_of held.new)) }
+    ensures count { IfOk result (λ x. x.1 ≤ x.0) }
+    ensures disk { IfErr result (λ e.
+        StopRose (K.faults station.old) (K.faults station.new) e.1) }
+    ensures gauges { length held.new ≡ length held.old }
+    ensures room { length buf.new ≡ length buf.old }
+    ensures later { K.faults station.old ≤ K.faults station.new }
+    ensures quiet { K.tells → IsQuiet (K.clock station.old) (K.moments station.old)
+        (K.clock station.new) (K.moments station.new) (K.told station.old) (K.told station.new)
+        (K.seen station.old) (K.seen station.new) (K.leaves station.old) (K.leaves station.new) }
+{
+    walk_from(alloc, station, layout, setup, size, limit, held, start, buf)
+}
+
+fn walk_from<K: Station>(
+    alloc: Global,
+    station: &mut K,
+    layout: Layout,
+    setup: &Setup,
+    size: u64,
+    limit: usize,
+    held: &mut Held,
+    start: u64,
+    buf: &mut [u8],
+) -> Result<(u64, u64), (u64, Stop)>
+    requires narrow { layout ≡ One → setup.now.grid.classes ≤ 128 }
+    requires gauges { length held.old ≡ length setup.now.gains }
+    requires empty { AreHeld setup.now.grid [] held.old }
+    requires size { K.tells → size ≡ length (K.seen station.old) }
+    requires start { start < size }
+    requires near { IsNear start (ends_of held.old) }
+    requires few { limit < 2 ^ 32 }
+    requires room { limit ≤ length buf.old }
+    ensures walks { K.tells → Ends (λ x. (x.0, ends_of held.new))
+        (Walks layout setup.now limit (K.seen station.old) 0 start (ends_of held.old)) result }
+    ensures found { IfOk result (λ x. (bodies : List PartsValue)
+        × AreHeld setup.now.grid bodies held.new × (x.1 ≡ length bodies) × (K.tells →
+        IsFound layout setup.now (K.seen station.old) start (ends_of held.old) x.0
+        (ends_of held.new) bodies)) }
+    ensures near { IfOk result (λ x. IsNear x.0 (ends_of held.new)) }
+    ensures count { IfOk result (λ x. x.1 ≤ x.0) }
+    ensures disk { IfErr result (λ e.
+        StopRose (K.faults station.old) (K.faults station.new) e.1) }
+    ensures gauges { length held.new ≡ length held.old }
+    ensures room { length buf.new ≡ length buf.old }
+    ensures later { K.faults station.old ≤ K.faults station.new }
+    ensures quiet { K.tells → IsQuiet (K.clock station.old) (K.moments station.old)
+        (K.clock station.new) (K.moments station.new) (K.told station.old) (K.told station.new)
+        (K.seen station.old) (K.seen station.new) (K.leaves station.old) (K.leaves station.new) }
+{
+    let mut at = start;
+    let mut index = 0u64;
+    'bodies: loop {
+        let mut gate = [0u8; 1];
+        if station.read_at(at, &mut gate).is_err() {
+            return Err((index, Stop::Disk));
+        }
+        if gate[0] != 1 {
+            return Ok((at, index));
+        }
+        match next_body(alloc, station, layout, setup, size, limit, held, at, buf) {
+            Ok((segment, next)) => {
+                held.join(&segment);
+                at = next;
+                index += 1;
+            }
+            Err(stop) => return Err((index, stop)),
+        }
+    }
+}

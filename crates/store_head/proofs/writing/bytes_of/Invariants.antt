@@ -1,0 +1,13 @@
+use Rattle.std.proofs.Common.{◌≡◌, ◌+◌, ◌*◌, ◌++◌, length, take}
+use Rattle.std.specs.Prelude.{All}
+use Rattle.calibration.specs.Gain.{IsGain}
+use Rattle.store_head.specs.Head.{IsRecorded, front, gauges}
+use Rattle.store_head.proofs.writing.bytes_of.Given as goal
+
+abbrev pub invariant-loop-gauge : goal.invariant-loop-gauge
+invariant-loop-gauge l = record {
+  bytes : l.bytes.items ≡ front l.fn.layout l.head.setup ++ gauges (take l.gauge l.head.heads) (take l.gauge l.head.setup.gains);
+  recorded : All IsRecorded (take l.gauge l.head.heads);
+  gains : All IsGain (take l.gauge l.head.setup.gains);
+  len : length l.bytes.items ≡ 22 + 40 * l.gauge;
+}
