@@ -80,25 +80,27 @@ const ROWS: [Row; 7] = [
     (&[&[], &[i32::MIN], &[]], [0, 1, 0], &[], &[], &[]),
 ];
 
+fn take_all(rt: &impl Abort, segment: &mut Segment, raws: &[i32], gain: &Gain) {
+    for &raw in raws {
+        let name = segment.name();
+        assert!(rt; name.to < MAX_SAMPLES);
+        assert!(rt; name.to - name.from < segment.longest());
+        segment.take(raw, gain);
+    }
+}
+
 /// Takes the samples of gauge 0 from a place on, one at a time.
 fn taken(
     rt: &impl Abort,
     alloc: Global,
     grid: &Grid,
-    longest: u64,
     from: u64,
     raws: &[i32],
 ) -> Result<Segment, Fail> {
     let gain = Gain::new(1000, 1, 0)?;
-    assert!(rt; from <= MAX_SAMPLES);
-    assert!(rt; longest >= 1 && longest <= MAX_SAMPLES);
-    let mut segment = Segment::new(alloc, grid, 0, from, longest)?;
-    for &raw in raws {
-        let name = segment.name();
-        assert!(rt; name.to < MAX_SAMPLES);
-        assert!(rt; name.to - name.from < segment.longest());
-        segment.take(raw, &gain);
-    }
+    assert!(rt; from <= 1000);
+    let mut segment = Segment::new(alloc, grid, 0, from, 16)?;
+    take_all(rt, &mut segment, raws, &gain);
     Ok(segment)
 }
 
@@ -107,14 +109,12 @@ fn counted(
     rt: &impl Abort,
     alloc: Global,
     grid: &Grid,
-    longest: u64,
     from: u64,
     raws: &[i32],
 ) -> Result<Segment, Fail> {
     let gain = Gain::new(1000, 1, 0)?;
     assert!(rt; from <= 1000 && raws.len() <= 16);
-    assert!(rt; longest >= 16 && longest <= MAX_SAMPLES);
-    let mut segment = Segment::new(alloc, grid, 1, 0, longest)?;
+    let mut segment = Segment::new(alloc, grid, 1, 0, 1000)?;
     segment.clear(0, from);
     let mut levels = [77; 16];
     segment.count_block(raws, &Classifier::new(&gain, grid), &mut levels);
@@ -128,39 +128,58 @@ fn join(rt: &impl Abort, left: &mut Segment, right: &Segment) -> Result<(), Join
     left.join(right)
 }
 
-/// The first two parts are joined first. Each is taken a sample at a time.
+/// Joins the part that comes next, taken a sample at a time.
+fn put_behind(
+    rt: &impl Abort,
+    alloc: Global,
+    grid: &Grid,
+    whole: &mut Segment,
+    part: &[i32],
+) -> Result<(), Fail> {
+    let next = taken(rt, alloc, grid, whole.name().to, part)?;
+    Ok(join(rt, whole, &next)?)
+}
+
+/// Joins the part that comes before, counted as a block.
+fn put_before(
+    rt: &impl Abort,
+    alloc: Global,
+    grid: &Grid,
+    part: &[i32],
+    whole: &Segment,
+) -> Result<Segment, Fail> {
+    let end = whole.name().from;
+    assert!(rt; part.len() as u64 <= end);
+    let mut front = counted(rt, alloc, grid, end - part.len() as u64, part)?;
+    join(rt, &mut front, whole)?;
+    Ok(front)
+}
+
+/// The first two parts are joined first. With room for few pairs the cycles are a log.
 fn joined_from_the_left(
     rt: &impl Abort,
     alloc: Global,
     grid: &Grid,
-    longest: u64,
     parts: &[&[i32]],
 ) -> Result<Segment, Fail> {
-    let mut whole = taken(rt, alloc, grid, longest, 0, &[])?;
+    let mut whole = taken(rt, alloc, grid, 0, &[])?;
     for part in parts {
-        let next = taken(rt, alloc, grid, longest, whole.name().to, part)?;
-        join(rt, &mut whole, &next)?;
+        put_behind(rt, alloc, grid, &mut whole, part)?;
     }
     Ok(whole)
 }
 
-/// The last two parts are joined first. Each is counted as a block.
+/// The last two parts are joined first. With room for each pair the cycles are a table.
 fn joined_from_the_right(
     rt: &impl Abort,
     alloc: Global,
     grid: &Grid,
-    longest: u64,
     parts: &[&[i32]],
     end: u64,
 ) -> Result<Segment, Fail> {
-    let mut whole = counted(rt, alloc, grid, longest, end, &[])?;
+    let mut whole = counted(rt, alloc, grid, end, &[])?;
     for part in parts.iter().rev() {
-        let end = whole.name().from;
-        assert!(rt; part.len() as u64 <= end);
-        let from = end - part.len() as u64;
-        let mut front = counted(rt, alloc, grid, longest, from, part)?;
-        join(rt, &mut front, &whole)?;
-        whole = front;
+        whole = put_before(rt, alloc, grid, part, &whole)?;
     }
     Ok(whole)
 }
@@ -176,28 +195,47 @@ fn assert_residue(rt: &impl Abort, segment: &Segment, expected: &[u16]) {
     assert_eq!(rt; segment.residue(), expected);
 }
 
-fn assert_whole(rt: &impl Abort, whole: &mut Segment, row: &Row, to: u64) {
-    assert_eq!(rt;
-        whole.name(),
-        Name {
-            gauge: 0,
-            from: 0,
-            to
-        }
-    );
+fn assert_name(rt: &impl Abort, segment: &Segment, to: u64) {
+    let name = segment.name();
+    assert_eq!(rt; (name.gauge, name.from, name.to), (0, 0, to));
+}
+
+fn assert_whole(rt: &impl Abort, whole: &mut Segment, row: &Row) {
     assert_eq!(rt; [whole.used(), whole.missing(), whole.refused()], row.1);
     assert_eq!(rt; whole.ends(), ends_of(row.2));
     assert_residue(rt, whole, row.4);
     assert_cells(rt, whole, row.3);
 }
 
-// With room for few pairs the cycles are a log, with room for each a table.
-fn assert_row(rt: &impl Abort, alloc: Global, grid: &Grid, row: &Row) -> Result<(), Fail> {
-    let mut left = joined_from_the_left(rt, alloc, grid, 16, row.0)?;
-    let to = left.name().to;
-    assert_whole(rt, &mut left, row, to);
-    let mut right = joined_from_the_right(rt, alloc, grid, 1000, row.0, to)?;
-    assert_whole(rt, &mut right, row, to);
+fn samples_of(rt: &impl Abort, row: &Row) -> u64 {
+    let [used, missing, refused] = row.1;
+    assert!(rt; used <= 16 && missing <= 16 && refused <= 16);
+    used + missing + refused
+}
+
+fn assert_from_the_left(
+    rt: &impl Abort,
+    alloc: Global,
+    grid: &Grid,
+    row: &Row,
+    to: u64,
+) -> Result<(), Fail> {
+    let mut whole = joined_from_the_left(rt, alloc, grid, row.0)?;
+    assert_name(rt, &whole, to);
+    assert_whole(rt, &mut whole, row);
+    Ok(())
+}
+
+fn assert_from_the_right(
+    rt: &impl Abort,
+    alloc: Global,
+    grid: &Grid,
+    row: &Row,
+    to: u64,
+) -> Result<(), Fail> {
+    let mut whole = joined_from_the_right(rt, alloc, grid, row.0, to)?;
+    assert_name(rt, &whole, to);
+    assert_whole(rt, &mut whole, row);
     Ok(())
 }
 
@@ -205,26 +243,40 @@ fn assert_row(rt: &impl Abort, alloc: Global, grid: &Grid, row: &Row) -> Result<
 fn parts_join_in_any_bracketing(rt: HostRuntime) -> Result<(), Fail> {
     let grid = Grid::new(16, 2, -8000, 8)?;
     for row in &ROWS {
-        assert_row(&rt, rt.alloc(), &grid, row)?;
+        let to = samples_of(&rt, row);
+        assert_from_the_left(&rt, rt.alloc(), &grid, row, to)?;
+        assert_from_the_right(&rt, rt.alloc(), &grid, row, to)?;
     }
     Ok(())
 }
 
-// A part of another gauge, and one that leaves samples out.
+// Why a part of no samples is not joined behind the first four of the standard's example.
+fn refusal(
+    rt: &impl Abort,
+    alloc: Global,
+    grid: &Grid,
+    gauge: u16,
+    from: u64,
+) -> Result<Option<JoinRefusal>, Fail> {
+    let mut left = taken(rt, alloc, grid, 0, &EXAMPLE[..4])?;
+    assert!(rt; from <= 1000);
+    let right = Segment::new(alloc, grid, gauge, from, 16)?;
+    let answer = join(rt, &mut left, &right);
+    assert_eq!(rt; (left.used(), left.residue().len()), (4, 4));
+    Ok(answer.err())
+}
+
+// A part that leaves samples out, and one of another gauge.
 #[test]
 fn strangers_are_not_joined(rt: HostRuntime) -> Result<(), Fail> {
     let grid = Grid::new(16, 2, -8000, 8)?;
-    let mut left = taken(&rt, rt.alloc(), &grid, 16, 0, &EXAMPLE[..4])?;
-    let later = taken(&rt, rt.alloc(), &grid, 16, 5, &EXAMPLE[5..])?;
-    let answer = join(&rt, &mut left, &later);
-    assert_eq!(rt; answer, Err(JoinRefusal::NotNext { to: 4, from: 5 }));
-    let other = Segment::new(rt.alloc(), &grid, 1, 4, 16)?;
-    let answer = join(&rt, &mut left, &other);
-    assert_eq!(rt; answer, Err(JoinRefusal::OtherGauge(0, 1)));
-    assert_eq!(rt;
-        (left.name().to, left.used(), left.residue().len()),
-        (4, 4, 4)
-    );
+    for (gauge, from, expected) in [
+        (0, 5, JoinRefusal::NotNext { to: 4, from: 5 }),
+        (1, 4, JoinRefusal::OtherGauge(0, 1)),
+    ] {
+        let answer = refusal(&rt, rt.alloc(), &grid, gauge, from)?;
+        assert_eq!(rt; answer, Some(expected));
+    }
     Ok(())
 }
 
@@ -270,21 +322,41 @@ fn parts(alloc: Global, used: u64, cycles: u64, second: u16) -> Result<Parts, Al
     })
 }
 
+fn loaded(
+    alloc: Global,
+    grid: &Grid,
+    used: u64,
+    cycles: u64,
+    second: u16,
+) -> Result<Segment, LoadFault> {
+    Segment::load(alloc, grid, &parts(alloc, used, cycles, second)?)
+}
+
+fn fault(alloc: Global, grid: &Grid, used: u64, cycles: u64, second: u16) -> Option<LoadFault> {
+    loaded(alloc, grid, used, cycles, second).err()
+}
+
 #[test]
-fn parts_are_loaded_or_refused(rt: HostRuntime) -> Result<(), Fail> {
-    let alloc = rt.alloc();
+fn parts_are_loaded(rt: HostRuntime) -> Result<(), Fail> {
     let grid = Grid::new(16, 2, -8000, 8)?;
-    let whole = Segment::load(alloc, &grid, &parts(alloc, 4, 1, 13)?)?;
-    assert_eq!(rt; (whole.name().to, whole.longest(), whole.used()), (4, 4, 4));
+    let whole = loaded(rt.alloc(), &grid, 4, 1, 13)?;
+    assert_name(&rt, &whole, 4);
+    assert_eq!(rt; (whole.longest(), whole.used()), (4, 4));
     assert_eq!(rt; whole.halves(8, 13), 3);
     assert_residue(&rt, &whole, &[8, 13]);
-    for (used, cycles, second, fault) in [
+    Ok(())
+}
+
+#[test]
+fn parts_are_refused(rt: HostRuntime) -> Result<(), Fail> {
+    let grid = Grid::new(16, 2, -8000, 8)?;
+    for (used, cycles, second, expected) in [
         (4, 0, 13, LoadFault::Order { list: 0, index: 0 }),
         (5, 1, 13, LoadFault::Sum { rule: 2 }),
         (4, 1, 14, LoadFault::Residue { rule: 3 }),
     ] {
-        let answer = Segment::load(alloc, &grid, &parts(alloc, used, cycles, second)?);
-        assert_eq!(rt; answer.err(), Some(fault));
+        let found = fault(rt.alloc(), &grid, used, cycles, second);
+        assert_eq!(rt; found, Some(expected));
     }
     Ok(())
 }
