@@ -1,8 +1,7 @@
 use super::*;
 use calibration::{Gain, Grid};
 use segment::Segment;
-use segment_rules::Name;
-use std::alloc::Global;
+use std::alloc::{AllocError, Global};
 use std::process::Abort;
 use std::test::Fail;
 
@@ -66,101 +65,138 @@ fn fault(
     Ok(read(rt, alloc, layout, bytes)?.err())
 }
 
-#[test]
-fn the_vector(rt: HostRuntime) -> Result<(), Fail> {
-    let alloc = rt.alloc();
+// A segment of four samples of gauge 0, from 0 on.
+fn taken(rt: &impl Abort, alloc: Global, raws: &[i32]) -> Result<Segment, Fail> {
     let (grid, gain) = common()?;
     let mut segment = Segment::new(alloc, &grid, 0, 0, 4)?;
-    take(&rt, &mut segment, &[0, 5, 0, 5], &gain);
+    take(rt, &mut segment, raws, &gain);
+    Ok(segment)
+}
+
+fn assert_written(
+    rt: &impl Abort,
+    alloc: Global,
+    layout: Layout,
+    expected: &[u8],
+) -> Result<(), Fail> {
+    let segment = taken(rt, alloc, &[0, 5, 0, 5])?;
     let mut buf = vec![in alloc; 7; 3000]?;
-    assert_eq!(rt;
-        body(&rt, Layout::One, &segment, &mut buf),
-        VECTOR.as_slice()
-    );
-    let mut rows = VECTOR;
-    rows[64..80].copy_from_slice(&ROWS);
-    assert_eq!(rt; body(&rt, Layout::Two, &segment, &mut buf), rows.as_slice());
-    for layout in [Layout::One, Layout::Two] {
-        let again = read(&rt, alloc, layout, body(&rt, layout, &segment, &mut buf))??;
-        let name = Name {
-            gauge: 0,
-            from: 0,
-            to: 4,
-        };
-        assert_eq!(rt; again.name(), name);
-        assert_eq!(rt; again.longest(), 4);
-        assert_eq!(rt; again.cycles(8, 13), 1);
-    }
+    assert_eq!(rt; body(rt, layout, &segment, &mut buf), expected);
     Ok(())
 }
 
+fn assert_read(rt: &impl Abort, alloc: Global, layout: Layout, bytes: &[u8]) -> Result<(), Fail> {
+    let segment = read(rt, alloc, layout, bytes)??;
+    let name = segment.name();
+    assert_eq!(rt; (name.gauge, name.from, name.to), (0, 0, 4));
+    assert_eq!(rt; (segment.longest(), segment.cycles(8, 13)), (4, 1));
+    Ok(())
+}
+
+// The vector with its cells in rows.
+fn in_rows() -> [u8; 158] {
+    let mut bytes = VECTOR;
+    bytes[64..80].copy_from_slice(&ROWS);
+    bytes
+}
+
+#[test]
+fn the_vector(rt: HostRuntime) -> Result<(), Fail> {
+    assert_written(&rt, rt.alloc(), Layout::One, &VECTOR)?;
+    assert_read(&rt, rt.alloc(), Layout::One, &VECTOR)
+}
+
+#[test]
+fn the_vector_in_rows(rt: HostRuntime) -> Result<(), Fail> {
+    assert_written(&rt, rt.alloc(), Layout::Two, &in_rows())?;
+    assert_read(&rt, rt.alloc(), Layout::Two, &in_rows())
+}
+
 // A byte of the vector is changed, and the fault that this makes.
+const CHANGES: [(usize, u8, BytesFault); 16] = [
+    (79, 0, BytesFault::Order { list: 0, index: 0 }),
+    (93, 9, BytesFault::Order { list: 1, index: 1 }),
+    (135, 7, BytesFault::Order { list: 2, index: 0 }),
+    (149, 0, BytesFault::Order { list: 4, index: 0 }),
+    (12, 1, BytesFault::Sum { rule: 1 }),
+    (17, 3, BytesFault::Sum { rule: 2 }),
+    (25, 5, BytesFault::Sum { rule: 2 }),
+    (49, 5, BytesFault::Sum { rule: 3 }),
+    (49, 3, BytesFault::Sum { rule: 4 }),
+    (79, 2, BytesFault::Sum { rule: 4 }),
+    (91, 4, BytesFault::Sum { rule: 5 }),
+    (143, 3, BytesFault::Sum { rule: 6 }),
+    (157, 4, BytesFault::Sum { rule: 7 }),
+    (149, 6, BytesFault::Sum { rule: 8 }),
+    (63, 8, BytesFault::Residue { rule: 1 }),
+    (63, 14, BytesFault::Residue { rule: 3 }),
+];
+
+fn changed(rt: &impl Abort, place: usize, byte: u8) -> [u8; 158] {
+    let mut bytes = VECTOR;
+    assert!(rt; place < 158);
+    bytes[place] = byte;
+    bytes
+}
+
 #[test]
 fn one_byte_changed(rt: HostRuntime) -> Result<(), Fail> {
-    let order = |list, index| BytesFault::Order { list, index };
-    let sum = |rule| BytesFault::Sum { rule };
-    let residue = |rule| BytesFault::Residue { rule };
-    let rows = [
-        (79, 0, order(0, 0)),
-        (93, 9, order(1, 1)),
-        (135, 7, order(2, 0)),
-        (149, 0, order(4, 0)),
-        (12, 1, sum(1)),
-        (17, 3, sum(2)),
-        (25, 5, sum(2)),
-        (49, 5, sum(3)),
-        (49, 3, sum(4)),
-        (79, 2, sum(4)),
-        (91, 4, sum(5)),
-        (143, 3, sum(6)),
-        (157, 4, sum(7)),
-        (149, 6, sum(8)),
-        (63, 8, residue(1)),
-        (63, 14, residue(3)),
-    ];
-    for (place, byte, expected) in rows {
-        let mut bytes = VECTOR;
-        assert!(rt; place < 158);
-        bytes[place] = byte;
+    for (place, byte, expected) in &CHANGES {
+        let bytes = changed(&rt, *place, *byte);
         let found = fault(&rt, rt.alloc(), Layout::One, &bytes)?;
-        assert_eq!(rt; found, Some(expected), "byte {place}");
+        assert_eq!(rt; found, Some(*expected), "byte {place}");
     }
     Ok(())
 }
 
 // The body of no samples is 72 zeros; one byte less, and one more.
+const ZEROS: [(usize, Option<BytesFault>); 3] = [
+    (71, Some(BytesFault::Short { need: 72, have: 71 })),
+    (72, None),
+    (73, Some(BytesFault::Trailing { rest: 1 })),
+];
+
 #[test]
 fn short_and_trailing(rt: HostRuntime) -> Result<(), Fail> {
-    let alloc = rt.alloc();
-    let short = BytesFault::Short { need: 72, have: 71 };
-    assert_eq!(rt; fault(&rt, alloc, Layout::One, &[0; 71])?, Some(short));
-    assert_eq!(rt; fault(&rt, alloc, Layout::One, &[0; 72])?, None);
-    let trailing = BytesFault::Trailing { rest: 1 };
-    assert_eq!(rt; fault(&rt, alloc, Layout::One, &[0; 73])?, Some(trailing));
+    for (bytes, expected) in &ZEROS {
+        assert!(rt; *bytes <= 73);
+        let found = fault(&rt, rt.alloc(), Layout::One, &[0; 73][..*bytes])?;
+        assert_eq!(rt; found, *expected, "{bytes} bytes");
+    }
     Ok(())
 }
 
-// Rows that do not ascend, and an empty one.
+// A second row, behind that of the vector: rows that do not ascend, and an empty one.
+const SECOND_ROWS: [(&[u8], BytesFault); 4] = [
+    (
+        &[0, 8, 0, 1, 0, 13, 0, 0, 0, 0, 0, 0, 0, 1],
+        BytesFault::Order { list: 0, index: 1 },
+    ),
+    (
+        &[0, 7, 0, 1, 0, 13, 0, 0, 0, 0, 0, 0, 0, 1],
+        BytesFault::Order { list: 0, index: 1 },
+    ),
+    (&[0, 9, 0, 0], BytesFault::Order { list: 0, index: 1 }),
+    (
+        &[0, 9, 0, 1, 0, 13, 0, 0, 0, 0, 0, 0, 0, 1],
+        BytesFault::Sum { rule: 4 },
+    ),
+];
+
+fn with_second_row(alloc: Global, row: &[u8]) -> Result<Vec<u8>, AllocError> {
+    let mut bytes = Vec::new(alloc);
+    for part in [&VECTOR[..64], &[0, 2], &ROWS[2..], row, &VECTOR[80..]] {
+        bytes.extend_from_slice(part)?;
+    }
+    Ok(bytes)
+}
+
 #[test]
 fn rows_out_of_order(rt: HostRuntime) -> Result<(), Fail> {
-    let cases = [
-        (8, 1, BytesFault::Order { list: 0, index: 1 }),
-        (7, 1, BytesFault::Order { list: 0, index: 1 }),
-        (9, 0, BytesFault::Order { list: 0, index: 1 }),
-        (9, 1, BytesFault::Sum { rule: 4 }),
-    ];
-    for (lo, cells, expected) in cases {
-        let mut bytes = Vec::new(rt.alloc());
-        bytes.extend_from_slice(&VECTOR[..64])?;
-        bytes.extend_from_slice(&[0, 2])?;
-        bytes.extend_from_slice(&ROWS[2..])?;
-        bytes.extend_from_slice(&[0, lo, 0, cells])?;
-        if cells > 0 {
-            bytes.extend_from_slice(&ROWS[6..])?;
-        }
-        bytes.extend_from_slice(&VECTOR[80..])?;
+    for (row, expected) in &SECOND_ROWS {
+        let bytes = with_second_row(rt.alloc(), row)?;
         let found = fault(&rt, rt.alloc(), Layout::Two, &bytes)?;
-        assert_eq!(rt; found, Some(expected), "row {lo} of {cells}");
+        assert_eq!(rt; found, Some(*expected));
     }
     Ok(())
 }
