@@ -337,6 +337,192 @@ static uint64_t simple_by_levels(void) {
     return simple_digest(&simple);
 }
 
+/* ---- segments: of blocks that are joined one after another, or of one sample after another ---- */
+
+#define PAIRS (CLASSES * (CLASSES - 1) / 2)
+#define MOST 4096
+
+/* with a class's width in the gain's unit: the numbers by which a product stands for the division */
+typedef struct { int64_t number, shift; uint64_t limit, scale, multiplier; } Classifier;
+
+static Classifier classifier_of(int64_t number, int64_t shift, uint64_t width) {
+    uint64_t scale = (1ull << 49) / width;
+    Classifier it = { number, shift, CLASSES * width, scale, (uint64_t)(((unsigned __int128)1 << 112) / ((unsigned __int128)width * scale)) + 1 };
+    return it;
+}
+
+/* the raw value's class where the answer is not 0 */
+static inline int class_by(const Classifier *c, int32_t raw, unsigned *class) {
+    uint64_t above = (uint64_t)((int64_t)raw * c->number + c->shift);
+    *class = (uint16_t)(((unsigned __int128)(above * c->scale) * c->multiplier) >> 112);
+    return (above < c->limit) & (raw != INT32_MIN);
+}
+
+/* the places of the cycles that closed: each once in a log, or each with its number in a table */
+typedef struct { size_t logged; uint16_t log[MOST]; uint64_t counts[PAIRS]; } Cycles;
+
+typedef struct { size_t length; uint16_t levels[2 * CLASSES]; } Residue;
+
+typedef struct { uint64_t used, missing, refused; Cycles cycles; Residue residue; Crossings crossings; Simple simple; } Segment;
+
+static inline size_t place_of(unsigned lo, unsigned hi) { return (size_t)lo * (2 * CLASSES - lo - 1) / 2 + (hi - lo - 1); }
+
+static inline int are_cycle(unsigned a, unsigned b, unsigned c, unsigned d) {
+    return !((lesser(b, c) < lesser(a, d)) | (greater(a, d) < greater(b, c)));
+}
+
+static inline void delete_cycles(Residue *r, Cycles *t) {
+    uint16_t *l = r->levels;
+    size_t n = r->length;
+    while (n >= 4 && are_cycle(l[n - 4], l[n - 3], l[n - 2], l[n - 1])) {
+        t->counts[place_of(lesser(l[n - 3], l[n - 2]), greater(l[n - 3], l[n - 2]))]++;
+        l[n - 3] = l[n - 1];
+        n -= 2;
+    }
+    r->length = n;
+}
+
+static inline void residue_push(Residue *r, unsigned x, Cycles *t) {
+    uint16_t *l = r->levels;
+    size_t n = r->length;
+    if (n && l[n - 1] == x) return;
+    if (n >= 2 && (l[n - 2] < l[n - 1]) == (l[n - 1] < x)) l[n - 1] = (uint16_t)x;
+    else l[r->length++] = (uint16_t)x;
+    delete_cycles(r, t);
+}
+
+/* the cycles of points to the log, where nothing was reduced before */
+static void reduce_points(Residue *r, Cycles *t, const uint16_t *p, size_t m) {
+    uint16_t *l = r->levels;
+    size_t n = 0, logged = 0;
+    for (size_t i = 0; i < m; i++) {
+        unsigned d = p[i];
+        while (n >= 3 && are_cycle(l[n - 3], l[n - 2], l[n - 1], d)) {
+            t->log[logged++] = (uint16_t)place_of(lesser(l[n - 2], l[n - 1]), greater(l[n - 2], l[n - 1]));
+            n -= 2;
+        }
+        l[n++] = (uint16_t)d;
+    }
+    r->length = n;
+    t->logged = logged;
+}
+
+static void count_block(Segment *s, const Classifier *c, const int32_t *raws, size_t n) {
+    static uint16_t list[MOST];
+    size_t used = 0, missing = 0;
+    for (size_t i = 0; i < n; i++) {
+        unsigned class;
+        int some = class_by(c, raws[i], &class);
+        list[used] = (uint16_t)class;
+        used += (size_t)some;
+        missing += raws[i] == INT32_MIN;
+    }
+    s->used = used;
+    s->missing = missing;
+    s->refused = n - used - missing;
+    size_t points = points_of(list, used);
+    crossings_take(&s->crossings, list, points);
+    simple_take(&s->simple, list, points);
+    reduce_points(&s->residue, &s->cycles, list, points);
+}
+
+static void segment_clear(Segment *s) {
+    s->used = s->missing = s->refused = s->cycles.logged = s->residue.length = 0;
+    crossings_clear(&s->crossings);
+    simple_clear(&s->simple);
+}
+
+/* the second point of the right part is one of the whole too, but the run to it may be longer */
+static void simple_join(Simple *l, const Simple *r) {
+    for (int i = 0; i < CLASSES; i++) {
+        l->decided[i] += r->decided[i];
+        l->extremes[i] += r->extremes[i];
+    }
+    if (r->points) simple_push(l, r->first[0]);
+    if (r->points > 1) simple_push(l, r->first[1]);
+    if (r->points > 2) {
+        l->decided[range(r->first[0], r->first[1])]--;
+        l->decided[range(l->last[0], l->last[1])]++;
+        l->points += r->points - 2;
+        l->last[0] = r->last[0];
+        l->last[1] = r->last[1];
+    }
+}
+
+static void crossings_join(Crossings *l, const Crossings *r) {
+    if (!r->some) return;
+    crossings_push(l, r->first);
+    for (int i = 0; i <= CLASSES; i++) {
+        l->begins[i] += r->begins[i];
+        l->stops[i] += r->stops[i];
+    }
+    l->last = r->last;
+}
+
+static void segment_join(Segment *l, const Segment *r) {
+    for (size_t i = 0; i < r->cycles.logged; i++) l->cycles.counts[r->cycles.log[i]]++;
+    for (size_t i = 0; i < r->residue.length; i++) residue_push(&l->residue, r->residue.levels[i], &l->cycles);
+    crossings_join(&l->crossings, &r->crossings);
+    simple_join(&l->simple, &r->simple);
+    l->used += r->used;
+    l->missing += r->missing;
+    l->refused += r->refused;
+}
+
+static uint64_t segment_digest(const Segment *s) {
+    uint64_t crossed = s->crossings.begins[0] - s->crossings.stops[0];
+    begin();
+    for (unsigned k = 1; k < CLASSES; k++) {
+        crossed += s->crossings.begins[k] - s->crossings.stops[k];
+        for (unsigned hi = k + 1; hi < CLASSES; hi++) take(s->cycles.counts[place_of(k, hi)]);
+        take(crossed);
+        take(k >= REFERENCE ? s->simple.extremes[k] : 0);
+        take(k < REFERENCE ? s->simple.extremes[k] : 0);
+        take(s->simple.decided[k] + (s->simple.points >= 2 && range(s->simple.last[0], s->simple.last[1]) == k));
+    }
+    for (size_t i = 0; i < s->residue.length; i++) take(s->residue.levels[i]);
+    take(s->used);
+    return state;
+}
+
+static int32_t signal_raws[LEVELS];
+static Classifier classifier;
+
+static uint64_t segment_by_blocks(size_t length) {
+    Segment *whole = calloc(1, sizeof *whole), *unit = calloc(1, sizeof *unit);
+    for (size_t i = 0; i < LEVELS; i += length) {
+        segment_clear(unit);
+        count_block(unit, &classifier, signal_raws + i, length);
+        segment_join(whole, unit);
+    }
+    uint64_t digest = segment_digest(whole);
+    free(whole);
+    free(unit);
+    return digest;
+}
+
+static uint64_t segment_by_blocks_of_1024(void) { return segment_by_blocks(1024); }
+
+static uint64_t segment_by_blocks_of_4096(void) { return segment_by_blocks(4096); }
+
+__attribute__((noinline)) static void segment_take(Segment *s, const Classifier *c, int32_t raw) {
+    unsigned class;
+    if (raw == INT32_MIN) { s->missing++; return; }
+    if (!class_by(c, raw, &class)) { s->refused++; return; }
+    s->used++;
+    residue_push(&s->residue, class, &s->cycles);
+    crossings_push(&s->crossings, class);
+    simple_push(&s->simple, (uint16_t)class);
+}
+
+static uint64_t segment_by_samples(void) {
+    Segment *whole = calloc(1, sizeof *whole);
+    for (size_t i = 0; i < LEVELS; i++) segment_take(whole, &classifier, signal_raws[i]);
+    uint64_t digest = segment_digest(whole);
+    free(whole);
+    return digest;
+}
+
 static long long now(void) {
     struct timespec t;
     clock_gettime(CLOCK_PROCESS_CPUTIME_ID, &t);
@@ -350,6 +536,11 @@ static const struct { const char *name; uint64_t (*run)(void); } CALLS[] = {
 static const struct { const char *name; uint64_t (*run)(void); } COUNTS[] = {
     { "crossings_by_points", crossings_by_points }, { "simple_by_points", simple_by_points },
     { "crossings_by_levels", crossings_by_levels }, { "simple_by_levels", simple_by_levels },
+};
+
+static const struct { const char *name; uint64_t (*run)(void); } SEGMENTS[] = {
+    { "segment_by_blocks_of_1024", segment_by_blocks_of_1024 }, { "segment_by_blocks_of_4096", segment_by_blocks_of_4096 },
+    { "segment_by_samples", segment_by_samples },
 };
 
 static void show(const char *name, const char *behind, uint64_t (*run)(void), int is_timed, long long samples) {
@@ -375,6 +566,13 @@ int main(int argc, char **argv) {
     for (int kind = 0; kind < 3; kind++) {
         make_signal(kind);
         for (size_t i = 0; i < sizeof COUNTS / sizeof *COUNTS; i++) show(COUNTS[i].name, SIGNALS[kind], COUNTS[i].run, is_timed, LEVELS);
+    }
+    /* which the compiler is not to know */
+    classifier = classifier_of(argc > 9 ? 210 : 1000, 0, argc > 9 ? 500 : 1000);
+    for (int kind = 0; kind < 3; kind++) {
+        make_signal(kind);
+        for (int i = 0; i < LEVELS; i++) signal_raws[i] = signal_levels[i];
+        for (size_t i = 0; i < sizeof SEGMENTS / sizeof *SEGMENTS; i++) show(SEGMENTS[i].name, SIGNALS[kind], SEGMENTS[i].run, is_timed, LEVELS);
     }
     return 0;
 }

@@ -1,6 +1,7 @@
 //! Single calls of the counting crates over one recording that is made here: for each a digest of what it answers, and with the word
 //! `time` also its processor time, in hundredths of a nanosecond to the sample. `bench/src/calls.c` prints the same digests. Crossings and
 //! simple counts are taken of a walk, noise and a sine, by the points of blocks of 1,024 levels (each block 16 times) and by levels.
+//! Segments of the same signals are made by blocks, each counted and joined to those before it, and by samples.
 //!
 //! Only safety is proved here. What the calls answer is said by their own contracts; the digests show that the C program beside
 //! them does the same work.
@@ -9,12 +10,14 @@
 mod calls;
 mod counts;
 mod digest;
+mod segments;
 mod signal;
 
 use calibration::Grid;
 use calls::{Call, Recording, answer};
 use counts::{Count, counted_by};
-use signal::{Signal, levels_of};
+use segments::{Way, segment_by};
+use signal::{Signal, levels_of, raws_of};
 use std::rt::Env;
 use std::time::CpuClock;
 use std::{env, io};
@@ -34,7 +37,8 @@ fn main(rt: HostRuntime) -> io::Result<()> {
             println!(rt; "{call} {digest}")?;
         }
     }
-    show_counts(&rt, is_timed)
+    show_counts(&rt, is_timed)?;
+    show_segments(&rt, is_timed)
 }
 
 // How many levels each signal has.
@@ -67,6 +71,45 @@ fn show_counts<R: CpuClock + AllocGlobal + Print>(rt: &R, is_timed: bool) -> io:
         }
     }
     Ok(())
+}
+
+// Each way to make a segment, over each signal.
+fn show_segments<R: CpuClock + AllocGlobal + Print>(rt: &R, is_timed: bool) -> io::Result<()> {
+    let Ok(grid) = Grid::new(128, 2, -64000, 64) else {
+        return Ok(());
+    };
+    for signal in Signal::ALL {
+        let raws = raws_of(rt.alloc(), &levels_of(rt.alloc(), signal, LEVELS)?)?;
+        for way in Way::ALL {
+            let digest = segment_by(rt.alloc(), way, &grid, &raws)?;
+            if is_timed {
+                let hundredths = time_of_segment(rt, way, &grid, &raws)?;
+                println!(rt; "{way}_{signal} {digest} {hundredths}")?;
+            } else {
+                println!(rt; "{way}_{signal} {digest}")?;
+            }
+        }
+    }
+    Ok(())
+}
+
+// The least processor time of a way to make a segment, in hundredths of a nanosecond to the sample.
+fn time_of_segment<R: CpuClock + AllocGlobal>(
+    rt: &R,
+    way: Way,
+    grid: &Grid,
+    raws: &[i32],
+) -> io::Result<u128> {
+    let mut least = u128::MAX;
+    for _ in 0..REPEATS {
+        let start = rt.process_cpu_time()?;
+        segment_by(rt.alloc(), way, grid, raws)?;
+        let end = rt.process_cpu_time()?;
+        if end >= start {
+            least = least.min((end - start).as_nanos());
+        }
+    }
+    Ok(least.wrapping_mul(100) / raws.len().max(1) as u128)
 }
 
 // The least processor time of a call over the recording, in hundredths of a nanosecond to the sample.

@@ -48,3 +48,12 @@ pub fn levels_of(alloc: Global, signal: Signal, samples: u32) -> Result<Vec<u16>
     }
     Ok(levels)
 }
+
+/// Raw values that are these levels.
+pub fn raws_of(alloc: Global, levels: &[u16]) -> Result<Vec<i32>, AllocError> {
+    let mut raws = Vec::with_capacity(alloc, levels.len())?;
+    for &level in levels {
+        raws.push(i32::from(level))?;
+    }
+    Ok(raws)
+}
