@@ -1,11 +1,10 @@
 -- How the answers of resuming are put together.
-use Rattle.std.proofs.Common.{◌≡◌, ℕ, ◌+◌, ◌-◌, ◌*◌, ◌^◌, ◌<◌, ◌≤◌, min, List, [], ◌∷◌, ◌++◌, length, get_or, take, drop, slice_range, Option, Some, None, Result, Ok, Err, refl, sym, ap, subst, ◌∙◌, arith, append_assoc, length-append, take-append-drop, take-add}
+use Rattle.std.proofs.Common.{◌≡◌, ℕ, ◌+◌, ◌<◌, ◌≤◌, List, [], ◌∷◌, ◌++◌, length, take, drop, Option, Some, None, Result, Ok, Err, sym, ap, subst, ◌∙◌, arith, append_assoc, length-append, take-append-drop}
 use Rattle.std.specs.Prelude.{IfOk, OnOk}
-use Rattle.std.proofs.lemmas.List.{take_at, drop_at, drop_more, drop-drop, length-take, length-drop, append-nil, nil_from_length}
+use Rattle.std.proofs.lemmas.List.{length-take}
 use Rattle.outside.specs.Fault.{Rose}
-use Rattle.station.specs.Station.{Image, Only, NoNew}
+use Rattle.station.specs.Station.{Image, Only}
 use Rattle.calibration.specs.Gain.{GainValue}
-use Rattle.recording.specs.declared.head.Head.{Head}
 use Rattle.segment_rules.specs.Parts.{PartsValue}
 use Rattle.segment_store.specs.declared.damage.Stop.{Stop}
 use Rattle.segment_store.specs.declared.damage.Stop.TheVariants as stops
@@ -18,9 +17,8 @@ use Rattle.segment_store.specs.declared.fault.ResumeFault.TheVariants.{NotAStore
 use Rattle.calibration.specs.declared.setup.Setup.{Setup}
 use Rattle.segment_bytes.specs.declared.layout.Layout.{Layout}
 use Rattle.segment_bytes.specs.Sizes.{max_body}
-use Rattle.segment.specs.Segment.{SegmentValue}
 use Rattle.store_head.specs.Head.{HeadValue, IsHead, head_of, start_of}
-use Rattle.segment_store.specs.Image.{open_bodies, IsNext, Tiles, Reads, nothing_held}
+use Rattle.segment_store.specs.Image.{open_bodies, IsNext, Reads, nothing_held}
 use Rattle.store_head.specs.Judging.{or_else, gauge_fault, gauge_at, gauges_fault, head_fault, layout_in}
 use Rattle.segment_store.specs.Held.{AreHeld, ends_of}
 use Rattle.segment_store.specs.Moments.{StoreValue, IsAt, IsOn}

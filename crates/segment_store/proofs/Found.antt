@@ -1,6 +1,6 @@
 -- What a walk found reads.
 use Rattle.std.proofs.Common.{◌≡◌, ◌≢◌, ℕ, ◌+◌, ◌-◌, ◌^◌, ◌<◌, ◌≤◌, List, [], ◌∷◌, ◌++◌, length, get_or, drop, slice_range, refl, sym, ◌∙◌, ap, arith, append_assoc, length-append, take-append-drop}
-use Rattle.std.specs.Prelude.{Result, Ok, Err, IfOk}
+use Rattle.std.specs.Prelude.{Ok}
 use Rattle.std.specs.Int.{w32, to_be_bytes}
 use Rattle.std.proofs.lemmas.List.{drop_more, drop-drop, length-take, length-drop}
 use Rattle.sha2.specs.Sha256.{sha256}
@@ -9,9 +9,7 @@ use Rattle.segment_rules.specs.Parts.{PartsValue}
 use Rattle.calibration.specs.declared.setup.Setup.{Setup}
 use Rattle.segment_bytes.specs.declared.layout.Layout.{Layout}
 use Rattle.segment_bytes.specs.Grammar.{body_of}
-use Rattle.segment_store.specs.declared.damage.Damage.{Damage}
-use Rattle.segment_store.specs.declared.damage.Stop.{Stop}
-use Rattle.segment_store.specs.Image.{signed, stored, open_bodies, extended, IsNext, Tiles, none, one}
+use Rattle.segment_store.specs.Image.{signed, stored, open_bodies, extended, IsNext, none}
 use Rattle.segment_store.specs.Resuming.{field_at, length_at, bytes_at, kept_at, found_at, IsWhole, Finds, sound, whole}
 use Rattle.segment_store.specs.Reading.{HasPassed, IsFound}
 use Rattle.segment_store.proofs.Bodies.{length-stored, open_more, tiles_more}

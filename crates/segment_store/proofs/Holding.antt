@@ -1,6 +1,6 @@
 -- Held segments, and where they end.
 use Rattle.std.proofs.Common.{◌≡◌, ◌≢◌, ◌⊎◌, ℕ, zero, suc, ◌+◌, ◌-◌, ◌<◌, ◌≤◌, List, [], ◌∷◌, ◌++◌, length, get_or, set, refl, sym, ap, subst, ◌∙◌, arith, inl, inr, length-append}
-use Rattle.std.specs.Prelude.{map, replicate, Result, Ok, Err, OnOk}
+use Rattle.std.specs.Prelude.{replicate, Result, Ok, Err, OnOk}
 use Rattle.std.proofs.lemmas.Bool.{cases_eq}
 use Rattle.std.proofs.lemmas.List.{get_or-set_same, get_or-set_other, length-set, get_or_append_left, replicate-append-replicate, map-append}
 use Rattle.std.proofs.Math.Seq.{get_or-append_seam}

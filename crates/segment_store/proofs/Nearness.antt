@@ -1,6 +1,5 @@
 -- The place of the closed gate stays small.
-use Rattle.std.proofs.Common.{◌≡◌, ℕ, ◌+◌, ◌-◌, ◌*◌, ◌^◌, ◌<◌, ◌≤◌, List, [], ◌∷◌, length, get_or, set, replicate, sym, ap, subst, ◌∙◌, arith}
-use Rattle.std.specs.Prelude.{All}
+use Rattle.std.proofs.Common.{◌≡◌, ℕ, ◌+◌, ◌*◌, ◌^◌, ◌<◌, ◌≤◌, List, length, get_or, replicate, ap, arith}
 use Rattle.std.proofs.lemmas.Nat.{mul-le}
 use Rattle.std.proofs.lemmas.List.{length-set, length-replicate}
 use Rattle.std.proofs.lemmas.List.Sums.{sum_by-set, sum_by-le}
@@ -8,10 +7,9 @@ use Rattle.std.proofs.lemmas.List.Elements.{All-set, All-replicate}
 use Rattle.calibration.specs.Grid.{GridValue, IsGrid}
 use Rattle.segment_rules.specs.Parts.{PartsValue}
 use Rattle.recording.specs.declared.TheConstants.{MAX_SAMPLES}
-use Rattle.segment_bytes.specs.Sizes.{max_body, max_body_of}
+use Rattle.segment_bytes.specs.Sizes.{max_body}
 use Rattle.segment_bytes.specs.declared.layout.Layout.TheVariants.{One, Two}
 use Rattle.segment_bytes.specs.declared.layout.Layout.{Layout}
-use Rattle.segment_bytes.specs.Grammar.{body_of}
 use Rattle.segment_bytes.specs.Decoding.{IsBodyOf}
 use Rattle.segment_bytes.proofs.Lengths.{segment_small}
 use Rattle.segment_store.specs.Image.{extended}

@@ -1,5 +1,5 @@
 -- Of an image that reads resuming finds no fault.
-use Rattle.std.proofs.Common.{◌≡◌, ℕ, List, ◌∷◌, ◌++◌, length, None, sym, ◌∙◌, arith, append_assoc, length-append}
+use Rattle.std.proofs.Common.{◌≡◌, ℕ, List, ◌∷◌, ◌++◌, None, sym, ◌∙◌, arith, append_assoc, length-append}
 use Rattle.station.specs.Station.{Image}
 use Rattle.segment_rules.specs.Parts.{PartsValue}
 use Rattle.segment_bytes.specs.Sizes.{max_body}

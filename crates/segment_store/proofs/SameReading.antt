@@ -1,5 +1,5 @@
 -- An image reads in one way.
-use Rattle.std.proofs.Common.{◌≡◌, ◌≢◌, ℕ, ◌+◌, ◌^◌, ◌<◌, ◌≤◌, List, [], ◌∷◌, ◌++◌, length, get_or, drop, refl, sym, ap, subst, ◌∙◌, arith, append_assoc, length-append}
+use Rattle.std.proofs.Common.{◌≡◌, ◌≢◌, ℕ, ◌^◌, ◌<◌, ◌≤◌, List, ◌∷◌, ◌++◌, length, get_or, drop, refl, sym, ap, subst, ◌∙◌, arith, append_assoc}
 use Rattle.std.proofs.lemmas.List.{drop_at}
 use Rattle.station.specs.Station.{Image}
 use Rattle.calibration.specs.declared.setup.Setup.{Setup}
@@ -10,10 +10,10 @@ use Rattle.segment_bytes.specs.Grammar.{body_of}
 use Rattle.segment_bytes.specs.Sizes.{max_body}
 use Rattle.segment_bytes.specs.Decoding.{decoded}
 use Rattle.segment_bytes.proofs.Lengths.{segment_small}
-use Rattle.store_head.specs.Head.{HeadValue, IsSetup, IsHead, front, gauges, head_of}
+use Rattle.store_head.specs.Head.{HeadValue, IsSetup, front, gauges, head_of}
 use Rattle.store_head.proofs.Passing.{layout_told, heads_told}
 use Rattle.segment_store.specs.Held.{ends_of}
-use Rattle.segment_store.specs.Image.{stored, open_bodies, extended, IsBody, IsNext, Tiles, none, one, Reads}
+use Rattle.segment_store.specs.Image.{stored, open_bodies, extended, IsBody, Tiles, none, one, Reads}
 use Rattle.segment_store.specs.Moments.{StoreValue, IsOn}
 use Rattle.segment_store.specs.Resuming.{bytes_at}
 use Rattle.segment_store.proofs.Nearness.{max_small}

@@ -1,5 +1,5 @@
 -- What a moment of making a store is, and when it is refused.
-use Rattle.std.specs.Prelude.{◌≡◌, ◌≢◌, ◌⊎◌, ◌<◌, ℕ, List, [], ◌∷◌, ◌++◌, length, slice_index, Result, Ok, Err}
+use Rattle.std.specs.Prelude.{◌≡◌, ◌≢◌, ◌⊎◌, ◌<◌, ℕ, List, length, slice_index, Result, Ok, Err}
 use Rattle.outside.specs.Fault.{Rose}
 use Rattle.station.specs.Station.{Image, Lines, IsMoment}
 use Rattle.segment_store.specs.declared.fault.InitFault.{InitFault}

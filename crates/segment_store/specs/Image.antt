@@ -4,7 +4,7 @@
 --   IsBody        a body that a store of this setup may have; IsNext: it may come next, where each gauge is held up to its end
 --   Tiles         the bodies of each gauge follow one another without a gap
 --   Reads         an image reads with this head as these bodies, of which those of each gauge end there
-use Rattle.std.specs.Prelude.{◌≡◌, ◌≢◌, ◌<◌, ◌+◌, ℕ, List, [], ◌∷◌, ◌++◌, length, slice_index, slice_set, replicate}
+use Rattle.std.specs.Prelude.{◌≡◌, ◌≢◌, ◌<◌, ℕ, List, [], ◌∷◌, ◌++◌, length, slice_index, slice_set, replicate}
 use Rattle.std.specs.Int.{w32, to_be_bytes}
 use Rattle.sha2.specs.Sha256.{sha256}
 use Rattle.station.specs.Station.{Image}

@@ -2,8 +2,7 @@
 --   see_state   a store's parts, as contracts see them
 --   IsKept      the place is near and not before the number of bodies, the buffer has room for a body, each gauge is held, and version 1
 --               has at most 128 classes
-use Rattle.std.specs.Prelude.{◌≡◌, ◌≤◌, ◌+◌, ℕ, List, length, vec_len}
-use Rattle.calibration.specs.Grid.{IsGrid}
+use Rattle.std.specs.Prelude.{◌≡◌, ◌≤◌, ◌+◌, List, length, vec_len}
 use Rattle.segment_rules.specs.Parts.{PartsValue}
 use Rattle.segment_bytes.specs.Sizes.{max_body}
 use Rattle.segment_bytes.specs.declared.layout.Layout.TheVariants.{One}

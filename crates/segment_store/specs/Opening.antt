@@ -5,7 +5,7 @@
 --   Resumes      the head's fault, or the end of the walk
 --   IsUnharmed   no fault but of the disk and of memory
 --   DiskRose     the disk is blamed only where the count of faults rose
-use Rattle.std.specs.Prelude.{◌≡◌, ◌+◌, ◌*◌, ℕ, List, length, Option, Some, None, Result, Ok, Err}
+use Rattle.std.specs.Prelude.{◌≡◌, ℕ, List, Option, Some, None, Result, Ok, Err}
 use Rattle.outside.specs.Fault.{Rose}
 use Rattle.station.specs.Station.{Image}
 use Rattle.calibration.specs.declared.setup.Setup.{Setup}

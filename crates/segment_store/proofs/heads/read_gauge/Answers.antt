@@ -1,6 +1,6 @@
-use Rattle.std.proofs.Common.{◌+◌, ◌*◌, ap, ◌∙◌, sym, arith}
+use Rattle.std.proofs.Common.{ap, ◌∙◌, sym, arith}
 use Rattle.store_head.specs.Head.{gauge}
-use Rattle.store_head.proofs.Judged.{slice_long, front_is, gauge_is}
+use Rattle.store_head.proofs.Judged.{gauge_is}
 use Rattle.segment_store.proofs.Quiet.{quiet_starts, quiet_on}
 use Rattle.segment_store.proofs.heads.read_gauge.Goals as goal
 

@@ -1,10 +1,10 @@
-use Rattle.std.proofs.Common.{◌≡◌, ◌<◌, ◌+◌, ◌++◌, ◌∷◌, [], length, take, drop, slice_range, ◌*◌, ap, sym, subst, ◌∙◌, arith, rules}
+use Rattle.std.proofs.Common.{◌≡◌, ◌<◌, ◌+◌, ◌++◌, ◌∷◌, [], length, take, drop, slice_range, ◌*◌, ap, sym, subst, ◌∙◌, rules}
 use Rattle.std.specs.Prelude.{None, All}
 use Rattle.std.proofs.lemmas.List.{drop_more, take_more}
 use Rattle.std.proofs.lemmas.List.Elements.{All-push}
 use Rattle.calibration.specs.Gain.{IsGain}
 use Rattle.store_head.specs.Head.{gauge, gauges, IsRecorded}
-use Rattle.store_head.specs.Judging.{gauge_fault, gauge_at, gauges_fault}
+use Rattle.store_head.specs.Judging.{gauge_fault, gauge_at}
 use Rattle.store_head.proofs.Gauges.{fault_next, bytes_more}
 use Rattle.segment_store.proofs.Quiet.{quiet_then}
 use Rattle.segment_store.proofs.heads.read_gauges.Goals as goal

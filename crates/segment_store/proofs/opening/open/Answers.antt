@@ -1,4 +1,4 @@
-use Rattle.std.proofs.Common.{◌≡◌, ◌<◌, ◌+◌, ◌*◌, ◌++◌, List, ℕ, length, take, ap, sym, subst, ◌∙◌, arith}
+use Rattle.std.proofs.Common.{◌≡◌, ◌<◌, List, length, take, ap, sym, subst, ◌∙◌, arith}
 use Rattle.std.specs.Prelude.{None}
 use Rattle.station.specs.Station.{Only}
 use Rattle.calibration.specs.declared.setup.Setup.{Setup}
@@ -6,16 +6,15 @@ use Rattle.segment_bytes.specs.declared.layout.Layout.{Layout}
 use Rattle.segment_bytes.specs.Sizes.{max_body}
 use Rattle.segment_rules.specs.Parts.{PartsValue}
 use Rattle.store_head.specs.declared.setup.StoreHead.{StoreHead}
-use Rattle.store_head.specs.Head.{HeadValue, see_head, head_of, start_of}
+use Rattle.store_head.specs.Head.{see_head, head_of, start_of}
 use Rattle.store_head.specs.Judging.{head_fault, layout_in}
 use Rattle.segment_store.specs.declared.putting.State.{State}
-use Rattle.segment_store.specs.Held.{AreHeld, ends_of}
+use Rattle.segment_store.specs.Held.{ends_of}
 use Rattle.segment_store.specs.Image.{nothing_held}
 use Rattle.segment_store.specs.Keeping.{see_state}
 use Rattle.segment_store.specs.Moments.{IsOn}
-use Rattle.segment_store.specs.Opening.{WalksAs}
 use Rattle.segment_store.specs.Reading.{StartsAt, IsFound}
-use Rattle.segment_store.proofs.Answering.{if_ok3, never_err, on_station, resumes_all, resumes_err}
+use Rattle.segment_store.proofs.Answering.{if_ok3, never_err, on_station}
 use Rattle.segment_store.proofs.Passing.{layout_is, never, starts}
 use Rattle.segment_store.proofs.Quiet.{quiet_starts, quiet_on, quiet_then}
 use Rattle.segment_store.proofs.opening.open.Goals as goal

@@ -1,5 +1,5 @@
-use Rattle.std.proofs.Common.{◌≡◌, ◌+◌, ◌*◌, ℕ, List, length, ap, subst, sym, ◌∙◌}
-use Rattle.std.specs.Prelude.{Ok, Err, replicate}
+use Rattle.std.proofs.Common.{◌+◌, ◌*◌, ℕ, List, length, ap, subst, sym, ◌∙◌}
+use Rattle.std.specs.Prelude.{Err, replicate}
 use Rattle.segment_bytes.specs.Sizes.{max_body}
 use Rattle.store_head.specs.Head.{start_of}
 use Rattle.segment_store.specs.declared.putting.State.{State}

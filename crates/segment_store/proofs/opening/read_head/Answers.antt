@@ -1,5 +1,5 @@
-use Rattle.std.proofs.Common.{◌≡◌, ◌+◌, ◌*◌, length, take, slice_range, subst, ◌∙◌}
-use Rattle.store_head.specs.Head.{see_head, head_of, gauges}
+use Rattle.std.proofs.Common.{◌≡◌, ◌+◌, ◌*◌, length, slice_range, subst}
+use Rattle.store_head.specs.Head.{see_head, gauges}
 use Rattle.store_head.proofs.Gauges.{head_is}
 use Rattle.segment_store.proofs.Quiet.{quiet_then}
 use Rattle.segment_store.proofs.opening.read_head.Goals as goal

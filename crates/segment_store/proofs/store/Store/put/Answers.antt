@@ -1,6 +1,5 @@
-use Rattle.std.proofs.Common.{◌≡◌, ◌++◌, ◌∷◌, [], false, List, ap, sym, subst, ◌∙◌}
+use Rattle.std.proofs.Common.{◌≡◌, ◌++◌, ◌∷◌, [], false, ap, sym, subst, ◌∙◌}
 use Rattle.std.specs.Prelude.{OnOk}
-use Rattle.segment_rules.specs.Parts.{PartsValue}
 use Rattle.segment.specs.Parts.{parts_of}
 use Rattle.store_head.specs.Head.{see_head}
 use Rattle.segment_store.specs.Held.{ends_of}

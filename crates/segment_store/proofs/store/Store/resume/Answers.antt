@@ -1,4 +1,4 @@
-use Rattle.std.proofs.Common.{◌≡◌, List, ℕ, sym, subst, ◌∙◌}
+use Rattle.std.proofs.Common.{sym, subst, ◌∙◌}
 use Rattle.segment_store.specs.Image.{Reads}
 use Rattle.segment_store.specs.Keeping.{see_state}
 use Rattle.segment_store.proofs.SameReading.{same_on}
