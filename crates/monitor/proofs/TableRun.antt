@@ -8,8 +8,8 @@ use Rattle.monitor.specs.Printed.{text_of}
 use Rattle.monitor.specs.Run.{Outside, Runs, usage_task}
 use Rattle.monitor.specs.declared.refusal.Refusal.{Refusal}
 use Rattle.monitor.specs.declared.refusal.Refusal.TheVariants as refusal
-use Rattle.monitor.specs.declared.status.Status.{Status}
-use Rattle.monitor.specs.declared.status.Status.TheVariants.{Done, Usage, Recording, Torn, ReadFault, WriteFault, OutOfMemory, TooLong}
+use Rattle.status.specs.declared.status.Status.{Status}
+use Rattle.status.specs.declared.status.Status.TheVariants.{Done, Usage, Recording, Torn, ReadFault, WriteFault, OutOfMemory, TooLong}
 
 -- of the same answer of another state
 own : (answer : Status) (state : FileState) → answer ≡ answer_for state → answer ≢ ReadFault → IsAnswer answer state

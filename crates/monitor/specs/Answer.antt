@@ -10,9 +10,9 @@ use Rattle.recording.specs.declared.head.HeadFault.TheVariants as head
 use Rattle.monitor.specs.declared.refusal.Refusal.{Refusal}
 use Rattle.monitor.specs.declared.refusal.Refusal.TheVariants as refusal
 use Rattle.monitor.specs.FileState.{FileState, NoFile, Sound, BadHead, TornEnd, TooManySamples}
-use Rattle.monitor.specs.declared.status.Status.{Status}
-use Rattle.monitor.specs.declared.status.Status.TheVariants.{Done, Usage, Recording, Torn, ReadFault, WriteFault, OutOfMemory, TooLong}
-use Rattle.monitor.specs.declared.status.RecordingFault.TheVariants.{Short, Magic, Version, NotZero}
+use Rattle.status.specs.declared.status.Status.{Status}
+use Rattle.status.specs.declared.status.Status.TheVariants.{Done, Usage, Recording, Torn, ReadFault, WriteFault, OutOfMemory, TooLong}
+use Rattle.status.specs.declared.status.RecordingFault.TheVariants.{Short, Magic, Version, NotZero}
 
 abbrev pub refusal_of : HeadFault → Refusal
 refusal_of head.Short = refusal.Head Short

@@ -1,6 +1,4 @@
 pub mod Line
-pub mod Status
-pub mod StatusText
 pub mod FileState
 pub mod Answer
 pub mod Figures

@@ -14,8 +14,8 @@ use Rattle.monitor.specs.Answer.{MayAnswer, IsAnswer}
 use Rattle.monitor.specs.FileState.{file_state}
 use Rattle.command_words.specs.Line.{Command, Table, Init, Count, Report, Audit, Demo}
 use Rattle.monitor.specs.Printed.{text_of}
-use Rattle.monitor.specs.declared.status.Status.{Status}
-use Rattle.monitor.specs.declared.status.Status.TheVariants.{Done, Usage, ReadFault, WriteFault, OutOfMemory}
+use Rattle.status.specs.declared.status.Status.{Status}
+use Rattle.status.specs.declared.status.Status.TheVariants.{Done, Usage, ReadFault, WriteFault, OutOfMemory}
 
 pub record Outside : Type 1 where
   -- whether the site tells what its files hold, and the output what is written

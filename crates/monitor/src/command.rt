@@ -7,11 +7,11 @@ ghost use Rattle.monitor.specs.Printed.{table_grid, table_gain, text_of_samples}
 ghost use Rattle.monitor.specs.Run.{Runs, table_task, outside};
 ghost use Rattle.monitor.specs.Answer.{IsPrinting};
 
-use crate::Status;
 use crate::counting::table_page;
 use crate::figures::Figures;
 use crate::read::read_recording;
 use outside::{Sink, Site};
+use status::Status;
 use std::alloc::Global;
 
 /// Prints the rainflow table of a recording (ASTM E1049-85, 5.4.4).

@@ -19,11 +19,9 @@ mod figures;
 mod grid;
 mod read;
 mod refusal;
-mod status;
 mod top;
 
 pub use command::table_command;
-pub use status::{RecordingFault, Status};
 pub use top::monitor;
 
 #[cfg(test)]

@@ -1,8 +1,8 @@
 ghost use Rattle.std.specs.Prelude.{◌≡◌};
 ghost use Rattle.monitor.specs.declared.refusal.Refusal.TheVariants.{OutOfMemory};
 
-use crate::{RecordingFault, Status};
 use recording::HeadFault;
+use status::{RecordingFault, Status};
 use std::alloc::AllocError;
 
 /// Why a recording is refused, or can't be read.

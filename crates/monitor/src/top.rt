@@ -2,10 +2,10 @@ ghost use Rattle.std.specs.Prelude.{◌≡◌, ◌⊎◌, None, map, string_byte
 ghost use Rattle.monitor.specs.Line.{built_command_of};
 ghost use Rattle.monitor.specs.Run.{Runs, task_of, no_memory_task, outside};
 
-use crate::Status;
 use crate::command::table_command;
 use command_words::{Command, read_words};
 use outside::{Sink, Site};
+use status::Status;
 
 /// Does what the words of the command line say.
 ///

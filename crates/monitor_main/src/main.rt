@@ -10,10 +10,11 @@ mod words;
 
 ghost use Rattle.std.specs.Prelude.{◌≡◌};
 ghost use Rattle.std.specs.Process.{exit_status};
-ghost use Rattle.monitor.specs.Status.{code_of};
+ghost use Rattle.status.specs.Status.{code_of};
 
 use adapters::{FolderSite, OutputSink};
-use monitor::{Status, monitor};
+use monitor::monitor;
+use status::Status;
 use std::process::ExitCode;
 use words::{WordFault, words_of};
 

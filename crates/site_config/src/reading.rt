@@ -1,6 +1,7 @@
-ghost use Rattle.std.specs.Prelude.{◌≡◌, ◌≤◌, length};
+ghost use Rattle.std.specs.Prelude.{◌≡◌, ◌≤◌, length, IfOk};
 ghost use Rattle.toml.specs.View.{table_view};
 ghost use Rattle.site_config.specs.Fields.{Gives};
+ghost use Rattle.site_config.specs.Valid.{IsConfig};
 ghost use Rattle.site_config.specs.Configuration.{config_in, config_of_bytes, document};
 
 use crate::limits::MAX_BYTES;
@@ -11,9 +12,10 @@ use std::alloc::Global;
 use toml::Table;
 
 /// What the bytes of a configuration mean, or the first fault in them.
-#[tactic(auto, unfolding(crate::specs::Configuration::config_of_bytes))]
+#[tactic(auto, unfolding(crate::specs::Configuration::config_of_bytes), using(crate::proofs::Valid::given_valid))]
 pub fn read(alloc: Global, bytes: &[u8]) -> Result<Config, ConfigFault>
-    ensures { Gives (λ c. c) result (config_of_bytes bytes.now) }
+    ensures meaning { Gives (λ c. c) result (config_of_bytes bytes.now) }
+    ensures valid { IfOk result IsConfig }
 {
     if bytes.len() > MAX_BYTES {
         return Err(ConfigFault::TooLong);

@@ -3,8 +3,8 @@ use Rattle.outside.specs.Sink.{AppendsPrefix}
 use Rattle.outside.specs.Fault.{Rose}
 use Rattle.monitor.specs.Answer.{MayAnswer}
 use Rattle.monitor.specs.FileState.{state_of, file_state}
-use Rattle.monitor.specs.declared.status.Status.{Status}
-use Rattle.monitor.specs.declared.status.Status.TheVariants.{Done, ReadFault, WriteFault}
+use Rattle.status.specs.declared.status.Status.{Status}
+use Rattle.status.specs.declared.status.Status.TheVariants.{Done, ReadFault, WriteFault}
 use Rattle.monitor.specs.Printed.{text_of_samples}
 use Rattle.monitor.proofs.TableRun.{complete, text_for, printing_may, printing_no_read, refusal_no_done, refusal_no_write, refusal_read}
 use Rattle.monitor.proofs.command.table_command.Goals as goal

@@ -3,7 +3,7 @@ use Rattle.recording.specs.Samples.{samples, torn_bytes}
 use Rattle.monitor.specs.Printed.{table_grid, table_gain}
 use Rattle.monitor.specs.Answer.{answer_for}
 use Rattle.monitor.specs.FileState.{state_of}
-use Rattle.monitor.specs.declared.status.Status.TheVariants.{Torn}
+use Rattle.status.specs.declared.status.Status.TheVariants.{Torn}
 use Rattle.monitor.proofs.RecordingRead.{more_read, all_read, sound_end, torn_end, too_many, by_classifier, of_classifier}
 use Rattle.monitor.proofs.Refusals.{head_cause, head_fault, memory_cause, memory_fault, state_with_head, err_is}
 use Rattle.monitor.proofs.read.read_recording.Goals as goal
