@@ -9,12 +9,12 @@
 //! is then below `MAX_CLASSES` times the divisor. So two multiplications and a shift by a fixed number give the exact
 //! quotient: the first makes the divisor one of nearly 49 bits, the second is by 2^112 over that. A `Classifier`
 //! keeps the numbers that a gain and a grid determine: make one for a block of samples. `Classifier::levels` puts the
-//! levels of a slice of raw values to the front of a buffer; `level` is for one raw value.
+//! levels of a slice of raw values to the front of a buffer; `level` is for one raw value, by the one quotient itself.
 //!
 //! Under a rising gain the raw values with a level lie between two bounds, which `Classifier::new` finds. `levels`
 //! first compares each stretch of values with them, several at once, and passes over a stretch that lies outside.
 //!
-//! Cost: `Classifier::new` four divisions; `Classifier::level`, and `levels` for each value of a stretch that isn't
+//! Cost: `Classifier::new` four divisions, `level` one; `Classifier::level`, and `levels` for each value of a stretch that isn't
 //! passed over, three multiplications, no division and, in `levels`, no branch that depends on a single value.
 #![tactic(auto)]
 
@@ -23,11 +23,13 @@ mod gain;
 mod grid;
 mod reading;
 mod setup;
+mod single;
 #[cfg(test)]
 mod tests;
 
-pub use classifier::{Classifier, level};
+pub use classifier::Classifier;
 pub use gain::{Gain, GainFault, MAX_DEN, MAX_NUM, MAX_OFFSET};
 pub use grid::{Grid, GridFault, MAX_CLASSES, MAX_LOW_KPA, MAX_SPAN, MIN_CLASSES, STEP_KPA};
 pub use reading::{LevelCounts, Reading};
 pub use setup::{Gains, Setup};
+pub use single::level;
