@@ -2,6 +2,7 @@ pub mod Alike
 pub mod Segment
 pub mod Name
 pub mod Parts
+pub mod Standing
 pub mod Loading
 pub mod Joining
 pub mod Readings

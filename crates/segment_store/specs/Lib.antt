@@ -1,5 +1,6 @@
 pub mod Beginning
 pub mod Held
+pub mod Holds
 pub mod Image
 pub mod Keeping
 pub mod Moments
