@@ -3,8 +3,9 @@ ghost use Rattle.turning_points.specs.Points.{points};
 ghost use Rattle.tables.specs.Tables.{filled};
 ghost use Rattle.tables.specs.Bins.{count_at as count_of_bins};
 ghost use Rattle.turning_points.specs.Ends.{end_points};
+ghost use Rattle.turning_points.specs.EndPoints.{last_point};
 ghost use Rattle.level_crossing.specs.Loading.{CanLoad, HasEnds, loaded_of};
-ghost use Rattle.level_crossing.specs.Crossings.{Crosses, IsCrossings, append_of, begin_step, between, count_at, crossings, high, is_some, level_of, low, no_crossings, stop_step};
+ghost use Rattle.level_crossing.specs.Crossings.{Crosses, IsCrossings, append_of, begin_step, between, count_at, crossings, first_of, high, is_some, level_of, low, no_crossings, stop_step};
 ghost use Rattle.turning_points.specs.declared.ends.TheConstants.{MAX_POINTS};
 
 use crate::points::{fill, first_level, has_some, last_level};
@@ -195,6 +196,8 @@ impl Crossings {
         ensures grid { (self.new.classes ≡ self.old.classes)
             × (self.new.reference ≡ self.old.reference) }
         ensures some { self.new.some ≡ true }
+        ensures first { self.new.first ≡ (if self.old.some then self.old.first else level) }
+        ensures last { self.new.last ≡ level }
         ensures counts { (l : ℕ) → count_at self.new l ≡
             count_at self.old l + between self.old.some self.old.reference l self.old.last level }
         ensures rules { IsCrossings self.new }
@@ -241,6 +244,10 @@ impl Crossings {
         ensures grid { (self.new.classes ≡ self.old.classes)
             × (self.new.reference ≡ self.old.reference) }
         ensures some { self.new.some ≡ (self.old.some || right.now.some) }
+        ensures first { self.new.first ≡
+            (if self.old.some then self.old.first else right.now.first) }
+        ensures last { self.new.last ≡
+            (if right.now.some then right.now.last else self.old.last) }
         ensures counts { (l : ℕ) → count_at self.new l ≡ count_at self.old l + count_at right.now l
             + between (self.old.some && right.now.some) self.old.reference l
             self.old.last right.now.first }
@@ -260,6 +267,8 @@ impl Crossings {
         ensures grid { (self.new.classes ≡ self.old.classes)
             × (self.new.reference ≡ self.old.reference) }
         ensures some { self.new.some ≡ is_some list.now }
+        ensures first { self.new.first ≡ first_of list.now }
+        ensures last { self.new.last ≡ last_point list.now }
         ensures counts { (l : ℕ) → count_at self.new l ≡ crossings self.old.reference l list.now }
         ensures rules { IsCrossings self.new }
         ensures histories { (h : List ℕ) → points h ≡ list.now → Crosses self.new h }

@@ -1,8 +1,7 @@
 -- Half units of a pair, and of all pairs that lie so far apart.
-use Rattle.std.proofs.Common.{◌≡◌, ℕ, ℤ, zero, suc, ◌+◌, ◌-◌, ◌*◌, ◌^◌, ◌<◌, ◌≤◌, ◌&&◌, ◌==◌, Bool, true, false, if◌then◌else◌, min, max, List, [], ◌∷◌, length, drop, get_or, refl, sym, ap, ◌∙◌, subst, arith}
-use Rattle.std.proofs.lemmas.List.{drop_more}
+use Rattle.std.proofs.Common.{◌≡◌, ℕ, ℤ, zero, suc, ◌+◌, ◌-◌, ◌*◌, ◌^◌, ◌<◌, ◌≤◌, Bool, true, false, if◌then◌else◌, List, [], ◌∷◌, refl, sym, ◌∙◌, subst, arith}
 use Rattle.std.proofs.lemmas.List.Sums.{sum_by-cons}
-use Rattle.three_point.specs.Run.{counted_range, half_units, half_units_at_range, three_point, half_units_of_pair}
+use Rattle.three_point.specs.Run.{half_units, half_units_at_range, three_point, half_units_of_pair}
 use Rattle.three_point.proofs.Sums.{has_range_sums, sum_at_range-added, sum_is}
 use Rattle.calibration.specs.Gain.{GainValue}
 use Rattle.calibration.specs.History.{history}

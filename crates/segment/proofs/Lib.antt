@@ -2,6 +2,7 @@ pub mod Alikeness
 pub mod Deleted
 pub mod Residues
 pub mod Room
+pub mod SameEnds
 pub mod Rules
 pub mod Standing
 pub mod OfPoints
@@ -14,3 +15,4 @@ pub mod TableSums
 pub mod PartsRules
 pub mod Ready
 pub mod Made
+pub mod PartsStanding

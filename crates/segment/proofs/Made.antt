@@ -1,15 +1,12 @@
 -- A segment that was made from parts that keep the rules: it keeps its own, and has these parts.
-use Rattle.std.proofs.Common.{◌≡◌, ◌≢◌, ℕ, ◌+◌, ◌-◌, ◌*◌, ◌<◌, ◌≤◌, ◌⊎◌, inl, inr, Bool, true, false, List, [], ◌∷◌, length, refl, sym, ap, subst, ◌∙◌, arith}
-use Rattle.std.specs.Prelude.{All, ◌==◌, if◌then◌else◌, not, slice_index}
-use Rattle.std.proofs.lemmas.Bool.{cases_lt}
-use Rattle.std.proofs.lemmas.Bool.Decides.{nat_tests}
+use Rattle.std.proofs.Common.{◌≡◌, ℕ, ◌-◌, ◌<◌, ◌≤◌, ◌⊎◌, inl, inr, Bool, true, false, List, [], ◌∷◌, length, refl, sym, ap, subst, ◌∙◌, arith}
+use Rattle.std.specs.Prelude.{All, ◌==◌, if◌then◌else◌, slice_index}
 use Rattle.std.proofs.lemmas.List.Elements.{All-head, All-tail}
-use Rattle.recording.specs.declared.TheConstants.{MAX_SAMPLES}
 use Rattle.tally.specs.declared.cells.Cell.{Cell}
 use Rattle.tally.specs.declared.cells.Bin.{Bin}
 use Rattle.tally.specs.Counts.{Counts, total_of}
 use Rattle.tally.specs.Room.{room_for}
-use Rattle.tables.specs.Bins.{AreBinsFrom, count_at}
+use Rattle.tables.specs.Bins.{count_at}
 use Rattle.turning_points.specs.EndPoints.{EndPoints, IsTurn, ends_of}
 use Rattle.turning_points.proofs.EndPlaces.{last_place, before_place}
 use Rattle.four_point.specs.Residue.{IsResidue, ReducerValue}
@@ -18,7 +15,7 @@ use Rattle.level_crossing.specs.Crossings.{CrossingsValue, count_at as crossing_
 use Rattle.level_crossing.specs.Loading.{HasEnds}
 use Rattle.simple_counts.specs.Simple.{SimpleValue, IsSimple, peak_count, range_count, valley_count}
 use Rattle.segment_rules.specs.Parts.{PartsValue}
-use Rattle.segment_rules.specs.Rules.{IsEnded, only_point}
+use Rattle.segment_rules.specs.Rules.{IsEnded}
 use Rattle.segment_rules.specs.Rules.{IsSegment as AreSegment}
 use Rattle.segment.specs.Alike.{Alike, OnSide}
 use Rattle.segment.specs.Segment.{SegmentValue, IsSegment}
@@ -127,12 +124,6 @@ module _ (g : GridValue) (p : PartsValue) (n : ℕ) (t : Counts) (r : ReducerVal
       (bins_again (valley_count c) 0 g.reference g.reference p.valleys o.valleys (omega arith) (λ k le. valleys k))
       (bins_again (range_count c) 1 g.classes (g.classes - 1) p.ranges o.ranges (omega (arith, f)) (λ k le. ranges k))
 
-  some_used : x.some ≡ true → 1 ≤ p.used
-  some_used e = by p.ends.points p.used (sym x_ends.0 ∙ e) s.summed.points
-    where
-      by : (n u : ℕ) → not (n == 0) ≡ true → n ≤ u → 1 ≤ u
-      by n u e h = grind (arith, nat_tests)
-
   pub made_kept : IsSegment (made_of g p n t r x c)
   made_kept =
       let q = s.summed in
@@ -153,8 +144,8 @@ module _ (g : GridValue) (p : PartsValue) (n : ℕ) (t : Counts) (r : ReducerVal
         none = λ z. q.no_points (omega (arith, z, points));
         balance = omega (arith, points, q.cycles, ap (λ (v : ReducerValue). length v.residue) residue, ap (λ (v : Counts). total_of v.cells) cells);
         crossed = λ l. omega (arith, crossed l, bins_below p.used p.crossings l q.crossings);
-        some = some_used;
         simple = rules;
+        ends = subst (HasEnds x) (sym ends) x_ends;
         residue = subst (IsResidue g.classes) (sym (ap (λ (v : ReducerValue). v.residue) residue)) s.residue;
         alike = subst (λ e. Alike e (ends_of r.residue)) (sym ends) (subst (λ l. Alike p.ends (ends_of l)) (sym (ap (λ (v : ReducerValue). v.residue) residue)) (alike_are g.classes p.ends p.residue s.ended));
       }

@@ -1,12 +1,12 @@
 -- A segment with the counts of a list of points.
-use Rattle.std.proofs.Common.{◌≡◌, ◌≢◌, ℕ, ℤ, ◌+◌, ◌*◌, ◌<◌, ◌≤◌, true, List, [], ◌∷◌, length, refl, sym, ap, ◌∙◌, subst, arith}
+use Rattle.std.proofs.Common.{◌≡◌, ◌≢◌, ℕ, ℤ, ◌+◌, ◌*◌, ◌<◌, ◌≤◌, List, [], ◌∷◌, length, refl, sym, ap, ◌∙◌, subst, arith}
 use Rattle.std.specs.Prelude.{All}
 use Rattle.recording.specs.declared.TheConstants.{MAX_SAMPLES}
 use Rattle.calibration.specs.Gain.{GainValue}
 use Rattle.calibration.specs.Grid.{GridValue}
 use Rattle.calibration.specs.History.{history}
 use Rattle.turning_points.specs.Points.{points}
-use Rattle.turning_points.specs.EndPoints.{EndPoints, IsEnds, ends_of}
+use Rattle.turning_points.specs.EndPoints.{EndPoints, IsEnds, ends_of, last_point}
 use Rattle.turning_points.proofs.Zigzag.{zig_points}
 use Rattle.turning_points.proofs.Over.{own, zig_own}
 use Rattle.turning_points.proofs.PushEnds.{list_ends}
@@ -16,13 +16,14 @@ use Rattle.four_point.specs.Residue.{AddsCycles, IsResidue, ReducerValue}
 use Rattle.four_point.proofs.Unique.{chain_of}
 use Rattle.calibration.proofs.HistoryBelow.{history_below}
 use Rattle.turning_points.proofs.Levels.{All-points}
-use Rattle.level_crossing.specs.Crossings.{CrossingsValue, count_at, crossings, is_some}
+use Rattle.level_crossing.specs.Crossings.{CrossingsValue, count_at, crossings, first_of, is_some}
 use Rattle.level_crossing.proofs.OfPoints.{crossings_few}
 use Rattle.simple_counts.specs.Simple.{SimpleValue, IsSimple}
 use Rattle.simple_counts.proofs.OfPoints.{level_below}
 use Rattle.segment.specs.Alike.{Alike, OnSide}
 use Rattle.segment.specs.Segment.{SegmentValue, IsSegment}
 use Rattle.segment.proofs.Deleted.{chain_alike}
+use Rattle.segment.proofs.SameEnds.{listed_ends}
 
 side_self : (a b : ℕ) → a ≢ b → OnSide a b b
 side_self a b n = grind arith
@@ -30,16 +31,12 @@ side_self a b n = grind arith
 self_alike : (k : ℕ) (e : EndPoints) → IsEnds k e → Alike e e
 self_alike k e i = record { short = λ q. refl; long = λ q. q; first = refl; last = refl; second = λ q. side_self e.first e.second (i.differ q).0; before = λ q. side_self e.last e.before (λ p. (i.differ q).1 (sym p)); three = λ q. refl }
 
-some_used : (p : List ℕ) (u : ℕ) → length p ≤ u → is_some p ≡ true → 1 ≤ u
-some_used [] u h e = absurd (grind arith)
-some_used (x ∷ p) u h e = omega arith
-
 pub block_rules : (v : SegmentValue) (p : List ℕ) (u m f : ℕ) (t : Tallied) (q : ReducerValue) (x : CrossingsValue) (z : SimpleValue) → IsSegment v → points p ≡ p → All (λ l. l < v.grid.classes) p → length p ≤ u → (length p ≡ 0 → u ≡ 0) → v.from + (u + m + f) ≤ MAX_SAMPLES → u + m + f ≤ v.longest →
     AddsCycles p (λ lo hi. 0) q.residue (count_of t.cells) → 2 * total_of t.cells + length q.residue ≡ length p → IsResidue q.classes q.residue → q.classes ≡ v.reducer.classes → t.classes ≡ v.tally.classes → t.room ≡ v.tally.room →
-    (x.classes ≡ v.crossings.classes) × (x.reference ≡ v.crossings.reference) → x.some ≡ is_some p → ((l : ℕ) → count_at x l ≡ crossings v.crossings.reference l p) →
+    (x.classes ≡ v.crossings.classes) × (x.reference ≡ v.crossings.reference) → x.some ≡ is_some p → x.first ≡ first_of p → x.last ≡ last_point p → ((l : ℕ) → count_at x l ≡ crossings v.crossings.reference l p) →
     (z.classes ≡ v.simple.classes) × (z.reference ≡ v.simple.reference) → z.ends ≡ ends_of p → IsSimple z →
     IsSegment (record { grid = v.grid; gauge = v.gauge; from = v.from; to = v.from + (u + m + f); longest = v.longest; used = u; missing = m; refused = f; tally = t; reducer = q; crossings = x; simple = z })
-block_rules v p u m f t q x z i own_p below few none room long s b r qc tc rc xg xs xn zg ze zc =
+block_rules v p u m f t q x z i own_p below few none room long s b r qc tc rc xg xs xf xl xn zg ze zc =
     let o = i.over in
     let k = v.grid.classes in
     let g = o.limits.classes_from in
@@ -57,8 +54,8 @@ block_rules v p u m f t q x z i own_p below few none room long s b r qc tc rc xg
       none = λ w. none (sym n ∙ w);
       balance = omega arith;
       crossed = λ l. omega (arith, xn l, crossings_few v.crossings.reference l p);
-      some = λ w. some_used p u few (sym xs ∙ w);
       simple = zc;
+      ends = listed_ends p x z.ends xs xf xl ze;
       residue = subst (λ w. IsResidue w q.residue) (qc ∙ o.reducer) r;
       alike = subst (λ w. Alike w (ends_of q.residue)) (sym ze) a;
     }

@@ -1,20 +1,18 @@
 -- A segment's parts keep the rules of parts.
-use Rattle.std.proofs.Common.{◌≡◌, ◌≢◌, ℕ, ◌+◌, ◌-◌, ◌*◌, ◌<◌, ◌≤◌, ◌⊎◌, inl, inr, Bool, true, false, List, [], ◌∷◌, length, nat_le, refl, sym, ap, subst, ◌∙◌, arith}
-use Rattle.std.specs.Prelude.{All, if◌then◌else◌, slice_index, sum}
+use Rattle.std.proofs.Common.{◌≡◌, ◌≢◌, ℕ, ◌+◌, ◌-◌, ◌<◌, ◌≤◌, ◌⊎◌, inl, inr, List, length, nat_le, refl, sym, ap, subst, ◌∙◌, arith}
+use Rattle.std.specs.Prelude.{All, if◌then◌else◌, slice_index}
 use Rattle.std.proofs.lemmas.Bool.{cases_lt}
 use Rattle.std.proofs.lemmas.Bool.Decides.{nat_tests}
-use Rattle.calibration.specs.Grid.{IsGrid}
-use Rattle.recording.specs.declared.TheConstants.{MAX_SAMPLES}
 use Rattle.turning_points.specs.Pairs.{range}
-use Rattle.turning_points.specs.EndPoints.{EndPoints, IsEnds, IsTurn, ends_of, no_ends}
+use Rattle.turning_points.specs.EndPoints.{EndPoints, IsEnds, IsTurn, ends_of}
 use Rattle.turning_points.proofs.EndPlaces.{last_place, before_place}
 use Rattle.tally.specs.Counts.{IsCell, IsCounts}
-use Rattle.tables.specs.Bins.{AreBinsFrom, count_at, sum_of}
+use Rattle.tables.specs.Bins.{count_at, sum_of}
 use Rattle.tables.specs.Tables.{is_at}
 use Rattle.level_crossing.specs.Crossings.{count_at as crossing_count}
 use Rattle.simple_counts.specs.Simple.{SimpleValue, IsSimple, open_at, peak_count, range_count, valley_count}
 use Rattle.simple_counts.specs.Loading.{CountsEnds, first_range, last_range}
-use Rattle.segment_rules.specs.Rules.{AreCells, HasEndsBeside, IsEnded, IsOrdered, IsSummed, only_point}
+use Rattle.segment_rules.specs.Rules.{AreCells, HasEndsBeside, IsEnded, IsOrdered, IsSummed}
 use Rattle.segment_rules.specs.Rules.{IsSegment as AreSegment}
 use Rattle.segment.specs.Alike.{Alike, OnSide}
 use Rattle.segment.specs.Segment.{SegmentValue, IsSegment}

@@ -2,7 +2,7 @@
 --   empty_rules    by a segment of no samples
 --   taken_rules    where a level is taken
 --   joined_rules   where two parts are joined
-use Rattle.std.proofs.Common.{◌≡◌, ℕ, zero, suc, ◌+◌, ◌-◌, ◌*◌, ◌<◌, ◌≤◌, Bool, true, false, ◌&&◌, ◌||◌, [], ◌∷◌, ◌++◌, length, get_or, refl, sym, ap, ◌∙◌, subst, arith}
+use Rattle.std.proofs.Common.{◌≡◌, ℕ, zero, suc, ◌+◌, ◌-◌, ◌*◌, ◌<◌, ◌≤◌, Bool, true, false, ◌&&◌, ◌||◌, if◌then◌else◌, [], ◌∷◌, ◌++◌, length, get_or, refl, sym, ap, ◌∙◌, subst, arith}
 use Rattle.std.proofs.lemmas.Bool.Decides.{nat_tests}
 use Rattle.recording.specs.declared.TheConstants.{MAX_SAMPLES}
 use Rattle.calibration.specs.Grid.{GridValue, IsGrid}
@@ -21,6 +21,7 @@ use Rattle.simple_counts.specs.Simple.{SimpleValue, IsSimple, nothing}
 use Rattle.segment.specs.Alike.{Alike}
 use Rattle.segment.specs.Segment.{SegmentValue, IsSegment, empty_at}
 use Rattle.segment.proofs.Residues.{left, residue_ends}
+use Rattle.segment.proofs.SameEnds.{joined_ends, pushed_ends, some_used}
 
 pub one_alike : (y : ℕ) → Alike (one y) (ends_of (y ∷ []))
 one_alike y = record { short = λ q. refl; long = λ q. absurd (omega arith); first = refl; last = refl; second = λ q. absurd (omega arith); before = λ q. absurd (omega arith); three = λ q. absurd (omega arith) }
@@ -44,16 +45,13 @@ crossed_both true true r l x y m n s t f g h k = let o = f refl in let p = g ref
 crossed_both true false r l x y m n s t f g h k = omega arith
 crossed_both false b r l x y m n s t f g h k = omega arith
 
-some_both : (a b : Bool) (s t : ℕ) → (a ≡ true → 1 ≤ s) → (b ≡ true → 1 ≤ t) → (a || b) ≡ true → 1 ≤ s + t
-some_both true b s t f g h = let o = f refl in omega arith
-some_both false b s t f g h = let o = g h in omega arith
-
 pub taken_rules : (v : SegmentValue) (y : ℕ) (t : Tallied) (q : ReducerValue) (x : CrossingsValue) (z : SimpleValue) → IsSegment v → y < v.grid.classes → v.to < MAX_SAMPLES → v.to - v.from < v.longest →
     AddsCycles (points (v.reducer.residue ++ (y ∷ []))) (count_of v.tally.cells) q.residue (count_of t.cells) → 2 * total_of t.cells + length q.residue ≡ 2 * total_of v.tally.cells + length (points (v.reducer.residue ++ (y ∷ []))) → IsResidue q.classes q.residue → q.classes ≡ v.reducer.classes → t.classes ≡ v.tally.classes → t.room ≡ v.tally.room →
-    (x.classes ≡ v.crossings.classes) × (x.reference ≡ v.crossings.reference) → ((l : ℕ) → count_at x l ≡ count_at v.crossings l + between v.crossings.some v.crossings.reference l v.crossings.last y) →
+    (x.classes ≡ v.crossings.classes) × (x.reference ≡ v.crossings.reference) → x.some ≡ true → x.first ≡ (if v.crossings.some then v.crossings.first else y) → x.last ≡ y →
+    ((l : ℕ) → count_at x l ≡ count_at v.crossings l + between v.crossings.some v.crossings.reference l v.crossings.last y) →
     (z.classes ≡ v.simple.classes) × (z.reference ≡ v.simple.reference) → z.ends ≡ ends_push y v.simple.ends → IsSimple z →
     IsSegment (record { grid = v.grid; gauge = v.gauge; from = v.from; to = v.to + 1; longest = v.longest; used = v.used + 1; missing = v.missing; refused = v.refused; tally = t; reducer = q; crossings = x; simple = z })
-taken_rules v y t q x z i h room long j b s qc tc rc xg xn zg ze zc =
+taken_rules v y t q x z i h room long j b s qc tc rc xg xs xf xl xn zg ze zc =
     let o = i.over in
     let k = v.grid.classes in
     let g = o.limits.classes_from in
@@ -73,9 +71,9 @@ taken_rules v y t q x z i h room long j b s qc tc rc xg xn zg ze zc =
       used = omega (arith, i.used);
       none = λ n. let m = meets_none k v.simple.ends (one y) e w (sym p ∙ n) in absurd (let u = m.1 in omega arith);
       balance = omega (arith, r.balance);
-      crossed = λ l. omega (arith, xn l, crossed_more v.crossings.some v.crossings.reference l v.crossings.last y (count_at v.crossings l) v.used i.some (i.crossed l));
-      some = λ n. omega arith;
+      crossed = λ l. omega (arith, xn l, crossed_more v.crossings.some v.crossings.reference l v.crossings.last y (count_at v.crossings l) v.used (some_used v.crossings v.simple.ends v.used i.ends i.used) (i.crossed l));
       simple = zc;
+      ends = pushed_ends k y v.crossings x v.simple.ends z.ends e w i.ends xs xf xl ze;
       residue = subst (λ n. IsResidue n q.residue) (qc ∙ o.reducer) s;
       alike = subst (λ n. Alike n (ends_of q.residue)) (sym f) r.alike;
     }
@@ -83,10 +81,11 @@ taken_rules v y t q x z i h room long j b s qc tc rc xg xn zg ze zc =
 pub joined_rules : (v w : SegmentValue) (m t : Tallied) (q : ReducerValue) (x : CrossingsValue) (z : SimpleValue) → IsSegment v → IsSegment w → v.grid ≡ w.grid → v.to ≡ w.from → (v.to - v.from) + (w.to - w.from) ≤ v.longest →
     total_of m.cells ≡ total_of v.tally.cells + total_of w.tally.cells →
     AddsCycles (points (v.reducer.residue ++ w.reducer.residue)) (count_of m.cells) q.residue (count_of t.cells) → 2 * total_of t.cells + length q.residue ≡ 2 * total_of m.cells + length (points (v.reducer.residue ++ w.reducer.residue)) → IsResidue q.classes q.residue → q.classes ≡ v.reducer.classes → t.classes ≡ v.tally.classes → t.room ≡ v.tally.room →
-    (x.classes ≡ v.crossings.classes) × (x.reference ≡ v.crossings.reference) → x.some ≡ (v.crossings.some || w.crossings.some) → ((l : ℕ) → count_at x l ≡ count_at v.crossings l + count_at w.crossings l + between (v.crossings.some && w.crossings.some) v.crossings.reference l v.crossings.last w.crossings.first) →
+    (x.classes ≡ v.crossings.classes) × (x.reference ≡ v.crossings.reference) → x.some ≡ (v.crossings.some || w.crossings.some) → x.first ≡ (if v.crossings.some then v.crossings.first else w.crossings.first) → x.last ≡ (if w.crossings.some then w.crossings.last else v.crossings.last) →
+    ((l : ℕ) → count_at x l ≡ count_at v.crossings l + count_at w.crossings l + between (v.crossings.some && w.crossings.some) v.crossings.reference l v.crossings.last w.crossings.first) →
     (z.classes ≡ v.simple.classes) × (z.reference ≡ v.simple.reference) → z.ends ≡ meets v.simple.ends w.simple.ends → IsSimple z →
     IsSegment (record { grid = v.grid; gauge = v.gauge; from = v.from; to = w.to; longest = v.longest; used = v.used + w.used; missing = v.missing + w.missing; refused = v.refused + w.refused; tally = t; reducer = q; crossings = x; simple = z })
-joined_rules v w m t q x z i j n next long tt y b s qc tc rc xg xs xn zg ze zc =
+joined_rules v w m t q x z i j n next long tt y b s qc tc rc xg xs xf xl xn zg ze zc =
     let o = i.over in
     let k = v.grid.classes in
     let u : w.grid.classes ≡ k = ap (λ g. g.classes) (sym n) in
@@ -108,16 +107,12 @@ joined_rules v w m t q x z i j n next long tt y b s qc tc rc xg xs xn zg ze zc =
       used = omega (arith, i.used, j.used);
       none = λ e0. let k0 = meets_none k v.simple.ends w.simple.ends e f (sym p ∙ e0) in omega (arith, i.none k0.0, j.none k0.1);
       balance = omega (arith, r.balance);
-      crossed = λ l0. omega (arith, xn l0, crossed_both v.crossings.some w.crossings.some v.crossings.reference l0 v.crossings.last w.crossings.first (count_at v.crossings l0) (count_at w.crossings l0) v.used w.used i.some j.some (i.crossed l0) (j.crossed l0));
-      some = λ e0. some_both v.crossings.some w.crossings.some v.used w.used i.some j.some (sym xs ∙ e0);
+      crossed = λ l0. omega (arith, xn l0, crossed_both v.crossings.some w.crossings.some v.crossings.reference l0 v.crossings.last w.crossings.first (count_at v.crossings l0) (count_at w.crossings l0) v.used w.used (some_used v.crossings v.simple.ends v.used i.ends i.used) (some_used w.crossings w.simple.ends w.used j.ends j.used) (i.crossed l0) (j.crossed l0));
       simple = zc;
+      ends = joined_ends k v.crossings w.crossings x v.simple.ends w.simple.ends z.ends e f i.ends j.ends xs xf xl ze;
       residue = subst (λ a0. IsResidue a0 q.residue) (qc ∙ o.reducer) s;
       alike = subst (λ a0. Alike a0 (ends_of q.residue)) (sym ze) r.alike;
     }
-
-false_true : {A : Type 0} (b : Bool) → b ≡ false → b ≡ true → A
-false_true true e f = absurd (grind arith)
-false_true false e f = absurd (grind arith)
 
 pub empty_rules : (grid : GridValue) (gauge from longest : ℕ) (z : SimpleValue) → IsGrid grid → from ≤ MAX_SAMPLES → 1 ≤ longest → longest ≤ MAX_SAMPLES → z ≡ nothing grid.classes grid.reference → IsSimple z → IsSegment (empty_at grid gauge from longest)
 empty_rules grid gauge from longest z l f o m e c = record {
@@ -129,8 +124,8 @@ empty_rules grid gauge from longest z l f o m e c = record {
   none = λ n. refl;
   balance = omega arith;
   crossed = λ n. omega (arith, none_counted (no_crossings grid.classes grid.reference) _ _ refl n);
-  some = λ n. false_true false refl n;
   simple = subst IsSimple e c;
+  ends = (refl, refl, refl);
   residue = residue_none grid.classes;
   alike = record { short = λ q. refl; long = λ q. absurd (omega arith); first = refl; last = refl; second = λ q. absurd (omega arith); before = λ q. absurd (omega arith); three = λ q. absurd (omega arith) };
 }

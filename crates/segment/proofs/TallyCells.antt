@@ -1,11 +1,11 @@
 -- A tally to which the cells of a list are added, one by one.
 use Rattle.std.proofs.Common.{◌≡◌, ℕ, zero, suc, ◌+◌, ◌*◌, ◌/◌, ◌<◌, ◌≤◌, ◌⊎◌, inl, inr, List, [], ◌∷◌, length, drop, min, refl, sym, ap, subst, ◌∙◌, arith}
-use Rattle.std.specs.Prelude.{All, slice_index_or}
+use Rattle.std.specs.Prelude.{slice_index_or}
 use Rattle.std.proofs.lemmas.List.{drop_more}
 use Rattle.std.proofs.lemmas.List.Sums.{sum_by-cons}
 use Rattle.tally.specs.declared.cells.Cell.{Cell}
 use Rattle.tally.specs.declared.cells.TheConstants.{MAX_TOTAL}
-use Rattle.tally.specs.Counts.{Counts, IsCell, IsCounts, IsAscending, HasGreatestRoom, HasPlace, count_of, most_cells, total_of}
+use Rattle.tally.specs.Counts.{Counts, IsCounts, IsAscending, HasPlace, count_of, most_cells, total_of}
 use Rattle.tally.specs.Room.{room_for}
 use Rattle.tally.proofs.Ascending.{cells_fit, put_first}
 use Rattle.tally.proofs.Equal.{ascending_head, ascending_tail, one_value}

@@ -6,7 +6,7 @@
 --   Stands         a segment stands for samples under a gain
 --   SameStart      two segments of one gauge, from one place on, over one grid, that may come to as many samples
 --   AddsReadings   a segment has the readings of two
-use Rattle.std.specs.Prelude.{◌≡◌, ℕ, ℤ, ◌+◌, ◌-◌, ◌*◌, ◌≤◌, true, List, [], length}
+use Rattle.std.specs.Prelude.{◌≡◌, ℕ, ℤ, ◌+◌, ◌-◌, ◌*◌, ◌≤◌, List, [], length}
 use Rattle.recording.specs.declared.TheConstants.{MAX_SAMPLES}
 use Rattle.calibration.specs.Gain.{GainValue}
 use Rattle.calibration.specs.Grid.{GridValue, IsGrid}
@@ -18,6 +18,7 @@ use Rattle.tally.specs.Room.{room_for}
 use Rattle.four_point.specs.Reduction.{IsFourPointResult}
 use Rattle.four_point.specs.Residue.{IsResidue, ReducerValue}
 use Rattle.level_crossing.specs.Crossings.{CrossingsValue, Crosses, count_at, no_crossings}
+use Rattle.level_crossing.specs.Loading.{HasEnds}
 use Rattle.simple_counts.specs.Simple.{SimpleValue, Counts, IsSimple, nothing}
 use Rattle.segment.specs.Alike.{Alike}
 
@@ -71,8 +72,9 @@ pub record IsSegment (v : SegmentValue) : Type 0 where
   pub none : v.simple.ends.points ≡ 0 → v.used ≡ 0
   pub balance : length v.reducer.residue + 2 * total_of v.tally.cells ≡ v.simple.ends.points
   pub crossed : (l : ℕ) → count_at v.crossings l ≤ v.used - 1
-  pub some : v.crossings.some ≡ true → 1 ≤ v.used
   pub simple : IsSimple v.simple
+  -- the crossings begin and end where the points do
+  pub ends : HasEnds v.crossings v.simple.ends
   -- the residue
   pub residue : IsResidue v.grid.classes v.reducer.residue
   pub alike : Alike v.simple.ends (ends_of v.reducer.residue)

@@ -1,4 +1,4 @@
-use Rattle.std.proofs.Common.{◌≡◌, ◌+◌, ◌-◌, ◌<◌, ◌≤◌, ◌==◌, if◌then◌else◌, min, max, ℕ, List, length, drop, get_or, ap, sym, subst, ◌∙◌, arith, rules}
+use Rattle.std.proofs.Common.{◌≡◌, ◌+◌, ◌-◌, ◌<◌, ◌≤◌, ◌==◌, if◌then◌else◌, min, max, ℕ, List, length, drop, get_or, ap, arith, rules}
 use Rattle.three_point.specs.Run.{half_units_of_pair}
 use Rattle.residue_join.specs.HalfUnits.{neighbours}
 use Rattle.tables.specs.Tables.{raise}

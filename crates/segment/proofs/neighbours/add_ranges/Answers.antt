@@ -1,4 +1,4 @@
-use Rattle.std.proofs.Common.{◌≡◌, ◌+◌, ◌-◌, ◌<◌, ◌≤◌, ℕ, List, length, drop, get_or, ap, sym, subst, ◌∙◌, arith, rules}
+use Rattle.std.proofs.Common.{◌≡◌, ◌+◌, ◌-◌, ◌<◌, ◌≤◌, ℕ, List, length, drop, get_or, ap, arith, rules}
 use Rattle.std.specs.Prelude.{true}
 use Rattle.turning_points.specs.Pairs.{range}
 use Rattle.three_point.specs.Run.{half_units_at_range}

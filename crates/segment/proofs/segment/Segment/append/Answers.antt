@@ -10,6 +10,7 @@ use Rattle.segment.proofs.Residues.{recounted}
 use Rattle.segment.proofs.Room.{merge_room, join_room}
 use Rattle.segment.proofs.Kept.{joined_halves, same_kept}
 use Rattle.segment.proofs.Rules.{crossed_both, joined_rules}
+use Rattle.segment.proofs.SameEnds.{some_used}
 use Rattle.segment.proofs.segment.Segment.append.Goals as goal
 
 pub merge-requires-clause-room : goal.merge-requires-clause-room
@@ -40,7 +41,7 @@ join-requires-clause-few c = λ l.
       i.readings,
       j.readings,
       crossed_both s.crossings.some r.crossings.some s.crossings.reference l s.crossings.last r.crossings.first (count_at s.crossings l) (count_at r.crossings l)
-          s.used r.used i.some j.some (i.crossed l) (j.crossed l),
+          s.used r.used (some_used s.crossings s.simple.ends s.used i.ends i.used) (some_used r.crossings r.simple.ends r.used j.ends j.used) (i.crossed l) (j.crossed l),
     )
 
 pub invariant_of-self : goal.invariant_of-self
@@ -59,7 +60,7 @@ invariant_of-self c =
     long m.total
     (subst (λ r. AddsCycles (points (s.reducer.residue ++ r)) (count_of c.merge.new.self.cells) c.join_residue.new.left.residue (count_of c.join_residue.new.tally.cells)) e p.step)
     (subst (λ r. 2 * total_of c.join_residue.new.tally.cells + length c.join_residue.new.left.residue ≡ 2 * total_of c.merge.new.self.cells + length (points (s.reducer.residue ++ r))) e p.lengths)
-    p.shape p.classes (p.tally_classes ∙ m.classes) (p.tally_room ∙ m.room) x.grid x.some x.counts z.grid z.ends z.rules
+    p.shape p.classes (p.tally_classes ∙ m.classes) (p.tally_room ∙ m.room) x.grid x.some x.first x.last x.counts z.grid z.ends z.rules
 
 pub returns-clause-histories : goal.returns-clause-histories
 returns-clause-histories c = λ g h a b.

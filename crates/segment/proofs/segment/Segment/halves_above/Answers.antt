@@ -1,4 +1,4 @@
-use Rattle.std.proofs.Common.{◌≡◌, ◌+◌, ℕ, List, ap, ◌∙◌, arith}
+use Rattle.std.proofs.Common.{ℕ, List, ap, ◌∙◌, arith}
 use Rattle.calibration.specs.History.{history}
 use Rattle.three_point.specs.Run.{half_units_of_pair}
 use Rattle.residue_join.specs.HalfUnits.{neighbours}

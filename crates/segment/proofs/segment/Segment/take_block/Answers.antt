@@ -16,7 +16,7 @@ invariant_of-self c =
     (subst (λ v. All (λ level. level < v.grid.classes) c.args.list.now) (sym c.self.view_is) c.requires.below) c.requires.within c.requires.none
     (subst (λ v. v.from + (b.used + b.missing + b.refused) ≤ MAX_SAMPLES) (sym c.self.view_is) c.requires.room)
     (subst (λ v. b.used + b.missing + b.refused ≤ v.longest) (sym c.self.view_is) c.requires.longest)
-    p.step p.lengths p.shape p.classes p.tally_classes p.tally_room x.grid x.some x.counts z.grid z.ends z.rules
+    p.step p.lengths p.shape p.classes p.tally_classes p.tally_room x.grid x.some x.first x.last x.counts z.grid z.ends z.rules
 
 pub returns-clause-histories : goal.returns-clause-histories
 returns-clause-histories c = λ h e n.

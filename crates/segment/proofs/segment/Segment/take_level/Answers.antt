@@ -14,7 +14,7 @@ invariant_of-self c =
     let p = c.push.ensures in
     let x = c.push-2.ensures in
     let z = c.push-3.ensures in
-    taken_rules _ c.args.level c.push.new.tally c.push.new.self c.push-2.new.self c.push-3.new.self c.self.invariant (subst (λ v. c.args.level < v.grid.classes) (sym c.self.view_is) c.requires.level) (subst (λ v. v.to < MAX_SAMPLES) (sym c.self.view_is) c.requires.room) (subst (λ v. v.to - v.from < v.longest) (sym c.self.view_is) c.requires.longest) p.step p.lengths p.shape p.classes p.tally_classes p.tally_room x.grid x.counts z.grid z.ends z.rules
+    taken_rules _ c.args.level c.push.new.tally c.push.new.self c.push-2.new.self c.push-3.new.self c.self.invariant (subst (λ v. c.args.level < v.grid.classes) (sym c.self.view_is) c.requires.level) (subst (λ v. v.to < MAX_SAMPLES) (sym c.self.view_is) c.requires.room) (subst (λ v. v.to - v.from < v.longest) (sym c.self.view_is) c.requires.longest) p.step p.lengths p.shape p.classes p.tally_classes p.tally_room x.grid x.some x.first x.last x.counts z.grid z.ends z.rules
 
 pub returns-clause-histories : goal.returns-clause-histories
 returns-clause-histories c = λ h a.

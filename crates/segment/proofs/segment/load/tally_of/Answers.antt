@@ -1,4 +1,4 @@
-use Rattle.std.proofs.Common.{◌∙◌, ◌+◌, length, arith}
+use Rattle.std.proofs.Common.{◌∙◌, arith}
 use Rattle.tally.specs.Counts.{total_of}
 use Rattle.tally.proofs.Equal.{cell_of}
 use Rattle.segment.proofs.TallyCells.{tally_step, total_step, tally_is}
