@@ -1,7 +1,7 @@
 -- A text depends on its counts at the keys that there are, and on nothing else.
 use Rattle.std.proofs.Common.{◌≡◌, ℕ, zero, suc, ◌+◌, ◌-◌, ◌*◌, ◌<◌, ◌≤◌, List, ◌++◌, codes, refl, ◌∙◌, ap, arith}
 use Rattle.calibration.specs.Grid.{GridValue}
-use Rattle.report.specs.Figures.{Figures}
+use Rattle.report.specs.Figures.{Figures, Agree}
 use Rattle.report.specs.Lines.{count_line, lines_from, pair_line, range_line, range_lines}
 use Rattle.report.specs.Texts.{crossings, gauge_text, matrix, peaks, ranges, row_lines, samples_line, table_text, valleys}
 use Rattle.report.specs.declared.counts.SampleCounts.{SampleCounts}
@@ -30,16 +30,6 @@ rows-same : (classes : ℕ) (f g : ℕ → ℕ → ℕ) → ((lo hi : ℕ) → l
 rows-same classes f g same =
     lines_from-same (row_lines f classes) (row_lines g classes) 0 classes (λ lo from to.
     lines_from-same (λ hi. pair_line lo hi (f lo hi)) (λ hi. pair_line lo hi (g lo hi)) (lo + 1) (classes - 1 - lo) (λ hi after before. ap (pair_line lo hi) (same lo hi (omega arith) (omega arith))))
-
--- figures that agree wherever a number is printed
-pub record Agree (grid : GridValue) (f g : Figures) : Type 0 where
-  pub samples : f.samples ≡ g.samples
-  pub half_units : (k : ℕ) → 1 ≤ k → k < grid.classes → f.half_units k ≡ g.half_units k
-  pub pairs : (lo hi : ℕ) → lo < hi → hi < grid.classes → f.pairs lo hi ≡ g.pairs lo hi
-  pub crossings : (l : ℕ) → 1 ≤ l → l < grid.classes → f.crossings l ≡ g.crossings l
-  pub peaks : (l : ℕ) → l < grid.classes → f.peaks l ≡ g.peaks l
-  pub valleys : (l : ℕ) → l < grid.classes → f.valleys l ≡ g.valleys l
-  pub ranges : (k : ℕ) → 1 ≤ k → k < grid.classes → f.ranges k ≡ g.ranges k
 
 module _ (grid : GridValue) (f g : Figures) (a : Agree grid f g) (some : 2 ≤ grid.classes) where
   table : table_text grid f.samples f.half_units ≡ table_text grid g.samples g.half_units

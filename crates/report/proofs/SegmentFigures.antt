@@ -24,8 +24,7 @@ use Rattle.simple_counts.proofs.Readers.{peak_counts, range_counts, valley_count
 use Rattle.segment.specs.Segment.{SegmentValue, IsSegment, Stands}
 use Rattle.segment.specs.Figures.{halves_of}
 use Rattle.segment.proofs.HalfUnits.{count_few, halves_stand, range_parts, range_stands}
-use Rattle.report.specs.Figures.{AreFew, figures, figures_of}
-use Rattle.report.proofs.SameCounts.{Agree}
+use Rattle.report.specs.Figures.{Agree, AreFew, figures, figures_of}
 
 -- one pair is counted at one lower level
 one_lower : (n k h : ℕ) (x : Pair) → (if nat_lt x.lo n then h else 0) + (if is_pair n (n + k) x then h else 0) ≤ (if nat_lt x.lo (suc n) then h else 0)

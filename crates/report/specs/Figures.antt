@@ -4,7 +4,8 @@
 --   AreFewCounts, AreFewHalves, AreFew   no number passes it
 --   figures           of samples, by the definitions over their level history
 --   figures_of        of a segment
-use Rattle.std.specs.Prelude.{ℕ, ℤ, ◌-◌, ◌≤◌, ◌^◌, List, slice_index}
+--   Agree             figures that agree wherever a number is printed
+use Rattle.std.specs.Prelude.{◌≡◌, ℕ, ℤ, ◌-◌, ◌<◌, ◌≤◌, ◌^◌, List, slice_index}
 use Rattle.calibration.specs.Gain.{GainValue}
 use Rattle.calibration.specs.Grid.{GridValue}
 use Rattle.calibration.specs.History.{history}
@@ -80,3 +81,13 @@ figures_of v = record {
   valleys = λ l. valley_count v.simple l;
   ranges = λ k. range_count v.simple k;
 }
+
+-- figures that agree wherever a number is printed
+pub record Agree (grid : GridValue) (f g : Figures) : Type 0 where
+  pub samples : f.samples ≡ g.samples
+  pub half_units : (k : ℕ) → 1 ≤ k → k < grid.classes → f.half_units k ≡ g.half_units k
+  pub pairs : (lo hi : ℕ) → lo < hi → hi < grid.classes → f.pairs lo hi ≡ g.pairs lo hi
+  pub crossings : (l : ℕ) → 1 ≤ l → l < grid.classes → f.crossings l ≡ g.crossings l
+  pub peaks : (l : ℕ) → l < grid.classes → f.peaks l ≡ g.peaks l
+  pub valleys : (l : ℕ) → l < grid.classes → f.valleys l ≡ g.valleys l
+  pub ranges : (k : ℕ) → 1 ≤ k → k < grid.classes → f.ranges k ≡ g.ranges k

@@ -1,0 +1,13 @@
+//! The configuration of a site, read from a source.
+//!
+//! `specs/Reading.antt` says which answer comes of which bytes. Of a source that gives more than a
+//! configuration may have, one byte more than that is taken.
+#![tactic(auto)]
+
+mod reading;
+mod taking;
+
+pub use reading::read_config;
+
+#[cfg(test)]
+mod tests;

@@ -1,0 +1,44 @@
+ghost use Rattle.std.specs.Prelude.{◌≡◌, ◌≢◌, ◌≤◌, IfOk, IfErr, Err};
+ghost use Rattle.outside.specs.Fault.{Rose};
+ghost use Rattle.site_config.specs.Configuration.{config_of_bytes};
+ghost use Rattle.site_config.specs.Valid.{IsConfig};
+ghost use Rattle.config_reading.specs.Reading.{MeansAs, IsRefusal};
+ghost use Rattle.status.specs.declared.status.Status.TheVariants.{ReadFault};
+
+use crate::taking::take_front;
+use outside::Source;
+use site_config::{Config, ConfigFault, MAX_BYTES, read};
+use status::Status;
+use std::alloc::Global;
+
+/// Reads the configuration that a source gives. It takes 65,537 bytes at most.
+pub fn read_config<C: Source>(alloc: Global, config: &mut C) -> Result<Config, Status>
+    ensures meaning { C.tells → MeansAs (config_of_bytes (C.left config.old)) result }
+    ensures valid { IfOk result IsConfig }
+    // What it may refuse with.
+    ensures refusal { IfErr result IsRefusal }
+    ensures cause { result ≡ Err ReadFault → Rose (C.faults config.old) (C.faults config.new) }
+    ensures later { C.faults config.old ≤ C.faults config.new }
+{
+    let Ok(mut bytes) = vec![in alloc; 0; MAX_BYTES + 1] else {
+        return Err(Status::OutOfMemory);
+    };
+    match take_front(config, bytes.as_mut_slice()) {
+        Ok(n) => meaning_of(alloc, &bytes[..n]),
+        Err(_) => Err(Status::ReadFault),
+    }
+}
+
+// What these bytes mean.
+fn meaning_of(alloc: Global, bytes: &[u8]) -> Result<Config, Status>
+    ensures meaning { MeansAs (config_of_bytes bytes.now) result }
+    ensures valid { IfOk result IsConfig }
+    ensures refusal { IfErr result IsRefusal }
+    ensures no_read { result ≢ Err ReadFault }
+{
+    match read(alloc, bytes) {
+        Ok(config) => Ok(config),
+        Err(ConfigFault::OutOfMemory) => Err(Status::OutOfMemory),
+        Err(fault) => Err(Status::Config(fault)),
+    }
+}

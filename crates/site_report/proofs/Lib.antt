@@ -1,0 +1,3 @@
+mod FewHalves
+mod Printed
+pub mod HeldFigures

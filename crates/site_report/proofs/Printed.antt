@@ -1,0 +1,29 @@
+-- A text that is printed piece by piece.
+use Rattle.std.proofs.Common.{◌≡◌, ◌≤◌, ℕ, ◌+◌, List, [], ◌∷◌, ◌++◌, length, take, drop, min, refl, sym, ap, ◌∙◌, arith, append_assoc}
+use Rattle.std.proofs.lemmas.List.{append-nil, take-append-le, take_min}
+use Rattle.std.proofs.Math.Seq.{take-append-add}
+use Rattle.outside.specs.Sink.{AppendsPrefix}
+use Rattle.site_report.specs.Report.{IsPrinted}
+
+pub printing_starts : (old whole : List ℕ) → IsPrinted old old whole whole
+printing_starts old whole = record { front = []; written = sym (append-nil old); all = refl }
+
+pub printed_more : (old now new whole piece rest : List ℕ) → IsPrinted old now whole (piece ++ rest) → new ≡ now ++ piece → IsPrinted old new whole rest
+printed_more old now new whole piece rest p e = record {
+  front = p.front ++ piece;
+  written = e ∙ (ap (λ l. l ++ piece) p.written ∙ append_assoc old p.front piece);
+  all = p.all ∙ sym (append_assoc p.front piece rest);
+}
+
+pub printed_whole : (old now whole : List ℕ) → IsPrinted old now whole [] → now ≡ old ++ whole
+printed_whole old now whole p = p.written ∙ ap (λ l. old ++ l) (sym (p.all ∙ append-nil p.front))
+
+-- a put that failed left a front of the whole
+pub printed_front : (old now new whole piece rest : List ℕ) → IsPrinted old now whole (piece ++ rest) → AppendsPrefix now new piece
+    → AppendsPrefix old new whole
+printed_front old now new whole piece rest p (j, is) =
+    let few = min j (length piece) in
+    let cut : take (length p.front + few) whole ≡ p.front ++ take j piece =
+        ap (take (length p.front + few)) p.all ∙ (take-append-add p.front (piece ++ rest) few
+        ∙ ap (λ l. p.front ++ l) (take-append-le few piece rest (omega arith) ∙ take_min j piece)) in
+    (length p.front + few, is ∙ (ap (λ l. l ++ take j piece) p.written ∙ (append_assoc old p.front (take j piece) ∙ ap (λ l. old ++ l) (sym cut))))
