@@ -205,10 +205,15 @@ placed : (o : Option ℕ) (fault : ConfigFault) (place : ℕ) → or_fault o fau
 placed None fault place e = absurd (cc)
 placed (Some x) fault place e = ap Some (same_ok x place e)
 
-detail_on : (gauges : List Gauge) (before : List NamedDetail) (value : Data) (d : NamedDetail) → detail_in gauges before value ≡ Ok d
-    → d.gauge < length gauges
+-- one detail
+record IsReadDetail (gauges : ℕ) (d : NamedDetail) : Type 0 where
+  on : d.gauge < gauges
+  name : is_name d.name ≡ true
+
+detail_read : (gauges : List Gauge) (before : List NamedDetail) (value : Data) (d : NamedDetail) → detail_in gauges before value ≡ Ok d
+    → IsReadDetail (length gauges) d
 unfolding detail_in
-detail_on gauges before value d e =
+detail_read gauges before value d e =
     let i = length before in
     let part = both_ok (or_fault (as_table value) (WrongKind (detail_key i key.Itself))) _ d e in
     let name = both_ok (name_at (detail_key i key.Name) part.value) _ d part.second in
@@ -218,27 +223,29 @@ detail_on gauges before value d e =
     let again = both_ok (unless_taken_before parts.Detail i (detail_names before) name.value) _ d place.second in
     let is = same_ok (record { name = again.value; gauge = place.value; detail = detail.value }) d again.second in
     let at = placed (place_of gauge.value (gauge_names gauges)) (NoSuchGauge i) place.value place.first in
-    subst (λ (x : NamedDetail). x.gauge < length gauges) is
-    (omega (arith, place_below (gauge_names gauges) gauge.value 0 place.value at, many_names gauges))
+    let new = new_name parts.Detail i (detail_names before) name.value again.value again.first in
+    let one = subst (λ n. is_name n ≡ true) new.1 (name_at-ok (detail_key i key.Name) part.value name.value name.first) in
+    subst (λ (x : NamedDetail). IsReadDetail (length gauges) x) is
+        (record { on = omega (arith, place_below (gauge_names gauges) gauge.value 0 place.value at, many_names gauges); name = one })
 
 record AreOn (gauges : ℕ) (ds : List NamedDetail) : Type 0 where
-  on : (d : ℕ) (any : NamedDetail) → d < length ds → (get_or ds d any).gauge < gauges
+  each : (d : ℕ) (any : NamedDetail) → d < length ds → IsReadDetail gauges (get_or ds d any)
 
 none_on : (gauges : ℕ) → AreOn gauges []
-none_on gauges = record { on = λ d any lt. absurd (omega (arith, lt)) }
+none_on gauges = record { each = λ d any lt. absurd (omega (arith, lt)) }
 
-on_more : (gauges : ℕ) (ds : List NamedDetail) (x : NamedDetail) → AreOn gauges ds → x.gauge < gauges → AreOn gauges (ds ++ x ∷ [])
-on_more gauges ds x are is = record { on = on }
+on_more : (gauges : ℕ) (ds : List NamedDetail) (x : NamedDetail) → AreOn gauges ds → IsReadDetail gauges x → AreOn gauges (ds ++ x ∷ [])
+on_more gauges ds x are is = record { each = each }
   where
-    on : (d : ℕ) (any : NamedDetail) → d < length (ds ++ x ∷ []) → (get_or (ds ++ x ∷ []) d any).gauge < gauges
-    on d any lt = by_case (cases_lt d (length ds))
+    each : (d : ℕ) (any : NamedDetail) → d < length (ds ++ x ∷ []) → IsReadDetail gauges (get_or (ds ++ x ∷ []) d any)
+    each d any lt = by_case (cases_lt d (length ds))
       where
-        by_case : (d < length ds) ⊎ (length ds ≤ d) → (get_or (ds ++ x ∷ []) d any).gauge < gauges
-        by_case (inl less) = subst (λ (y : NamedDetail). y.gauge < gauges) (sym (get_or-append ds (x ∷ []) any d less)) (are.on d any less)
+        by_case : (d < length ds) ⊎ (length ds ≤ d) → IsReadDetail gauges (get_or (ds ++ x ∷ []) d any)
+        by_case (inl less) = subst (λ (y : NamedDetail). IsReadDetail gauges y) (sym (get_or-append ds (x ∷ []) any d less)) (are.each d any less)
         by_case (inr le) =
             let e : d ≡ length ds = omega (arith, lt, le, one_longer ds x) in
-            subst (λ n. (get_or (ds ++ x ∷ []) n any).gauge < gauges) (sym e)
-            (subst (λ (y : NamedDetail). y.gauge < gauges) (sym (get_or-append_seam ds x [] any)) is)
+            subst (λ n. IsReadDetail gauges (get_or (ds ++ x ∷ []) n any)) (sym e)
+                (subst (λ (y : NamedDetail). IsReadDetail gauges y) (sym (get_or-append_seam ds x [] any)) is)
 
 details_read : (gauges : List Gauge) (before : List NamedDetail) (values : List Data) (ds : List NamedDetail) → AreOn (length gauges) before
     → details_after gauges before values ≡ Ok ds → AreOn (length gauges) ds × (length ds ≡ length before + length values)
@@ -246,7 +253,7 @@ details_read gauges before [] ds are e =
     subst (λ x. AreOn (length gauges) x × (length x ≡ length before + 0)) (same_ok before ds e) (are, omega arith)
 details_read gauges before (value ∷ values) ds are e =
     let first = both_ok (detail_in gauges before value) _ ds e in
-    let more = on_more (length gauges) before first.value are (detail_on gauges before value first.value first.first) in
+    let more = on_more (length gauges) before first.value are (detail_read gauges before value first.value first.first) in
     let rest = details_read gauges (before ++ first.value ∷ []) values ds more first.second in
     (rest.0, omega (arith, rest.1, one_longer before first.value))
 
@@ -351,7 +358,8 @@ config_in-valid ms c e =
       workers = how.workers;
       names = are.named.names;
       differ = all_differ gauges.value.names are.named;
-      on = on.are_on.on;
+      on = λ d any lt. (on.are_on.each d any lt).on;
+      detail_names = λ d any lt. (on.are_on.each d any lt).name;
     })
 
 -- so it is of what the reader of a table gave

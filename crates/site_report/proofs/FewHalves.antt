@@ -16,7 +16,7 @@ use Rattle.segment.specs.Figures.{doubled_cycles, halves_of}
 use Rattle.segment.proofs.HalfUnits.{range_parts}
 
 -- the sum of so many places from one on
-sum_from : (ℕ → ℕ) → ℕ → ℕ → ℕ
+abbrev sum_from : (ℕ → ℕ) → ℕ → ℕ → ℕ
 sum_from f a zero = 0
 sum_from f a (suc n) = f a + sum_from f (a + 1) n
 
@@ -125,7 +125,7 @@ residue_few (x ∷ y ∷ l) a m = omega (
 
 module _ (v : SegmentValue) (i : IsSegment v) (halves : List ℕ) (places : length halves ≡ v.grid.classes) where
   -- the half units at a range, the cycles' and the residue's
-  parts : ℕ → ℕ
+  abbrev parts : ℕ → ℕ
   parts k = 2 * sum_at_range (count_of v.tally.cells) k (v.grid.classes - k) + half_units_at_range k (neighbours v.reducer.residue)
 
   by_parts : (k : ℕ) → k < v.grid.classes → sum_at_range (halves_of v) k (v.grid.classes - k) ≡ parts k

@@ -1,0 +1,136 @@
+#!/usr/bin/env python3
+"""Compares the program's tables with an independent count, over random recordings.
+
+compare.py PROGRAM [SEED [CASES]]
+
+Each case is a recording made from the seed: sound ones of several kinds of history, with missing readings and readings outside all
+classes, and damaged ones. The count here works on the whole list of points, from docs/RULES.md and docs/FORMATS.md alone. What the
+program prints, byte for byte, and its exit status are compared. Last line: compare: N passed, M failed
+"""
+import os
+import random
+import struct
+import subprocess
+import sys
+import tempfile
+
+CLASSES = 64
+MISSING = -(2**31)
+HEAD = b"SGRC" + bytes([1, 0, 0, 0]) + bytes([0x11] * 16) + struct.pack("<II", 10000, 0)
+
+
+def turning_points(levels):
+    """The first level, the last one, and each that is above or below both neighbours, plateaus taken as one."""
+    flat = [x for i, x in enumerate(levels) if i == 0 or x != levels[i - 1]]
+    return [
+        x
+        for i, x in enumerate(flat)
+        if i in (0, len(flat) - 1) or (x > flat[i - 1]) == (x > flat[i + 1])
+    ]
+
+
+def half_units(points):
+    """Half cycles by range: the first range that a following one reaches is counted and taken out, until none is left."""
+    left = list(points)
+    counted = {}
+
+    def count(a, b, halves):
+        counted[abs(a - b)] = counted.get(abs(a - b), 0) + halves
+
+    while True:
+        for i in range(2, len(left)):
+            if abs(left[i] - left[i - 1]) >= abs(left[i - 1] - left[i - 2]):
+                break
+        else:
+            break
+        if i == 2:
+            count(left[0], left[1], 1)
+            del left[0]
+        else:
+            count(left[i - 2], left[i - 1], 2)
+            del left[i - 2 : i]
+    for a, b in zip(left, left[1:]):
+        count(a, b, 1)
+    return counted
+
+
+def halved(n):
+    return "%d.%d" % (n // 2, 5 * (n % 2))
+
+
+def table_of(raws):
+    used = [r for r in raws if 0 <= r < CLASSES]
+    missing = raws.count(MISSING)
+    lines = [
+        "samples %d used %d missing %d refused %d"
+        % (len(raws), len(used), missing, len(raws) - len(used) - missing),
+        "rainflow",
+    ]
+    counted = half_units(turning_points(used))
+    # A class is two steps of half a N/mm² wide.
+    lines += [halved(2 * k) + " " + halved(counted[k]) for k in sorted(counted, reverse=True)]
+    return "".join(line + "\n" for line in lines)
+
+
+def history(rng, n):
+    kind = rng.randrange(5)
+    level = rng.randrange(CLASSES)
+    raws = []
+    for _ in range(n):
+        if kind == 0:
+            level = rng.randrange(CLASSES)
+        elif kind == 1:
+            level = min(CLASSES - 1, max(0, level + rng.randint(-3, 3)))
+        elif kind == 2:
+            level = rng.choice((10, 30, 50))
+        elif kind == 3:
+            level = level if rng.random() < 0.8 else rng.randrange(CLASSES)
+        else:
+            level = (level + 7) % CLASSES
+        raws.append(level)
+    for _ in range(rng.randrange(4) * n // 50):
+        raws[rng.randrange(n)] = rng.choice((MISSING, -1, CLASSES, 2**31 - 1, -(2**31) + 1))
+    return raws
+
+
+def case_of(rng):
+    """A file's bytes, and the status and the text that are due."""
+    size = rng.choice((0, 1, 2, 3, 5, 9, 40, 300, 2000, 17000, 40000))
+    raws = history(rng, size) if size else []
+    body = struct.pack("<%di" % len(raws), *raws)
+    file = HEAD + body
+    damage = rng.randrange(12)
+    if damage == 0:
+        return file[: rng.randrange(32)], 4, ""
+    if damage == 1:
+        place = rng.choice((0, 1, 2, 3, 4, 5, 6, 7, 28, 29, 30, 31))
+        return file[:place] + bytes([file[place] ^ rng.randrange(1, 256)]) + file[place + 1 :], 4, ""
+    if damage == 2:
+        return file + bytes(rng.randrange(1, 4)), 5, ""
+    return file, 0, table_of(raws)
+
+
+def main():
+    program = os.path.abspath(sys.argv[1])
+    seed = int(sys.argv[2]) if len(sys.argv) > 2 else 1
+    cases = int(sys.argv[3]) if len(sys.argv) > 3 else 300
+    rng = random.Random(seed)
+    passed = failed = 0
+    with tempfile.TemporaryDirectory() as room:
+        path = os.path.join(room, "recording.sgrc")
+        for case in range(cases):
+            file, status, text = case_of(rng)
+            with open(path, "wb") as out:
+                out.write(file)
+            run = subprocess.run([program, "table", path], stdout=subprocess.PIPE, stderr=subprocess.DEVNULL)
+            if (run.returncode, run.stdout) == (status, text.encode()):
+                passed += 1
+            else:
+                failed += 1
+                print("compare: seed %d, case %d: status %d, due %d" % (seed, case, run.returncode, status))
+    print("compare: %d passed, %d failed" % (passed, failed))
+    return 1 if failed else 0
+
+
+if __name__ == "__main__":
+    sys.exit(main())
