@@ -1,0 +1,84 @@
+-- A held line tells its gauge and its number back, and no fault line is one.
+use Rattle.std.proofs.Common.{◌≡◌, ◌≤◌, ◌<◌, ◌^◌, ℕ, List, [], ◌∷◌, ◌++◌, Bool, true, false, get_or, refl, sym, ◌∙◌, ap, subst, arith}
+use Rattle.std.specs.Prelude.{◌&&◌, nat_le, length}
+use Rattle.std.specs.List.{list_all}
+use Rattle.std.specs.Fmt.{decimal}
+use Rattle.site_config.specs.Fields.{is_in_limits, is_name, is_name_byte}
+use Rattle.site_config.specs.declared.limits.TheConstants.{MAX_NAME_BYTES}
+use Rattle.recorded.specs.Recorded.{Recorded}
+use Rattle.held_samples.specs.Told.{held_line, IsBelow}
+use Rattle.std.proofs.lemmas.Bool.Decides.{nat_tests}
+use Rattle.std.proofs.lemmas.Fmt.{decimal_injective}
+use Rattle.held_samples.specs.Going.{AreNames}
+
+and_first : (a b : Bool) → (a && b) ≡ true → a ≡ true
+and_first true b is = refl
+and_first false b is = is
+
+and_second : (a b : Bool) → (a && b) ≡ true → b ≡ true
+and_second true b is = is
+and_second false b is = absurd cc
+
+space_no_letter : is_name_byte 32 ≡ true → ⊥
+space_no_letter is = cc
+
+abbrev pub first : List ℕ → ℕ
+first [] = 0
+first (x ∷ xs) = x
+
+abbrev pub rest : List ℕ → List ℕ
+rest [] = []
+rest (x ∷ xs) = xs
+
+-- letters up to a space
+same_front : (a b m n : List ℕ) → list_all is_name_byte a ≡ true → list_all is_name_byte b ≡ true → a ++ 32 ∷ m ≡ b ++ 32 ∷ n → (a ≡ b) × (m ≡ n)
+same_front [] [] m n la lb is = (refl, ap rest is)
+same_front [] (y ∷ b) m n la lb is = absurd (space_no_letter (subst (λ (c : ℕ). is_name_byte c ≡ true) (sym (ap first is)) (and_first (is_name_byte y) (list_all is_name_byte b) lb)))
+same_front (x ∷ a) [] m n la lb is = absurd (space_no_letter (subst (λ (c : ℕ). is_name_byte c ≡ true) (ap first is) (and_first (is_name_byte x) (list_all is_name_byte a) la)))
+same_front (x ∷ a) (y ∷ b) m n la lb is =
+    let inner = same_front a b m n (and_second (is_name_byte x) (list_all is_name_byte a) la) (and_second (is_name_byte y) (list_all is_name_byte b) lb) (ap rest is) in
+    (ap (λ (c : ℕ). c ∷ a) (ap first is) ∙ ap (λ (l : List ℕ). y ∷ l) inner.0, inner.1)
+
+abbrev pub last : ℕ → List ℕ → List ℕ
+last x [] = []
+last x (y ∷ l) = x ∷ last y l
+
+abbrev pub all_but_last : List ℕ → List ℕ
+all_but_last [] = []
+all_but_last (x ∷ l) = last x l
+
+last_of : (x z : ℕ) (l : List ℕ) → last x (l ++ z ∷ []) ≡ x ∷ l
+last_of x z [] = refl
+last_of x z (y ∷ l) = ap (λ (k : List ℕ). x ∷ k) (last_of y z l)
+
+but_last : (z : ℕ) (l : List ℕ) → all_but_last (l ++ z ∷ []) ≡ l
+but_last z [] = refl
+but_last z (x ∷ l) = last_of x z l
+
+pub line_tells : (a b : List ℕ) (n m : ℕ) → list_all is_name_byte a ≡ true → list_all is_name_byte b ≡ true → n < 2 ^ 64 → m < 2 ^ 64 → held_line a n ≡ held_line b m → (a ≡ b) × (n ≡ m)
+line_tells a b n m la lb nl ml is =
+    let tail : a ++ 32 ∷ (decimal n ++ 10 ∷ []) ≡ b ++ 32 ∷ (decimal m ++ 10 ∷ []) = ap (λ (l : List ℕ). rest (rest (rest (rest (rest l))))) is in
+    let both = same_front a b (decimal n ++ 10 ∷ []) (decimal m ++ 10 ∷ []) la lb tail in
+    (both.0, decimal_injective n m nl ml (sym (but_last 10 (decimal n)) ∙ ap all_but_last both.1 ∙ but_last 10 (decimal m)))
+
+has_letters : (name : List ℕ) → is_name name ≡ true → list_all is_name_byte name ≡ true
+has_letters name is = and_second (is_in_limits 1 MAX_NAME_BYTES (length name)) (list_all is_name_byte name) is
+
+pub is_short : (name : List ℕ) → is_name name ≡ true → length name ≤ MAX_NAME_BYTES
+is_short name is =
+    let within = and_first (is_in_limits 1 MAX_NAME_BYTES (length name)) (list_all is_name_byte name) is in
+    is_le (length name) MAX_NAME_BYTES (and_second (nat_le 1 (length name)) (nat_le (length name) MAX_NAME_BYTES) within)
+  where
+    is_le : (m n : ℕ) → nat_le m n ≡ true → m ≤ n
+    is_le m n e = grind (arith, nat_tests)
+
+-- a held line of a number that is held
+pub held_below : (r : Recorded) → AreNames r.names r.gauges → (held : List ℕ) (g n : ℕ) → g < r.gauges → n < 2 ^ 64 → n ≤ get_or held g 0 → IsBelow r held (held_line (r.names g) n)
+held_below r named held g n lt small le h m hlt msmall is =
+    let same = line_tells (r.names g) (r.names h) n m (has_letters (r.names g) (named.letters g lt)) (has_letters (r.names h) (named.letters h hlt)) small msmall is in
+    let gauge : g ≡ h = named.differ g h lt hlt same.0 in
+    omega (arith, same.1, le, ap (λ (i : ℕ). get_or held i 0) gauge)
+
+-- a line that begins otherwise acknowledges nothing
+pub other_below : (r : Recorded) (held line : List ℕ) → (first line ≡ 104 → ⊥) → IsBelow r held line
+other_below r held line differs g n lt small is = absurd (differs (ap first is))

@@ -1,0 +1,3 @@
+pub mod Told
+pub mod Going
+pub mod Fronts

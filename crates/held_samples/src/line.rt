@@ -1,0 +1,40 @@
+ghost use Rattle.std.specs.Prelude.{◌≡◌, ◌≤◌, length};
+ghost use Rattle.site_config.specs.declared.limits.TheConstants.{MAX_NAME_BYTES};
+ghost use Rattle.held_samples.specs.Told.{held_line};
+ghost use Rattle.held_samples.specs.declared.line.TheConstants.{MAX_LINE_BYTES};
+
+use crate::OutOfMemory;
+use line_room::LineRoom;
+use std::alloc::Global;
+
+// The most bytes of a line: two words, the longest name, and a number of 20 digits.
+const MAX_LINE_BYTES: usize = 59;
+
+/// Room for one line that acknowledges, 59 bytes.
+#[derive(Debug, Drop)]
+pub struct HeldLine {
+    line: LineRoom,
+    ghost room: { line.room ≡ MAX_LINE_BYTES },
+}
+
+impl HeldLine {
+    pub fn new(alloc: Global) -> Result<HeldLine, OutOfMemory> {
+        Ok(HeldLine {
+            line: LineRoom::new(alloc, MAX_LINE_BYTES)?,
+        })
+    }
+
+    /// The line that says that the first `n` samples of a gauge are held. It takes no memory.
+    pub fn held(&mut self, name: &str, n: u64) -> &[u8]
+        requires short { length name.now ≤ MAX_NAME_BYTES }
+        ensures { result.now ≡ held_line name.now n }
+    {
+        self.line.clear();
+        self.line.push(b"held ");
+        self.line.push(name.as_bytes());
+        self.line.push(b" ");
+        self.line.push_number(n);
+        self.line.push(b"\n");
+        self.line.bytes()
+    }
+}
