@@ -1,8 +1,9 @@
 -- A text that is printed piece by piece.
-use Rattle.std.proofs.Common.{◌≡◌, ◌≤◌, ℕ, ◌+◌, List, [], ◌∷◌, ◌++◌, length, take, drop, min, refl, sym, ap, ◌∙◌, arith, append_assoc}
+use Rattle.std.proofs.Common.{◌≡◌, ◌<◌, ◌≤◌, ℕ, zero, suc, ◌+◌, ◌-◌, List, [], ◌∷◌, ◌++◌, length, take, drop, min, refl, sym, ap, ◌∙◌, arith, append_assoc}
 use Rattle.std.proofs.lemmas.List.{append-nil, take-append-le, take_min}
 use Rattle.std.proofs.Math.Seq.{take-append-add}
 use Rattle.outside.specs.Sink.{AppendsPrefix}
+use Rattle.report.specs.Lines.{lines_from}
 use Rattle.site_report.specs.Report.{IsPrinted}
 
 pub printing_starts : (old whole : List ℕ) → IsPrinted old old whole whole
@@ -27,3 +28,10 @@ printed_front old now new whole piece rest p (j, is) =
         ap (take (length p.front + few)) p.all ∙ (take-append-add p.front (piece ++ rest) few
         ∙ ap (λ l. p.front ++ l) (take-append-le few piece rest (omega arith) ∙ take_min j piece)) in
     (length p.front + few, is ∙ (ap (λ l. l ++ take j piece) p.written ∙ (append_assoc old p.front (take j piece) ∙ ap (λ l. old ++ l) (sym cut))))
+
+-- the next of some lines
+pub lines_next : (f : ℕ → List ℕ) (k n : ℕ) → k < n → lines_from f k (n - k) ≡ f k ++ lines_from f (k + 1) (n - (k + 1))
+lines_next f k n lt = ap (lines_from f k) (omega (arith, lt))
+
+pub lines_none : (f : ℕ → List ℕ) (k n : ℕ) → n ≤ k → lines_from f k (n - k) ≡ []
+lines_none f k n le = ap (lines_from f k) (omega (arith, le))
