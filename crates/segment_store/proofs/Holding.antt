@@ -12,6 +12,8 @@ use Rattle.segment.specs.Parts.{parts_of}
 use Rattle.segment.specs.Joining.{Answers}
 use Rattle.segment.specs.declared.segment.join.JoinRefusal.{JoinRefusal}
 use Rattle.segment.specs.declared.segment.join.JoinRefusal.TheVariants.{OtherGauge, NotNext}
+use Rattle.segment_store.specs.declared.putting.State.{State}
+use Rattle.segment_store.specs.Keeping.{IsKept}
 use Rattle.segment_store.specs.Held.{Joined, IsHeld, none, other, joined, AreHeld, ends_of}
 
 pub ends-long : (held : List SegmentValue) → length (ends_of held) ≡ length held
@@ -109,3 +111,7 @@ pub ends-more : (held : List SegmentValue) (v : SegmentValue) (g : ℕ) → v.to
     → ends_of (held ++ v ∷ []) ≡ replicate (g + 1) 0
 ends-more held v g to e = map-append (λ (x : SegmentValue). x.to) held (v ∷ []) ∙ ap (λ (l : List ℕ). l ++ v.to ∷ []) e
     ∙ ap (λ n. replicate g 0 ++ n ∷ []) to ∙ replicate-append-replicate g 1 0
+
+-- of a store's gauges
+pub kept_is : (s : State) → IsKept s → (g : ℕ) (v : SegmentValue) → g < length s.held → v ≡ get_or s.held g v → IsOf s.head.setup.grid g v
+kept_is s k g v lt is = subst (IsOf s.head.setup.grid g) (sym is) (held_is s.head.setup.grid g k.joined.0 (get_or s.held g v) (k.joined.1 g v lt))

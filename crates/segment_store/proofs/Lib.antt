@@ -3,6 +3,9 @@ pub mod Begun
 pub mod Bodies
 pub mod Found
 pub mod Holding
+pub mod Empty
+pub mod HeldStand
+pub mod HeldKeep
 pub mod Nearness
 pub mod Passing
 pub mod Quiet

@@ -12,8 +12,9 @@ use Rattle.segment.specs.Segment.{SegmentValue, IsSegment, SameStart, AddsReadin
 use Rattle.segment.specs.Figures.{SameKept}
 use Rattle.segment.specs.Parts.{parts_of}
 
--- what joining promises
+-- what joining a part that comes next promises
 pub record Joined (v right w : SegmentValue) : Type 0 where
+  pub next : right.from ≡ v.to
   pub start : SameStart v w
   pub end : w.to ≡ right.to
   pub readings : AddsReadings v right w

@@ -3,6 +3,7 @@ pub mod Held
 pub mod Holds
 pub mod Image
 pub mod Keeping
+pub mod Keeps
 pub mod Moments
 pub mod Opening
 pub mod Places

@@ -164,6 +164,9 @@ impl Store {
     pub fn held(&self, gauge: u16) -> &Segment
         requires { gauge < length self.now.held }
         ensures held { (d : SegmentValue) → result.now ≡ slice_index_or self.now.held gauge d }
+        ensures gauge { result.now.gauge ≡ gauge }
+        ensures grid { result.now.grid ≡ self.now.head.setup.grid }
+        ensures start { result.now.from ≡ 0 }
         ensures end { result.now.to ≡ slice_index (ends_of self.now.held) gauge }
     {
         self.state.held.get(gauge)
