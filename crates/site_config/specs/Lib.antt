@@ -1,4 +1,5 @@
 pub mod Keys
+pub mod FaultText
 pub mod Fields
 pub mod Configuration
 pub mod Valid

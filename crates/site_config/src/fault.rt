@@ -1,5 +1,6 @@
-ghost use Rattle.std.specs.Prelude.{◌≡◌};
-ghost use Rattle.site_config.specs.Keys.{part_text, name_text};
+ghost use Rattle.std.specs.Prelude.{◌≡◌, Some};
+ghost use Rattle.site_config.specs.Keys.{part_text, name_text, has_index, key_text};
+ghost use Rattle.site_config.specs.FaultText.{fault_words, config_fault_text};
 ghost use Rattle.site_config.specs.declared.fault.ConfigFault.TheVariants.{OutOfMemory};
 
 use std::alloc::{AllocError, AllocFailed};
@@ -120,10 +121,39 @@ impl KeyName {
     }
 }
 
+impl Key {
+    /// Whether the part is one of several, and is told with its index.
+    pub fn has_index(&self) -> bool
+        ensures { result ≡ has_index self.now.part }
+    {
+        matches!(self.part, Part::Gauge | Part::Detail)
+    }
+}
+
+impl ConfigFault {
+    /// What is wrong, without the place.
+    pub fn words(&self) -> &'static str
+        ensures { result.now ≡ fault_words self.now }
+    {
+        match self {
+            ConfigFault::NotToml => "not TOML",
+            ConfigFault::Missing(_) => "missing",
+            ConfigFault::Kind(_) => "wrong kind",
+            ConfigFault::Limit(_) => "out of range",
+            ConfigFault::Double { .. } => "double",
+            ConfigFault::NoSuchGauge { .. } => "no such gauge",
+            ConfigFault::TooLong => "too long",
+            ConfigFault::OutOfMemory => "out of memory",
+        }
+    }
+}
+
 impl fmt::Display for Key {
+    ghost output = { λ key. Some (key_text key) };
+
     fn fmt<W: fmt::Write>(&self, f: &mut fmt::Formatter<W>) -> fmt::Result {
         f.write_str(self.part.as_str())?;
-        if matches!(self.part, Part::Gauge | Part::Detail) {
+        if self.has_index() {
             write!(f, " {}", self.index)?;
         }
         match self.name {
@@ -134,20 +164,21 @@ impl fmt::Display for Key {
 }
 
 impl fmt::Display for ConfigFault {
+    ghost output = { λ fault. Some (config_fault_text fault) };
+
     fn fmt<W: fmt::Write>(&self, f: &mut fmt::Formatter<W>) -> fmt::Result {
+        f.write_str(self.words())?;
         match self {
-            ConfigFault::NotToml => f.write_str("not TOML"),
-            ConfigFault::Missing(key) => write!(f, "missing {key}"),
-            ConfigFault::Kind(key) => write!(f, "wrong kind {key}"),
-            ConfigFault::Limit(key) => write!(f, "out of range {key}"),
+            ConfigFault::Missing(key) | ConfigFault::Kind(key) | ConfigFault::Limit(key) => {
+                write!(f, " {key}")
+            }
             ConfigFault::Double {
                 part,
                 first,
                 second,
-            } => write!(f, "double {} {first} {second}", part.as_str()),
-            ConfigFault::NoSuchGauge { detail } => write!(f, "no such gauge, detail {detail}"),
-            ConfigFault::TooLong => f.write_str("too long"),
-            ConfigFault::OutOfMemory => f.write_str("out of memory"),
+            } => write!(f, " {} {first} {second}", part.as_str()),
+            ConfigFault::NoSuchGauge { detail } => write!(f, ", detail {detail}"),
+            _ => Ok(()),
         }
     }
 }

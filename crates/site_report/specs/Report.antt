@@ -9,7 +9,7 @@ use Rattle.exact_frac.specs.declared.frac.Frac.{Frac}
 use Rattle.report.specs.Figures.{Figures, Agree, figures_of}
 use Rattle.report.specs.Lines.{lines_from}
 use Rattle.report.specs.Texts.{gauge_text, detail_text}
-use Rattle.segment.specs.Segment.{SegmentValue}
+use Rattle.segment.specs.Segment.{SegmentValue, IsSegment}
 use Rattle.site_config.specs.declared.config.Config.{Config}
 use Rattle.site_config.specs.declared.config.NamedDetail.{NamedDetail}
 use Rattle.site_config.specs.Valid.{name_of}
@@ -35,7 +35,7 @@ pub record IsReport (c : Config) (figures : ℕ → Figures) (text : List ℕ) :
   pub is_text : text ≡ gauge_lines c figures ++ detail_lines c c.details damages
 
 abbrev pub Agrees : Config → List SegmentValue → (ℕ → Figures) → Type 0
-Agrees c held figures = (g : ℕ) (v : SegmentValue) → g < length held
+Agrees c held figures = (g : ℕ) (v : SegmentValue) → g < length held → IsSegment (slice_index_or held g v)
     → Agree c.setup.grid (figures_of (slice_index_or held g v)) (figures g)
 
 pub record IsPrinted (old now whole rest : List ℕ) : Type 0 where

@@ -1,0 +1,52 @@
+ghost use Rattle.std.specs.Prelude.{◌≡◌, ◌≤◌, ◌<◌, ◌^◌, length, IfOk};
+ghost use Rattle.fault_lines.specs.FaultLine.{fault_line};
+
+use crate::text::push_status;
+use line_room::LineRoom;
+use status::Status;
+use std::alloc::{AllocError, Global};
+use std::marker::Model;
+
+/// The bytes that a line has beside the name, at most.
+pub const MAX_BYTES_BESIDE_NAME: usize = 320;
+
+/// Room for the line of a status with a name of at most so many bytes.
+#[derive(Debug, Drop)]
+pub struct FaultLine {
+    name_bytes: usize,
+    line: LineRoom,
+}
+
+impl Model for FaultLine {
+    ghost use Rattle.std.specs.Prelude.{◌≡◌, ◌+◌, ℕ};
+    ghost use Rattle.fault_lines.specs.declared.line.TheConstants.{MAX_BYTES_BESIDE_NAME};
+
+    ghost Value = { ℕ };
+
+    ghost view = { λ l. l.name_bytes };
+
+    ghost invariant = { λ l. l.line.room ≡ MAX_BYTES_BESIDE_NAME + l.name_bytes };
+}
+
+impl FaultLine {
+    /// Takes the room.
+    pub fn new(alloc: Global, name_bytes: usize) -> Result<FaultLine, AllocError>
+        requires { name_bytes < 2 ^ 63 }
+        ensures { IfOk result (λ line. line ≡ name_bytes) }
+    {
+        Ok(FaultLine {
+            name_bytes,
+            line: LineRoom::new(alloc, MAX_BYTES_BESIDE_NAME + name_bytes)?,
+        })
+    }
+
+    /// The line of a status. It takes no memory.
+    pub fn line(&mut self, status: Status, name: &str) -> &[u8]
+        requires { length name.now ≤ self.old }
+        ensures { result.now ≡ fault_line status name.now }
+    {
+        self.line.clear();
+        push_status(&mut self.line, status, name.as_bytes());
+        self.line.bytes()
+    }
+}
