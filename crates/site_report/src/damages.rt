@@ -13,7 +13,7 @@ ghost use Rattle.std.specs.Prelude.{
 ghost use Rattle.calibration.specs.declared.grid.TheConstants.{MAX_CLASSES};
 ghost use Rattle.miner.specs.declared.TheConstants.{MAX_HALF_CYCLES};
 ghost use Rattle.report.specs.Figures.{Figures, Agree, figures_of};
-ghost use Rattle.segment_store.specs.Held.{ends_of};
+ghost use Rattle.segment.specs.Segment.{IsSegment};
 ghost use Rattle.site_config.specs.Valid.{IsConfig};
 ghost use Rattle.site_report.specs.Damages.{IsDamageOf, AreDamages, AreHalves};
 ghost use Rattle.site_report.specs.Report.{Agrees};
@@ -51,6 +51,7 @@ fn damage_by(detail: &Detail, seg: &Segment) -> Frac
     ensures damage { (figures : Figures) → Agree seg.now.grid (figures_of seg.now) figures →
         IsDamageOf seg.now.grid detail.now figures.half_units result }
     ensures few { result.whole ≤ MAX_HALF_CYCLES }
+    ensures rules { IsSegment seg.now }
 {
     let grid = seg.grid();
     let mut places = [0; PLACES];

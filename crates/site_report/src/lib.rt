@@ -7,9 +7,9 @@
 
 mod damages;
 mod printing;
-mod report;
+mod whole;
 
-pub use report::Report;
+pub use whole::Report;
 
 #[cfg(test)]
 mod tests;

@@ -2,13 +2,16 @@ ghost use Rattle.std.specs.Prelude.{◌≡◌, ◌<◌, ◌≤◌, ◌++◌, ℕ
 ghost use Rattle.outside.specs.Fault.{HasCause};
 ghost use Rattle.outside.specs.Sink.{AppendsPrefix};
 ghost use Rattle.miner.specs.declared.TheConstants.{MAX_HALF_CYCLES};
-ghost use Rattle.report.specs.Figures.{Figures};
+ghost use Rattle.report.specs.Figures.{Agree, Figures, figures_of};
+ghost use Rattle.report.specs.Texts as texts;
+ghost use Rattle.segment.specs.Segment.{IsSegment};
 ghost use Rattle.site_config.specs.Valid.{IsConfig};
 ghost use Rattle.site_report.specs.Report.{Agrees, gauge_lines, detail_lines};
 
 use exact_frac::Frac;
 use outside::{Failed, Sink};
 use report::{Page, detail_text, gauge_text};
+use segment::Segment;
 use segment_store::Store;
 use site_config::Config;
 
@@ -33,10 +36,35 @@ pub fn print_gauges<O: Sink>(
 {
     for gauge in 0..conf.gauges.as_slice().len() {
         let name = conf.gauges.as_slice()[gauge].name.as_str();
-        gauge_text(page, name, store.held(gauge as u16));
-        out.put(page.bytes())?;
+        print_gauge(name, store.held(gauge as u16), page, out)?;
     }
     Ok(())
+}
+
+// Prints the text of a gauge by its segment.
+fn print_gauge<O: Sink>(
+    name: &str,
+    seg: &Segment,
+    page: &mut Page,
+    out: &mut O,
+) -> Result<(), Failed>
+    requires name { length name.now ≤ 32 }
+    requires classes { seg.now.grid.classes ≤ page.old.classes }
+    ensures ok { O.tells → (figures : Figures) → Agree seg.now.grid (figures_of seg.now) figures →
+        OnOk result (O.written out.new ≡
+        O.written out.old ++ texts.gauge_text seg.now.grid name.now figures) }
+    ensures failed { O.tells → (figures : Figures) →
+        Agree seg.now.grid (figures_of seg.now) figures →
+        OnErr result (AppendsPrefix (O.written out.old) (O.written out.new)
+        (texts.gauge_text seg.now.grid name.now figures)) }
+    ensures cause { HasCause (O.faults out.old) (O.faults out.new) result }
+    ensures classes { page.new.classes ≡ page.old.classes }
+    ensures rules { IsSegment seg.now }
+{
+    // What a segment keeps: its rules.
+    let _grid = seg.grid();
+    gauge_text(page, name, seg);
+    out.put(page.bytes())
 }
 
 /// Prints the line of each detail, whose damages are in order.
@@ -57,7 +85,7 @@ pub fn print_details<O: Sink>(
 {
     for i in 0..damages.len() {
         let detail = &conf.details.as_slice()[i];
-        let gauge = conf.gauges.as_slice()[detail.gauge as usize].name.as_str();
+        let gauge = conf.gauges.as_slice()[usize::from(detail.gauge)].name.as_str();
         detail_text(page, detail.name.as_str(), gauge, &damages[i]);
         out.put(page.bytes())?;
     }
