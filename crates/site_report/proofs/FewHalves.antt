@@ -43,7 +43,7 @@ at_most false h = omega arith
 
 sum_none : (a n : ℕ) → sum_from (λ k. 0) a n ≡ 0
 sum_none a zero = refl
-sum_none a (suc n) = sum_none (a + 1) n
+sum_none a (suc n) = omega (arith, sum_none (a + 1) n)
 
 -- the sum of a list by its places
 list_sum : (xs : List ℕ) (f : ℕ → ℕ) (a : ℕ) → ((i : ℕ) → i < length xs → get_or xs i 0 ≤ f (a + i)) → sum xs ≤ sum_from f a (length xs)
@@ -151,11 +151,13 @@ module _ (v : SegmentValue) (i : IsSegment v) (halves : List ℕ) (places : leng
       → ((k : ℕ) → 1 ≤ k → k < v.grid.classes → slice_index halves k ≡ sum_at_range (halves_of v) k (v.grid.classes - k))
       → sum halves ≤ 2 ^ 42
   halves_few none each =
-      let at : (k : ℕ) → k < length halves → get_or halves k 0 ≤ parts (0 + k) = λ k inside. at_place k (omega (arith, inside, places)) in
+      let at : (k : ℕ) → k < length halves → get_or halves k 0 ≤ parts (0 + k) = λ k inside. there k (omega (arith, inside, places)) in
       let all = list_sum halves parts 0 at in
       let span = i.span in
       omega (arith, all, parts_few, i.used, i.readings, span)
     where
-      at_place : (k : ℕ) → k < v.grid.classes → get_or halves k 0 ≤ parts (0 + k)
+      there : (k : ℕ) → k < v.grid.classes → get_or halves k 0 ≤ parts (0 + k)
+      there k inside = let e : k ≡ 0 + k = omega arith in subst (λ m. get_or halves k 0 ≤ parts m) e (at_place k inside)
+      at_place : (k : ℕ) → k < v.grid.classes → get_or halves k 0 ≤ parts k
       at_place zero inside = omega (arith, none)
       at_place (suc k) inside = omega (arith, each (suc k) (omega arith) inside, by_parts (suc k) inside)

@@ -36,10 +36,10 @@ printed_front old now new whole piece rest p (j, is) =
 
 -- the next of some lines
 pub lines_next : (f : ℕ → List ℕ) (k n : ℕ) → k < n → lines_from f k (n - k) ≡ f k ++ lines_from f (k + 1) (n - (k + 1))
-lines_next f k n lt = ap (lines_from f k) (omega (arith, lt))
+lines_next f k n lt = let e : n - k ≡ suc (n - (k + 1)) = omega (arith, lt) in ap (λ m. lines_from f k m) e
 
 pub lines_none : (f : ℕ → List ℕ) (k n : ℕ) → n ≤ k → lines_from f k (n - k) ≡ []
-lines_none f k n le = ap (lines_from f k) (omega (arith, le))
+lines_none f k n le = let e : n - k ≡ 0 = omega (arith, le) in ap (λ m. lines_from f k m) e
 
 pub short_name : (name : List ℕ) → is_name name ≡ true → length name ≤ 32
 short_name name is = grind (arith, nat_tests, is)
