@@ -1,4 +1,4 @@
-ghost use Rattle.std.specs.Prelude.{◌≡◌, ◌≤◌, ◌<◌, ◌^◌, length, IfOk};
+ghost use Rattle.std.specs.Prelude.{◌≡◌, ◌≤◌, ◌<◌, ◌^◌, [], length, IfOk};
 ghost use Rattle.fault_lines.specs.FaultLine.{fault_line};
 
 use crate::text::push_status;
@@ -18,21 +18,22 @@ pub struct FaultLine {
 }
 
 impl Model for FaultLine {
-    ghost use Rattle.std.specs.Prelude.{◌≡◌, ◌+◌, ℕ};
+    ghost use Rattle.std.specs.Prelude.{◌≡◌, ◌+◌};
+    ghost use Rattle.fault_lines.specs.Room.{FaultLineValue};
     ghost use Rattle.fault_lines.specs.declared.line.TheConstants.{MAX_BYTES_BESIDE_NAME};
 
-    ghost Value = { ℕ };
+    ghost Value = { FaultLineValue };
 
-    ghost view = { λ l. l.name_bytes };
+    ghost view = { λ l. record { name_bytes = l.name_bytes; bytes = l.line.bytes } };
 
     ghost invariant = { λ l. l.line.room ≡ MAX_BYTES_BESIDE_NAME + l.name_bytes };
 }
 
 impl FaultLine {
-    /// Takes the room.
+    /// Takes the room. Nothing is written.
     pub fn new(alloc: Global, name_bytes: usize) -> Result<FaultLine, AllocError>
         requires { name_bytes < 2 ^ 63 }
-        ensures { IfOk result (λ line. line ≡ name_bytes) }
+        ensures { IfOk result (λ line. line ≡ record { name_bytes = name_bytes; bytes = [] }) }
     {
         Ok(FaultLine {
             name_bytes,
@@ -40,13 +41,19 @@ impl FaultLine {
         })
     }
 
-    /// The line of a status. It takes no memory.
-    pub fn line(&mut self, status: Status, name: &str) -> &[u8]
-        requires { length name.now ≤ self.old }
-        ensures { result.now ≡ fault_line status name.now }
+    /// Writes the line of a status. It takes no memory.
+    pub fn write(&mut self, status: Status, name: &str)
+        requires { length name.now ≤ self.old.name_bytes }
+        ensures { self.new ≡ record self.old { bytes = fault_line status name.now } }
     {
         self.line.clear();
         push_status(&mut self.line, status, name.as_bytes());
+    }
+
+    /// The line that was written last.
+    pub fn bytes(&self) -> &[u8]
+        ensures { result.now ≡ self.now.bytes }
+    {
         self.line.bytes()
     }
 }

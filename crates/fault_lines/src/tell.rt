@@ -11,7 +11,7 @@ use status::Status;
 /// Tells the line of a status, if it is not `Done`. Where the station fails the line was told or
 /// was not.
 pub fn tell_fault<K: Station>(station: &mut K, line: &mut FaultLine, status: Status, name: &str)
-    requires { length name.now ≤ line.old }
+    requires { length name.now ≤ line.old.name_bytes }
     ensures tells { K.tells → TellsAtMost (fault_line status name.now)
         (K.clock station.old) (K.moments station.old) (K.clock station.new) (K.moments station.new)
         (K.told station.old) (K.told station.new) (K.seen station.old) (K.seen station.new)
@@ -20,9 +20,11 @@ pub fn tell_fault<K: Station>(station: &mut K, line: &mut FaultLine, status: Sta
     ensures last { K.tells → status ≢ Status.Done → Rose (K.faults station.old) (K.faults station.new) ⊎
         (K.told station.new ≡ K.told station.old ++ fault_line status name.now ∷ []) }
     ensures later { K.faults station.old ≤ K.faults station.new }
+    ensures room { line.new.name_bytes ≡ line.old.name_bytes }
 {
     if !matches!(status, Status::Done) {
-        tell_line(station, line.line(status, name));
+        line.write(status, name);
+        tell_line(station, line.bytes());
     }
 }
 

@@ -42,7 +42,8 @@ fn first_other(alloc: Global, rows: &[(Status, &str)]) -> Result<Option<usize>, 
     for row in 0..rows.len() {
         let (status, text) = rows[row];
         let told = format!(in alloc; "{text}\n")?;
-        if line.line(status, "G1") != told.as_bytes() {
+        line.write(status, "G1");
+        if line.bytes() != told.as_bytes() {
             return Ok(Some(row));
         }
     }

@@ -73,6 +73,11 @@ pub fn init<K: Station>(alloc: Global, station: &mut K, head: &StoreHead) -> Res
         (K.moments station.old) (K.clock station.new) (K.moments station.new)
         (K.told station.old) (K.told station.new) (K.seen station.old) (K.seen station.new)
         (K.leaves station.old) (K.leaves station.new)) }
+    // Over a station that is not empty nothing changes, whatever is answered.
+    ensures quiet { K.tells → 0 < length (K.seen station.old) → IsQuiet (K.clock station.old)
+        (K.moments station.old) (K.clock station.new) (K.moments station.new)
+        (K.told station.old) (K.told station.new) (K.seen station.old) (K.seen station.new)
+        (K.leaves station.old) (K.leaves station.new) }
     ensures told { K.tells → K.told station.new ≡ K.told station.old }
     ensures disk { InitRose (K.faults station.old) (K.faults station.new) result }
     ensures later { K.faults station.old ≤ K.faults station.new }
