@@ -1,0 +1,5 @@
+pub mod AfterRound
+pub mod AllLanes
+mod Opened
+pub mod Places
+mod Rising

@@ -1,0 +1,25 @@
+use Rattle.std.proofs.Common.{◌≢◌, ℕ, length, refl, ◌∙◌, arith}
+use Rattle.lane_loans.specs.declared.lane.Lane.{Lane}
+use Rattle.lane_ends.specs.declared.end.End.TheVariants.{ReadFault}
+use Rattle.site_lanes.proofs.Places.{each_more, each_before}
+use Rattle.site_lanes.proofs.Rising.{rose_more, rose_before}
+use Rattle.site_lanes.specs.Lanes.{HasSource, IsFaulty}
+use Rattle.site_lanes.proofs.ending.give_back.Goals as goal
+
+pub loop-preserved : goal.loop-preserved
+loop-preserved g c =
+    let was = c.loop.invariant in
+    let t = g.T.Site in
+    let old = c.loop.lanes.items in
+    let fewer = c.pop.new.self.items in
+    let is = c.in-Some.ensures.items in
+    record {
+      out = omega (arith, was.out, c.give_back_one.ensures.back, c.in-Some.ensures.cases);
+      sources = each_before (λ (x : Lane g.row.T-Src.Denot). HasSource x) fewer old c.in-Some.lane is was.sources;
+      faulty = each_before (λ (x : Lane g.row.T-Src.Denot). IsFaulty g.T.Src.Source.faults x) fewer old c.in-Some.lane is was.faulty;
+      files = λ shows. c.give_back_one.ensures.files shows ∙ was.files shows;
+      left = omega (arith, was.left, c.in-Some.ensures.cases);
+      fault = λ none whole. was.fault (λ rose. none (rose_more _ _ _ rose c.give_back_one.ensures.later))
+          (each_more (λ (k : ℕ) (x : Lane g.row.T-Src.Denot). x.end ≢ ReadFault) fewer old c.in-Some.lane (length fewer) is refl whole (λ e. none (rose_before _ _ _ was.later (c.give_back_one.ensures.fault e))));
+      later = omega (arith, was.later, c.give_back_one.ensures.later);
+    }

@@ -1,0 +1,18 @@
+use Rattle.std.specs.List.{All}
+use Rattle.std.proofs.Common.{◌≡◌, ◌≤◌, ◌+◌, vec_len}
+use Rattle.outside.specs.Fault.{Rose}
+use Rattle.site_lanes.specs.Lanes.{HasSource, IsFaulty, HasNotFailed}
+use Rattle.site_lanes.proofs.ending.give_back.Given as goal
+
+abbrev pub invariant-loop : goal.invariant-loop
+invariant-loop g l =
+    let t = g.T.Site in
+    record {
+      out : t.out l.site ≡ vec_len l.lanes;
+      sources : All HasSource l.lanes.items;
+      faulty : All (IsFaulty g.T.Src.Source.faults) l.lanes.items;
+      files : t.tells → t.files l.site ≡ t.files l.fn.site;
+      left : l.counter + vec_len l.lanes ≡ vec_len l.fn.lanes;
+      fault : (Rose (t.faults l.fn.site) (t.faults l.site) → ⊥) → All HasNotFailed l.lanes.items → All HasNotFailed l.fn.lanes.items;
+      later : t.faults l.fn.site ≤ t.faults l.site;
+    }

@@ -1,0 +1,4 @@
+pub mod Opening
+pub mod Answers
+pub mod Lanes
+pub mod Ending

@@ -1,0 +1,132 @@
+ghost use Rattle.std.specs.Prelude.{
+  ◌≡◌,
+  ◌≤◌,
+  ◌<◌,
+  ◌+◌,
+  length,
+  vec_len,
+  vec_capacity,
+  slice_index,
+  IfOk,
+  IfErr,
+  OnOk,
+  OnErr,
+  Err,
+};
+ghost use Rattle.std.specs.List.{All};
+ghost use Rattle.outside.specs.Fault.{Rose};
+ghost use Rattle.lane_loans.specs.Lent.{CanRound};
+ghost use Rattle.segment_store.specs.Held.{ends_of};
+ghost use Rattle.site_config.specs.Valid.{IsConfig};
+ghost use Rattle.recorded.specs.Recorded.{recorded};
+ghost use Rattle.site_lanes.specs.Lanes.{IsLane, AreLanes, AreHeldTo, HasSource, IsNew};
+ghost use Rattle.site_lanes.specs.Answers.{IsOpening, GaugeAnswers, OpenAnswers};
+ghost use Rattle.site_lanes.specs.Opening.{status_of};
+ghost use Rattle.status.specs.declared.status.Status.TheVariants.{ReadFault};
+
+use crate::opening::{OpenFault, open_recording};
+use count_workers::{End, Lane};
+use outside::Site;
+use segment_store::Store;
+use site_config::Config;
+use status::Status;
+
+fn status_of(gauge: u16, fault: OpenFault) -> Status
+    ensures { result ≡ status_of gauge fault }
+{
+    match fault {
+        OpenFault::Recording(fault) => Status::Recording { gauge, fault },
+        OpenFault::ReadFault => Status::ReadFault,
+    }
+}
+
+// Opens the recording of a gauge behind what is held of it. Where it refuses, its source goes back.
+fn open_lane<T: Site>(
+    conf: &Config,
+    store: &Store,
+    gauge: u16,
+    site: &mut T,
+) -> Result<Lane<T::Src>, Status>
+    requires conf { IsConfig conf.now }
+    requires known { gauge < length conf.now.gauges }
+    requires held { length store.now.held ≡ length conf.now.gauges }
+    requires heads { length store.now.head.heads ≡ length conf.now.gauges }
+    requires few { T.out site.old < 64 }
+    ensures lane { T.tells → IfOk result (IsLane T.Src.tells T.Src.left
+        (recorded conf.now (T.files site.old)) gauge) }
+    ensures held { IfOk result (λ l. CanRound gauge l
+        × (slice_index (ends_of store.now.held) gauge ≡ l.at)) }
+    ensures source { IfOk result HasSource }
+    ensures new { IfOk result IsNew }
+    ensures source_tells { T.tells → OnOk result T.Src.tells }
+    ensures answer { T.tells → GaugeAnswers conf.now store.now.head.heads
+        (slice_index (ends_of store.now.held)) (T.files site.old) gauge result }
+    ensures opening { IfErr result IsOpening }
+    ensures one_more { OnOk result (T.out site.new ≡ T.out site.old + 1) }
+    ensures no_more { OnErr result (T.out site.new ≡ T.out site.old) }
+    ensures files { T.tells → T.files site.new ≡ T.files site.old }
+    ensures cause { result ≡ Err ReadFault → Rose (T.faults site.old) (T.faults site.new) }
+    ensures later { T.faults site.old ≤ T.faults site.new }
+{
+    let name = conf.gauges.as_slice()[gauge as usize].file.as_str();
+    let mut src = match site.fetch(name) {
+        Ok(src) => src,
+        Err(_) => return Err(Status::ReadFault),
+    };
+    let held = store.held(gauge).name().to;
+    match open_recording(
+        &mut src,
+        &store.head().heads.as_slice()[gauge as usize],
+        held,
+    ) {
+        Ok(()) => Ok(Lane {
+            gauge,
+            gain: conf.setup.gains.as_slice()[gauge as usize],
+            at: held,
+            end: End::More,
+            src: Some(src),
+        }),
+        Err(fault) => {
+            site.give_back(src);
+            Err(status_of(gauge, fault))
+        }
+    }
+}
+
+/// Puts a lane for each gauge into `lanes`, behind what is held of it. Where it refuses, the lanes
+/// that were opened before are left in `lanes`, so that the caller gives them back.
+pub fn open_lanes<T: Site>(
+    conf: &Config,
+    store: &Store,
+    site: &mut T,
+    lanes: &mut Vec<Lane<T::Src>>,
+) -> Result<(), Status>
+    requires conf { IsConfig conf.now }
+    requires held { length store.now.held ≡ length conf.now.gauges }
+    requires heads { length store.now.head.heads ≡ length conf.now.gauges }
+    requires home { T.out site.old ≡ 0 }
+    requires none { vec_len lanes.old ≡ 0 }
+    requires room { length conf.now.gauges ≤ vec_capacity lanes.old }
+    ensures all { OnOk result (vec_len lanes.new ≡ length conf.now.gauges) }
+    ensures lanes { T.tells → AreLanes T.Src.tells T.Src.left
+        (recorded conf.now (T.files site.old)) lanes.new.items }
+    ensures held { AreHeldTo (ends_of store.now.held) lanes.new.items }
+    ensures sources { All HasSource lanes.new.items }
+    ensures new { All IsNew lanes.new.items }
+    ensures source_tells { T.tells → OnOk result T.Src.tells }
+    ensures answer { T.tells → OpenAnswers conf.now store.now.head.heads
+        (slice_index (ends_of store.now.held)) (T.files site.old) result }
+    ensures opening { IfErr result IsOpening }
+    ensures out { T.out site.new ≡ vec_len lanes.new }
+    ensures files { T.tells → T.files site.new ≡ T.files site.old }
+    ensures cause { result ≡ Err ReadFault → Rose (T.faults site.old) (T.faults site.new) }
+    ensures later { T.faults site.old ≤ T.faults site.new }
+{
+    for gauge in 0..conf.gauges.as_slice().len() {
+        match open_lane(conf, store, gauge as u16, site) {
+            Ok(lane) => lanes.push_reserved(lane),
+            Err(status) => return Err(status),
+        }
+    }
+    Ok(())
+}

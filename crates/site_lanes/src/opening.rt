@@ -1,0 +1,66 @@
+ghost use Rattle.std.specs.Prelude.{◌≡◌, ◌≤◌, Some, Err, OnOk};
+ghost use Rattle.outside.specs.Fault.{Rose};
+ghost use Rattle.recorded.specs.Recorded.{body_in};
+ghost use Rattle.site_lanes.specs.Opening.{fault_of, open_fault, Judged, IsBehind};
+ghost use Rattle.site_lanes.specs.declared.opening.OpenFault.TheVariants.{ReadFault};
+
+use outside::Source;
+use recording::{FillEnd, Head, HeadFault, read_head, skip};
+use status::RecordingFault;
+
+/// Why a recording can't be counted.
+#[derive(Clone, Copy, Debug, PartialEq, Eq)]
+pub enum OpenFault {
+    /// It is refused.
+    Recording(RecordingFault),
+    /// A read failed.
+    ReadFault,
+}
+
+fn open_fault(fault: HeadFault) -> OpenFault
+    ensures { result ≡ open_fault fault }
+{
+    match fault {
+        HeadFault::Short => OpenFault::Recording(RecordingFault::Short),
+        HeadFault::Magic => OpenFault::Recording(RecordingFault::Magic),
+        HeadFault::Version(version) => OpenFault::Recording(RecordingFault::Version(version)),
+        HeadFault::NotZero => OpenFault::Recording(RecordingFault::NotZero),
+        HeadFault::ReadFault => OpenFault::ReadFault,
+    }
+}
+
+/// Reads the head of a recording, compares its id and its period with those of `kept`, and skips
+/// `held` samples, in this order.
+pub fn open_recording<S: Source>(src: &mut S, kept: &Head, held: u64) -> Result<(), OpenFault>
+    ensures ok { S.tells → OnOk result
+        (IsBehind held (body_in (Some (S.left src.old))) (S.left src.new)) }
+    ensures answer { S.tells → Judged (fault_of kept.now held (S.left src.old)) result }
+    ensures cause { result ≡ Err ReadFault → Rose (S.faults src.old) (S.faults src.new) }
+    ensures later { S.faults src.old ≤ S.faults src.new }
+{
+    let head = match read_head(src) {
+        Ok(head) => head,
+        Err(fault) => return Err(open_fault(fault)),
+    };
+    if head.id != kept.id {
+        return Err(OpenFault::Recording(RecordingFault::Id {
+            kept: kept.id,
+            found: head.id,
+        }));
+    }
+    if head.period_us != kept.period_us {
+        return Err(OpenFault::Recording(RecordingFault::Period {
+            kept: kept.period_us,
+            found: head.period_us,
+        }));
+    }
+    let skipped = skip(src, held);
+    match skipped.end {
+        FillEnd::More => Ok(()),
+        FillEnd::Failed => Err(OpenFault::ReadFault),
+        _ => Err(OpenFault::Recording(RecordingFault::Fewer {
+            held,
+            there: skipped.n,
+        })),
+    }
+}
