@@ -99,6 +99,13 @@ impl<C: Source + Send> Prepared<C> {
         );
     }
 
+    /// What the last round counted: a front for each gauge.
+    pub fn board(&self) -> &Board
+        ensures { result.now ≡ self.now.board }
+    {
+        &self.board
+    }
+
     /// What stands for the samples that a gauge's lane gave in the last round. Where it gave none
     /// it is empty.
     pub fn front(&self, gauge: u16) -> &Segment
