@@ -2,4 +2,4 @@ pub mod AfterRound
 pub mod AllLanes
 mod Opened
 pub mod Places
-mod Rising
+pub mod Rising
