@@ -1,3 +1,0 @@
-mod FewHalves
-mod Printed
-pub mod HeldFigures
