@@ -1,7 +1,8 @@
-ghost use Rattle.std.specs.Prelude.{◌≡◌, ◌≢◌, ◌≤◌, IfOk, IfErr, Err};
+ghost use Rattle.std.specs.Prelude.{◌≡◌, ◌≢◌, ◌≤◌, ◌+◌, IfOk, IfErr, Err, length};
 ghost use Rattle.outside.specs.Fault.{Rose};
 ghost use Rattle.site_config.specs.Configuration.{config_of_bytes};
 ghost use Rattle.site_config.specs.Valid.{IsConfig};
+ghost use Rattle.site_config.specs.declared.limits.TheConstants.{MAX_BYTES};
 ghost use Rattle.config_reading.specs.Reading.{MeansAs, IsRefusal};
 ghost use Rattle.status.specs.declared.status.Status.TheVariants.{ReadFault};
 
@@ -23,7 +24,19 @@ pub fn read_config<C: Source>(alloc: Global, config: &mut C) -> Result<Config, S
     let Ok(mut bytes) = vec![in alloc; 0; MAX_BYTES + 1] else {
         return Err(Status::OutOfMemory);
     };
-    match take_front(config, bytes.as_mut_slice()) {
+    read_front(alloc, config, bytes.as_mut_slice())
+}
+
+// The same by a buffer with room for all bytes that are looked at.
+fn read_front<C: Source>(alloc: Global, config: &mut C, bytes: &mut [u8]) -> Result<Config, Status>
+    requires room { length bytes.old ≡ MAX_BYTES + 1 }
+    ensures meaning { C.tells → MeansAs (config_of_bytes (C.left config.old)) result }
+    ensures valid { IfOk result IsConfig }
+    ensures refusal { IfErr result IsRefusal }
+    ensures cause { result ≡ Err ReadFault → Rose (C.faults config.old) (C.faults config.new) }
+    ensures later { C.faults config.old ≤ C.faults config.new }
+{
+    match take_front(config, bytes) {
         Ok(n) => meaning_of(alloc, &bytes[..n]),
         Err(_) => Err(Status::ReadFault),
     }

@@ -14,9 +14,10 @@ pub fn take_front<S: Source>(src: &mut S, bytes: &mut [u8]) -> Result<usize, Fai
 {
     let mut n = 0;
     while n < bytes.len() {
-        match src.take(&mut bytes[n..])? {
-            0 => return Ok(n),
-            taken => n += taken,
+        match src.take(&mut bytes[n..]) {
+            Ok(0) => return Ok(n),
+            Ok(taken) => n += taken,
+            Err(failed) => return Err(failed),
         }
     }
     Ok(n)
