@@ -5,7 +5,8 @@ use status::Status;
 use std::alloc::{AllocError, Global};
 use std::test::Fail;
 
-const WHOLE: &str = "[grid]\nclasses = 16\nwidth = 2\nlow = -8000\nreference = 8\n[[gauge]]\nname = \"G1\"\nfile = \"g1.sgrc\"\nnum = 1000\n";
+const WHOLE: &str =
+    "[grid]\nclasses = 16\nwidth = 2\nlow = -8000\nreference = 8\n[[gauge]]\nname = \"G1\"\nfile = \"g1.sgrc\"\nnum = 1000\n";
 
 // A source of so many blanks and of this text, 7 bytes in one take.
 fn source_of(
@@ -38,7 +39,12 @@ fn what_is_refused(rt: HostRuntime) -> Result<(), Fail> {
     };
     let table = [
         (0, "", 99_999, Status::Config(ConfigFault::Missing(no_grid))),
-        (MAX_BYTES, "", 99_999, Status::Config(ConfigFault::Missing(no_grid))),
+        (
+            MAX_BYTES,
+            "",
+            99_999,
+            Status::Config(ConfigFault::Missing(no_grid)),
+        ),
         (MAX_BYTES, " ", 99_999, Status::Config(ConfigFault::TooLong)),
         (0, "[[", 99_999, Status::Config(ConfigFault::NotToml)),
         (0, WHOLE, 0, Status::ReadFault),

@@ -226,7 +226,7 @@ detail_read gauges before value d e =
     let new = new_name parts.Detail i (detail_names before) name.value again.value again.first in
     let one = subst (λ n. is_name n ≡ true) new.1 (name_at-ok (detail_key i key.Name) part.value name.value name.first) in
     subst (λ (x : NamedDetail). IsReadDetail (length gauges) x) is
-        (record { on = omega (arith, place_below (gauge_names gauges) gauge.value 0 place.value at, many_names gauges); name = one })
+    (record { on = omega (arith, place_below (gauge_names gauges) gauge.value 0 place.value at, many_names gauges); name = one })
 
 record AreOn (gauges : ℕ) (ds : List NamedDetail) : Type 0 where
   each : (d : ℕ) (any : NamedDetail) → d < length ds → IsReadDetail gauges (get_or ds d any)
@@ -245,7 +245,7 @@ on_more gauges ds x are is = record { each = each }
         by_case (inr le) =
             let e : d ≡ length ds = omega (arith, lt, le, one_longer ds x) in
             subst (λ n. IsReadDetail gauges (get_or (ds ++ x ∷ []) n any)) (sym e)
-                (subst (λ (y : NamedDetail). IsReadDetail gauges y) (sym (get_or-append_seam ds x [] any)) is)
+            (subst (λ (y : NamedDetail). IsReadDetail gauges y) (sym (get_or-append_seam ds x [] any)) is)
 
 details_read : (gauges : List Gauge) (before : List NamedDetail) (values : List Data) (ds : List NamedDetail) → AreOn (length gauges) before
     → details_after gauges before values ≡ Ok ds → AreOn (length gauges) ds × (length ds ≡ length before + length values)
