@@ -9,7 +9,20 @@ use Rattle.monitor.specs.Run.{Outside, Runs, usage_task}
 use Rattle.monitor.specs.declared.refusal.Refusal.{Refusal}
 use Rattle.monitor.specs.declared.refusal.Refusal.TheVariants as refusal
 use Rattle.status.specs.declared.status.Status.{Status}
-use Rattle.status.specs.declared.status.Status.TheVariants.{Done, Usage, Recording, Torn, ReadFault, WriteFault, OutOfMemory, TooLong}
+use Rattle.status.specs.declared.status.Status.TheVariants.{
+  Done,
+  Usage,
+  Config,
+  Store,
+  Recording,
+  Torn,
+  ReadFault,
+  WriteFault,
+  DiskFault,
+  OutOfMemory,
+  TooLong,
+  Differs,
+}
 
 -- of the same answer of another state
 own : (answer : Status) (state : FileState) → answer ≡ answer_for state → answer ≢ ReadFault → IsAnswer answer state
@@ -25,6 +38,10 @@ complete Done state may r w = own Done state may r
 complete (Recording gauge fault) state may r w = own (Recording gauge fault) state may r
 complete (Torn gauge bytes) state may r w = own (Torn gauge bytes) state may r
 complete (TooLong gauge) state may r w = own (TooLong gauge) state may r
+complete (Config fault) state may r w = own (Config fault) state may r
+complete (Store fault) state may r w = own (Store fault) state may r
+complete DiskFault state may r w = own DiskFault state may r
+complete (Differs gauge what held found) state may r w = own (Differs gauge what held found) state may r
 
 -- what holds of the text of a file holds of what a name has
 pub text_for : (held : Option (List ℕ)) (file : List ℕ) (P : List ℕ → Type 0) → held ≡ Some file → P (text_of file) → IsSomeAnd (option_map text_of held) P
@@ -44,6 +61,10 @@ printing_may ReadFault state p is = absurd p
 printing_may (Recording gauge fault) state p is = absurd p
 printing_may (Torn gauge bytes) state p is = absurd p
 printing_may (TooLong gauge) state p is = absurd p
+printing_may (Config fault) state p is = absurd p
+printing_may (Store fault) state p is = absurd p
+printing_may DiskFault state p is = absurd p
+printing_may (Differs gauge what held found) state p is = absurd p
 
 pub printing_no_read : (answer : Status) → IsPrinting answer → answer ≢ ReadFault
 printing_no_read Done p is = cc
@@ -54,6 +75,10 @@ printing_no_read ReadFault p is = p
 printing_no_read (Recording gauge fault) p is = p
 printing_no_read (Torn gauge bytes) p is = p
 printing_no_read (TooLong gauge) p is = p
+printing_no_read (Config fault) p is = p
+printing_no_read (Store fault) p is = p
+printing_no_read DiskFault p is = p
+printing_no_read (Differs gauge what held found) p is = p
 
 -- of a recording that was refused
 pub refusal_no_done : (r : Refusal) → status_of 0 r ≢ Done
