@@ -1,0 +1,28 @@
+-- The figures of held segments: their own, or those of the samples that they stand for.
+use Rattle.std.proofs.Common.{◌≡◌, ◌<◌, ℕ, List, length, refl, sym, subst}
+use Rattle.std.specs.Prelude.{slice_index_or}
+use Rattle.segment.specs.Segment.{SegmentValue, IsSegment}
+use Rattle.report.specs.Figures.{Agree, Figures, figures_of}
+use Rattle.calibration.specs.Grid.{GridValue}
+use Rattle.site_config.specs.declared.config.Config.{Config}
+use Rattle.site_report.specs.Report.{Agrees}
+
+pub agree_own : (v : SegmentValue) → Agree v.grid (figures_of v) (figures_of v)
+agree_own v = record {
+  samples = refl;
+  half_units = λ k from to. refl;
+  pairs = λ lo hi from to. refl;
+  crossings = λ l from to. refl;
+  peaks = λ l to. refl;
+  valleys = λ l to. refl;
+  ranges = λ k from to. refl;
+}
+
+pub agree_held : (c : Config) (held : List SegmentValue) (figures : ℕ → Figures) (g k : ℕ) (seg : SegmentValue) → Agrees c held figures
+    → k ≡ g → g < length held → seg ≡ slice_index_or held k seg → seg.grid ≡ c.setup.grid → IsSegment seg
+    → Agree seg.grid (figures_of seg) (figures g)
+agree_held c held figures g k seg agrees same lt is grid rules =
+    let there : seg ≡ slice_index_or held g seg = subst (λ j. seg ≡ slice_index_or held j seg) same is in
+    let own = agrees g seg lt (subst IsSegment there rules) in
+    subst (λ (x : GridValue). Agree x (figures_of seg) (figures g)) (sym grid)
+    (subst (λ (v : SegmentValue). Agree c.setup.grid (figures_of v) (figures g)) (sym there) own)

@@ -1,0 +1,4 @@
+mod FewHalves
+pub mod Printed
+mod Summed
+pub mod HeldFigures

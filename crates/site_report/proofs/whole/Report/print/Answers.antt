@@ -1,0 +1,53 @@
+use Rattle.std.proofs.Common.{◌++◌, List, ℕ, ap, refl, ◌∙◌, sym, subst, append_assoc}
+use Rattle.outside.specs.Sink.{AppendsPrefix}
+use Rattle.lemmas.proofs.Outcomes.{on_err}
+use Rattle.site_report.specs.Damages.{AreDamages}
+use Rattle.site_report.specs.Report.{IsReport, gauge_lines, detail_lines}
+use Rattle.site_report.proofs.Printed.{first_part_front, second_part_front, on_ok_by, on_err_by}
+use Rattle.site_report.proofs.whole.Report.print.Goals as goal
+
+pub returns-in_err-print_gauges-clause-failed : goal.returns-in_err-print_gauges-clause-failed
+returns-in_err-print_gauges-clause-failed g c = λ tells figures agrees.
+    let conf = c.args.conf.now in
+    let damages = c.sum_damages.new.damages.items in
+    let front : (text : List ℕ) × IsReport c.args.conf.now figures text
+    × AppendsPrefix (g.O.Sink.written c.args.out.now) (g.O.Sink.written c.print_gauges.new.out) text = (
+      gauge_lines conf figures ++ detail_lines conf conf.details damages,
+      record { damages = damages; are_damages = c.sum_damages.ensures.damages figures agrees; is_text = refl },
+      first_part_front (g.O.Sink.written c.args.out.now) (g.O.Sink.written c.print_gauges.new.out) (gauge_lines conf figures)
+          (detail_lines conf conf.details damages) (c.in_err-print_gauges.ensures.failed tells figures agrees),
+    ) in
+    on_err _ front
+
+pub returns-clause-ok : goal.returns-clause-ok
+returns-clause-ok g c = λ tells figures agrees.
+    let conf = c.args.conf.now in
+    let old = g.O.Sink.written c.args.out.now in
+    let damages = c.deref.result.now in
+    let first = gauge_lines conf figures in
+    let second = detail_lines conf conf.details c.deref.result.now in
+    on_ok_by c.print_details.result _ _ (λ put. (
+      gauge_lines conf figures ++ detail_lines conf conf.details c.deref.result.now,
+      record {
+        damages = damages;
+        are_damages = subst (AreDamages conf figures) (sym c.deref.ensures.value) (c.sum_damages.ensures.damages figures agrees);
+        is_text = refl;
+      },
+      put ∙ (ap (λ (l : List ℕ). l ++ detail_lines conf conf.details c.deref.result.now) (c.in_ok-print_gauges.ensures.ok tells figures agrees)
+          ∙ append_assoc old first second),
+    )) (c.print_details.ensures.ok tells)
+
+pub returns-clause-failed : goal.returns-clause-failed
+returns-clause-failed g c = λ tells figures agrees.
+    let conf = c.args.conf.now in
+    let damages = c.deref.result.now in
+    on_err_by c.print_details.result _ _ (λ put. (
+      gauge_lines conf figures ++ detail_lines conf conf.details c.deref.result.now,
+      record {
+        damages = damages;
+        are_damages = subst (AreDamages conf figures) (sym c.deref.ensures.value) (c.sum_damages.ensures.damages figures agrees);
+        is_text = refl;
+      },
+      second_part_front (g.O.Sink.written c.args.out.now) (g.O.Sink.written c.print_gauges.new.out) (g.O.Sink.written c.print_details.new.out)
+          (gauge_lines conf figures) (detail_lines conf conf.details c.deref.result.now) (c.in_ok-print_gauges.ensures.ok tells figures agrees) put,
+    )) (c.print_details.ensures.failed tells)

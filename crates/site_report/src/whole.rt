@@ -1,0 +1,73 @@
+ghost use Rattle.std.specs.Prelude.{◌≡◌, ◌≤◌, ◌++◌, ℕ, List, length, IfOk, OnOk, OnErr};
+ghost use Rattle.outside.specs.Fault.{HasCause};
+ghost use Rattle.outside.specs.Sink.{AppendsPrefix};
+ghost use Rattle.report.specs.Figures.{Figures};
+ghost use Rattle.site_config.specs.Valid.{IsConfig};
+ghost use Rattle.site_report.specs.Report.{Agrees, IsReport};
+ghost use Rattle.site_report.specs.Room.{HasRoom};
+
+use crate::damages::sum_damages;
+use crate::printing::{print_details, print_gauges};
+use exact_frac::Frac;
+use outside::{Failed, Sink};
+use report::Page;
+use segment_store::Store;
+use site_config::Config;
+use std::alloc::{AllocError, Global};
+use std::marker::Model;
+
+/// The memory of a report: a page, and a place for the damage of each detail.
+#[derive(Drop)]
+pub struct Report {
+    page: Page,
+    damages: Vec<Frac>,
+}
+
+impl Model for Report {
+    ghost use Rattle.std.specs.Prelude.{vec_capacity};
+    ghost use Rattle.site_report.specs.Room.{RoomValue};
+
+    ghost Value = { RoomValue };
+
+    ghost view = { λ r. record { classes = r.page.classes; details = vec_capacity r.damages } };
+}
+
+impl Report {
+    /// Takes all memory that printing the report of this site takes.
+    pub fn new(alloc: Global, conf: &Config) -> Result<Report, AllocError>
+        requires { IsConfig conf.now }
+        ensures { IfOk result (HasRoom conf.now) }
+    {
+        Ok(Report {
+            page: Page::new(alloc, conf.setup.grid.classes())?,
+            damages: Vec::with_capacity(alloc, conf.details.as_slice().len())?,
+        })
+    }
+
+    /// Prints the report of what is held: the text of each gauge, then the line of each detail.
+    /// Takes no memory. Where a put fails, a front of the report is written.
+    pub fn print<O: Sink>(
+        &mut self,
+        conf: &Config,
+        store: &Store,
+        out: &mut O,
+    ) -> Result<(), Failed>
+        requires conf { IsConfig conf.now }
+        requires setup { store.now.head.setup ≡ conf.now.setup }
+        requires gauges { length store.now.held ≡ length conf.now.gauges }
+        requires room { HasRoom conf.now self.old }
+        ensures ok { O.tells → (figures : ℕ → Figures) → Agrees conf.now store.now.held figures →
+            OnOk result ((text : List ℕ) × IsReport conf.now figures text ×
+            (O.written out.new ≡ O.written out.old ++ text)) }
+        ensures failed { O.tells → (figures : ℕ → Figures) →
+            Agrees conf.now store.now.held figures →
+            OnErr result ((text : List ℕ) × IsReport conf.now figures text ×
+            AppendsPrefix (O.written out.old) (O.written out.new) text) }
+        ensures cause { HasCause (O.faults out.old) (O.faults out.new) result }
+        ensures room { HasRoom conf.now self.new }
+    {
+        sum_damages(conf, store, &mut self.damages);
+        print_gauges(conf, store, &mut self.page, out)?;
+        print_details(conf, &self.damages, &mut self.page, out)
+    }
+}
