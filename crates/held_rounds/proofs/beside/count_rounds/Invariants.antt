@@ -1,0 +1,40 @@
+use Rattle.std.specs.List.{All}
+use Rattle.std.proofs.Common.{◌≡◌, ◌≤◌, ℕ, List, false, length}
+use Rattle.outside.specs.Site.{Files}
+use Rattle.station.specs.Station.{Lines}
+use Rattle.segment_store.specs.Held.{ends_of}
+use Rattle.segment_store.specs.Moments.{IsThere}
+use Rattle.recorded.specs.Recorded.{recorded}
+use Rattle.held_samples.specs.Going.{Going, IsStored}
+use Rattle.held_samples.specs.Fronts.{FrontsStand}
+use Rattle.site_lanes.specs.Lanes.{AreLanes, AreReady, HasSource, IsFaulty, IsWhole}
+use Rattle.held_rounds.specs.Beside.{IsBoardFor, Leads}
+use Rattle.held_rounds.specs.Telling.{HasTold}
+use Rattle.held_rounds.proofs.Ahead.{IsAhead}
+use Rattle.held_rounds.proofs.beside.count_rounds.Given as goal
+
+-- the last round is on the board, and not yet stored
+abbrev pub invariant-loop : goal.invariant-loop
+invariant-loop g l =
+    let k = g.K.Station in
+    let s = g.C.Source in
+    record {
+      usable : l.store.shut ≡ false;
+      head : l.store.head ≡ l.fn.store.head;
+      gauges : (length l.store.held ≡ length l.fn.store.held) × (l.prepared.gauges ≡ length l.conf.gauges) × (length l.lanes ≡ length l.fn.lanes);
+      grid : l.prepared.grid ≡ l.conf.setup.grid;
+      block : l.prepared.block ≡ l.conf.block;
+      board : IsBoardFor l.prepared l.board;
+      leads : Leads l.store.head.setup (ends_of l.store.held) l.board l.lanes;
+      can : AreReady l.lanes;
+      sources : All HasSource l.lanes;
+      faulty : All (IsFaulty s.faults) l.lanes;
+      there : k.tells → IsThere l.store (k.seen l.station) (k.leaves l.station);
+      read : s.tells → (files : Files) → AreLanes s.tells s.left (recorded l.conf files) l.fn.lanes → AreLanes s.tells s.left (recorded l.conf files) l.lanes × FrontsStand (recorded l.conf files) l.board;
+      going : k.tells → s.tells → (files : Files) → AreLanes s.tells s.left (recorded l.conf files) l.fn.lanes → IsStored (recorded l.conf files) l.fn.store (k.seen l.fn.station) (k.leaves l.fn.station) →
+          Going (recorded l.conf files) (ends_of l.fn.store.held) (k.clock l.fn.station) (k.moments l.fn.station) (k.told l.fn.station) (k.clock l.station) (k.moments l.station) (k.told l.station) (k.leaves l.station) (ends_of l.store.held)
+          × IsStored (recorded l.conf files) l.store (k.seen l.station) (k.leaves l.station);
+      told : k.tells → s.tells → (files : Files) → AreLanes s.tells s.left (recorded l.conf files) l.fn.lanes → (n : List ℕ) (told : Lines) → HasTold l.conf.block (recorded l.conf files) n told (k.told l.fn.station) l.fn.lanes →
+          All IsWhole l.lanes → IsAhead l.conf.block (recorded l.conf files) n told (k.told l.station) (ends_of l.store.held) l.lanes;
+      later : k.faults l.fn.station ≤ k.faults l.station;
+    }
