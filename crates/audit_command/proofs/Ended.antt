@@ -1,0 +1,306 @@
+-- What each answer of `audit` says.
+use Rattle.std.proofs.Common.{◌≡◌, ◌≢◌, ◌<◌, ◌≤◌, ◌⊎◌, inl, inr, ℕ, ℤ, List, [], length, take, get_or, refl, sym, ap, subst, ◌∙◌, arith}
+use Rattle.std.proofs.lemmas.Bool.{cases_lt}
+use Rattle.std.proofs.lemmas.List.{get_or_past}
+use Rattle.std.specs.Prelude.{slice_index, slice_index_or, Some, None, Result, Ok, Err}
+use Rattle.outside.specs.Site.{Files}
+use Rattle.station.specs.Station.{Image}
+use Rattle.recording.specs.declared.head.Head.{Head}
+use Rattle.calibration.specs.declared.setup.Setup.{Setup}
+use Rattle.calibration.specs.History.{history}
+use Rattle.three_point.specs.Run.{three_point}
+use Rattle.segment_rules.specs.Parts.{PartsValue}
+use Rattle.report.specs.Counts.{counts_of}
+use Rattle.segment_store.specs.Keeps.{bodies_of}
+use Rattle.segment.specs.Segment.{SegmentValue, IsSegment, Stands}
+use Rattle.recount.specs.declared.compare.What.{What}
+use Rattle.segment_store.specs.Held.{ends_of}
+use Rattle.segment_store.specs.Holds.{AllStand, gain_at}
+use Rattle.segment_store.specs.Image.{Reads}
+use Rattle.segment_store.specs.Moments.{IsOn, StoreValue}
+use Rattle.segment_store.specs.Opening.{Resumes}
+use Rattle.segment_store.specs.declared.fault.ResumeFault.{ResumeFault}
+use Rattle.segment_store.specs.declared.fault.ResumeFault.TheVariants as fault
+use Rattle.segment_store.proofs.HeldKeep.{held_keep}
+use Rattle.segment_store.proofs.HeldStand.{held_stand}
+use Rattle.site_config.specs.Valid.{IsConfig, name_of, no_gauge}
+use Rattle.site_config.specs.declared.config.Config.{Config}
+use Rattle.site_config.specs.declared.config.Gauge.{Gauge}
+use Rattle.site_config.specs.declared.limits.TheConstants.{MAX_NAME_BYTES}
+use Rattle.site_report.proofs.Printed.{short_name}
+use Rattle.fault_lines.specs.FaultLine.{fault_line, name_for}
+use Rattle.site_config.specs.declared.fault.ConfigFault.{ConfigFault}
+use Rattle.recorded.specs.Recorded.{recorded}
+use Rattle.site_lanes.specs.Answers.{AllOpened, FaultOf, OpenAnswers}
+use Rattle.site_lanes.specs.Opening.{fault_of}
+use Rattle.status.specs.declared.status.RecordingFault.{RecordingFault}
+use Rattle.status.specs.declared.status.Status.{Status}
+use Rattle.status.specs.declared.status.Status.TheVariants.{Done, Usage, Config as BadConfig, Store as BadStore, Recording, Torn, ReadFault, WriteFault, DiskFault, OutOfMemory, TooLong, Differs}
+use Rattle.config_reading.specs.Reading.{MeansAs, IsRefusal}
+use Rattle.report_command.specs.Answers.{ReadsAs, store_status}
+use Rattle.report_command.specs.Printing.{IsPrinting}
+use Rattle.report_command.proofs.Ended.{by_refusal}
+use Rattle.audit_command.specs.Recounted.{IsRecounting}
+use Rattle.audit_command.specs.Audited.{Meant, IsItem, HasKept, IsStanding, IsOther, AllSame, Finds, first_samples}
+use Rattle.audit_command.specs.Answers.{HeldAnswers, CountedAnswers, AnswersOver, AuditAnswers, IsSound, IsAuditing}
+use Rattle.audit_command.specs.Printing.{Prints}
+use Rattle.audit_command.proofs.Audits.{differ_clash, finds_by}
+
+-- of an answer of counting again, of comparing, and of auditing
+pub by_recounting : (P : Status → Type 0) → ((g : ℕ) (f : RecordingFault) → P (Recording g f)) → P ReadFault → P OutOfMemory
+    → (s : Status) → IsRecounting s → P s
+by_recounting P f r m (Recording g x) is = f g x
+by_recounting P f r m ReadFault is = r
+by_recounting P f r m OutOfMemory is = m
+by_recounting P f r m Done is = absurd is
+by_recounting P f r m Usage is = absurd is
+by_recounting P f r m (BadConfig x) is = absurd is
+by_recounting P f r m (BadStore x) is = absurd is
+by_recounting P f r m (Torn g b) is = absurd is
+by_recounting P f r m WriteFault is = absurd is
+by_recounting P f r m DiskFault is = absurd is
+by_recounting P f r m (TooLong g) is = absurd is
+by_recounting P f r m (Differs g w x y) is = absurd is
+
+pub by_other : (P : Status → Type 0) → ((g : ℕ) (what : What) (held found : ℕ) → P (Differs g what held found)) → (s : Status) → IsOther s → P s
+by_other P d (Differs g w x y) is = d g w x y
+by_other P d Done is = absurd is
+by_other P d Usage is = absurd is
+by_other P d (BadConfig f) is = absurd is
+by_other P d (BadStore f) is = absurd is
+by_other P d (Recording g f) is = absurd is
+by_other P d (Torn g b) is = absurd is
+by_other P d ReadFault is = absurd is
+by_other P d WriteFault is = absurd is
+by_other P d DiskFault is = absurd is
+by_other P d OutOfMemory is = absurd is
+by_other P d (TooLong g) is = absurd is
+
+pub by_auditing : (P : Status → Type 0) → P Done → P WriteFault → ((s : Status) → IsRecounting s → P s) → ((s : Status) → IsOther s → P s)
+    → (s : Status) → IsAuditing s → P s
+by_auditing P d w r o Done is = d
+by_auditing P d w r o WriteFault is = w
+by_auditing P d w r o (Recording g f) is = r (Recording g f) tt
+by_auditing P d w r o ReadFault is = r ReadFault tt
+by_auditing P d w r o OutOfMemory is = r OutOfMemory tt
+by_auditing P d w r o (Differs g v x y) is = o (Differs g v x y) tt
+by_auditing P d w r o Usage is = absurd is
+by_auditing P d w r o (BadConfig f) is = absurd is
+by_auditing P d w r o (BadStore f) is = absurd is
+by_auditing P d w r o (Torn g b) is = absurd is
+by_auditing P d w r o DiskFault is = absurd is
+by_auditing P d w r o (TooLong g) is = absurd is
+
+pub recounting_answers : (c : Config) (heads : List Head) (meant : Meant) (ends : List ℕ) (files : Files) (s : Status) → IsRecounting s
+    → OpenAnswers c heads (slice_index ends) files (Err s) → HeldAnswers c heads meant ends files s
+recounting_answers c heads meant ends files s is a =
+    by_recounting (λ (x : Status). OpenAnswers c heads (slice_index ends) files (Err x) → HeldAnswers c heads meant ends files x)
+    (λ g f b. b) (λ b. tt) (λ b. tt) s is a
+
+pub other_answers : (c : Config) (heads : List Head) (meant : Meant) (ends : List ℕ) (files : Files) (s : Status) → IsOther s
+    → CountedAnswers c heads meant ends files s → HeldAnswers c heads meant ends files s
+other_answers c heads meant ends files s is a =
+    by_other (λ (x : Status). CountedAnswers c heads meant ends files x → HeldAnswers c heads meant ends files x) (λ g w x y b. b) s is a
+
+pub recounting_kind : (s : Status) → IsRecounting s → IsAuditing s
+recounting_kind = by_recounting IsAuditing (λ g f. tt) tt tt
+
+pub recounting_unprinted : (s : Status) → IsRecounting s → (c : Config) (old : List ℕ) → Prints s c old old
+recounting_unprinted s is c old = by_recounting (λ (x : Status). Prints x c old old) (λ g f. refl) refl refl s is
+
+pub recounting_no_write : (s : Status) → IsRecounting s → s ≢ WriteFault
+recounting_no_write = by_recounting (λ s. s ≢ WriteFault) (λ g f e. absurd cc) (λ e. absurd cc) (λ e. absurd cc)
+
+pub other_kind : (s : Status) → IsOther s → IsAuditing s
+other_kind = by_other IsAuditing (λ g w x y. tt)
+
+pub other_unprinted : (s : Status) → IsOther s → (c : Config) (old : List ℕ) → Prints s c old old
+other_unprinted s is c old = by_other (λ (x : Status). Prints x c old old) (λ g w x y. refl) s is
+
+pub other_no_fault : (s : Status) → IsOther s → (s ≢ ReadFault) × (s ≢ WriteFault)
+other_no_fault = by_other (λ s. (s ≢ ReadFault) × (s ≢ WriteFault)) (λ g w x y. ((λ e. absurd cc), (λ e. absurd cc)))
+
+pub auditing_no_disk : (s : Status) → IsAuditing s → s ≢ DiskFault
+auditing_no_disk = by_auditing (λ s. s ≢ DiskFault) (λ e. absurd cc) (λ e. absurd cc)
+    (by_recounting (λ s. s ≢ DiskFault) (λ g f e. absurd cc) (λ e. absurd cc) (λ e. absurd cc)) (by_other (λ s. s ≢ DiskFault) (λ g w x y e. absurd cc))
+
+pub finds_of : (c : Config) (heads : List Head) (meant : Meant) (ends : List ℕ) (files : Files) (s : Status) → IsAuditing s
+    → HeldAnswers c heads meant ends files s → Finds c meant (first_samples (recorded c files).samples ends) s
+finds_of c heads meant ends files s is a =
+    let P : Status → Type 0 = λ x. HeldAnswers c heads meant ends files x → Finds c meant (first_samples (recorded c files).samples ends) x in
+    by_auditing P (λ b. b.1) (λ b. b.1) (by_recounting P (λ g f b. tt) (λ b. tt) (λ b. tt)) (by_other P (λ g w x y b. b.1)) s is a
+
+-- over a store that was read, by the setup of the configuration
+pub answers_over : (c : Config) (image : Image) (files : Files) (r : ReadsAs c.setup image) (s : Status) → IsAuditing s
+    → HeldAnswers c r.head.heads (HasKept r.bodies) r.ends files s → AnswersOver c image files s
+answers_over c image files r s is a =
+    let P : Status → Type 0 = λ x. HeldAnswers c r.head.heads (HasKept r.bodies) r.ends files x → AnswersOver c image files x in
+    by_auditing P (λ b. (r, b)) (λ b. (r, b)) (by_recounting P (λ g f b. (r, b)) (λ b. (r, b)) (λ b. tt)) (by_other P (λ g w x y b. (r, b))) s is a
+
+module _ (c : Config) (heads : List Head) (from to : Meant) (ends : List ℕ) (files : Files)
+    (leads : (g : ℕ) (v : SegmentValue) → g < length c.gauges → from g v → to g v) where
+  pub answers_by : (s : Status) → IsAuditing s → HeldAnswers c heads from ends files s → HeldAnswers c heads to ends files s
+  answers_by s is a =
+      let P : Status → Type 0 = λ x. HeldAnswers c heads from ends files x → HeldAnswers c heads to ends files x in
+      let found = finds_by c from to (first_samples (recorded c files).samples ends) leads in
+      by_auditing P (λ b. (b.0, found Done b.1)) (λ b. (b.0, found WriteFault b.1)) (by_recounting P (λ g f b. b) (λ b. tt) (λ b. tt))
+      (by_other P (λ g v x y b. (b.0, found (Differs g v x y) b.1))) s is a
+
+pub finds_refused : (c : Config) (meant : Meant) (w : ℕ → List ℤ) (f : ResumeFault) → Finds c meant w (store_status f)
+finds_refused c meant w fault.NotAStore = tt
+finds_refused c meant w (fault.Version v) = tt
+finds_refused c meant w (fault.Differs field kept found) = tt
+finds_refused c meant w (fault.Damaged index damage) = tt
+finds_refused c meant w fault.DiskFault = tt
+finds_refused c meant w fault.OutOfMemory = tt
+
+pub finds_unread : (c : Config) (meant : Meant) (w : ℕ → List ℤ) (s : Status) → IsRefusal s → Finds c meant w s
+finds_unread c meant w = by_refusal (Finds c meant w) (λ f. tt) tt tt
+
+-- the held segments, by the bodies of a store that is on its station
+module _ (s : StoreValue) (bodies : List PartsValue) (seen : Image) (leaves : Image → Type 0) (on : IsOn s bodies seen leaves) where
+  pub items_keep : (g : ℕ) (v : SegmentValue) → g < length s.held → IsItem s.held g v → HasKept bodies g v
+  items_keep g v lt is = subst (HasKept bodies g) (sym is.0) (held_keep s bodies seen leaves on g v lt (subst IsSegment is.0 is.1))
+
+  pub items_stand : (c : Config) (w : ℕ → List ℤ) → s.head.setup ≡ c.setup → AllStand c.setup w bodies → (g : ℕ) (v : SegmentValue)
+      → g < length s.held → IsItem s.held g v → IsStanding c (first_samples w (ends_of s.held)) g v
+  items_stand c w same all g v lt is =
+      subst (λ (x : Setup). Stands v (gain_at x g) (take (get_or (ends_of s.held) g 0) (w g))) same
+      (subst (λ (x : SegmentValue). Stands x (gain_at s.head.setup g) (take (get_or (ends_of s.held) g 0) (w g))) (sym is.0)
+      (held_stand s bodies seen leaves on w (subst (λ (x : Setup). AllStand x w bodies) (sym same) all) g v lt))
+
+  abbrev pub read_as : (setup : Setup) (old : Image) → s.head.setup ≡ setup → seen ≡ old → ReadsAs setup old
+  read_as setup old of_setup same = record {
+    head = s.head;
+    bodies = bodies;
+    ends = ends_of s.held;
+    of_setup = of_setup;
+    reads = subst (Reads s.head bodies (ends_of s.held)) same on.reads;
+  }
+
+pub refused_answers : {X : Type 0} (c : Config) (image : Image) (files : Files) (see : X → ℕ × List ℕ) (f : ResumeFault)
+    → Resumes {X = X} c.setup image see (Err f) → AnswersOver c image files (store_status f)
+refused_answers c image files see fault.NotAStore h = (fault.NotAStore, refl, h)
+refused_answers c image files see (fault.Version v) h = (fault.Version v, refl, h)
+refused_answers c image files see (fault.Differs field kept found) h = (fault.Differs field kept found, refl, h)
+refused_answers c image files see (fault.Damaged index damage) h = (fault.Damaged index damage, refl, h)
+refused_answers c image files see fault.DiskFault h = tt
+refused_answers c image files see fault.OutOfMemory h = tt
+
+pub refused_unprinted : (f : ResumeFault) (c : Config) (old : List ℕ) → Prints (store_status f) c old old
+refused_unprinted fault.NotAStore c old = refl
+refused_unprinted (fault.Version v) c old = refl
+refused_unprinted (fault.Differs field kept found) c old = refl
+refused_unprinted (fault.Damaged index damage) c old = refl
+refused_unprinted fault.DiskFault c old = refl
+refused_unprinted fault.OutOfMemory c old = refl
+
+-- a recording is not at once sound and refused
+not_both : (c : Config) (heads : List Head) (n : ℕ → ℕ) (files : Files) (g : ℕ) (f : RecordingFault) → FaultOf c heads n files g None
+    → FaultOf c heads n files g (Some f) → ⊥
+not_both c heads n files g f sound faulty =
+    let any : Head = record { id = []; period_us = 0 } in
+    let same : sound.0 ≡ faulty.0 = some_same sound.0 faulty.0 (sym sound.1 ∙ faulty.1) in
+    clash f (sym (sound.2 any) ∙ (ap (fault_of (slice_index_or heads g any) (n g)) same ∙ faulty.2 any))
+  where
+    some_same : (a b : List ℕ) → Some a ≡ Some b → a ≡ b
+    some_same a b e = cc
+
+    clash : (f : RecordingFault) → None ≡ Some f → ⊥
+    clash f e = cc
+
+pub held_complete : (c : Config) (heads : List Head) (bodies : List PartsValue) (ends : List ℕ) (files : Files) (s : Status)
+    → HeldAnswers c heads (HasKept bodies) ends files s → AllOpened c heads (slice_index ends) files (length c.gauges)
+    → AllSame c (HasKept bodies) (first_samples (recorded c files).samples ends) (length c.gauges) → s ≢ ReadFault → s ≢ WriteFault
+    → (s ≡ Done) ⊎ (s ≡ OutOfMemory)
+held_complete c heads bodies ends files Done a opened same r w = inl refl
+held_complete c heads bodies ends files OutOfMemory a opened same r w = inr refl
+held_complete c heads bodies ends files ReadFault a opened same r w = absurd (r refl)
+held_complete c heads bodies ends files WriteFault a opened same r w = absurd (w refl)
+held_complete c heads bodies ends files (Recording g f) a opened same r w =
+    absurd (not_both c heads (slice_index ends) files g f (opened g a.0) a.2)
+held_complete c heads bodies ends files (Differs g x y z) a opened same r w =
+    let other = a.1.2 in
+    let none = same g a.1.0 in
+    absurd (differ_clash other.0 none.0 (bodies_of g bodies) c.setup.grid (counts_of c.setup.grid (gain_at c.setup g) (first_samples (recorded c files).samples ends g))
+    (three_point (history c.setup.grid (gain_at c.setup g) (first_samples (recorded c files).samples ends g)))
+    (record { what = x; held = y; found = z }) other.1 none.1 other.2 none.2 other.3 none.3)
+held_complete c heads bodies ends files Usage a opened same r w = absurd a
+held_complete c heads bodies ends files (BadConfig f) a opened same r w = absurd a
+held_complete c heads bodies ends files (BadStore f) a opened same r w = absurd a
+held_complete c heads bodies ends files (Torn g b) a opened same r w = absurd a
+held_complete c heads bodies ends files DiskFault a opened same r w = absurd a
+held_complete c heads bodies ends files (TooLong g) a opened same r w = absurd a
+
+-- an answer over a configuration that was read
+pub over_config : (conf : Result Config ConfigFault) (c : Config) (image : Image) (files : Files) → conf ≡ Ok c → (s : Status)
+    → AnswersOver c image files s → AuditAnswers conf image files s
+over_config conf c image files is Done a = (c, is, a)
+over_config conf c image files is WriteFault a = (c, is, a)
+over_config conf c image files is (BadStore f) a = (c, is, a)
+over_config conf c image files is DiskFault a = (c, is, a)
+over_config conf c image files is OutOfMemory a = tt
+over_config conf c image files is ReadFault a = tt
+over_config conf c image files is (Recording g f) a = (c, is, a)
+over_config conf c image files is (Differs g x y z) a = (c, is, a)
+over_config conf c image files is Usage a = (c, is, a)
+over_config conf c image files is (BadConfig f) a = absurd a.1
+over_config conf c image files is (Torn g b) a = (c, is, a)
+over_config conf c image files is (TooLong g) a = (c, is, a)
+
+pub unread_answer : (conf : Result Config ConfigFault) (image : Image) (files : Files) (s : Status) → IsRefusal s → MeansAs conf (Err s)
+    → AuditAnswers conf image files s
+unread_answer conf image files s is =
+    by_refusal (λ (x : Status). MeansAs conf (Err x) → AuditAnswers conf image files x) (λ f m. m) (λ m. tt) (λ m. tt) s is
+
+-- a sound configuration is refused for a read that failed, or for want of memory
+pub unread_complete : (conf : Result Config ConfigFault) (image : Image) (files : Files) (s : Status) → IsRefusal s → MeansAs conf (Err s)
+    → IsSound conf image files → s ≢ ReadFault → (s ≡ Done) ⊎ (s ≡ OutOfMemory)
+unread_complete conf image files s is m sound read =
+    by_refusal (λ (x : Status). MeansAs conf (Err x) → x ≢ ReadFault → (x ≡ Done) ⊎ (x ≡ OutOfMemory))
+    (λ f m r. absurd (clash (sym m ∙ sound.1))) (λ m r. absurd (r refl)) (λ m r. inr refl) s is m read
+  where
+    clash : {f : ConfigFault} {c : Config} → ◌≡◌ {A = Result Config ConfigFault} (Err f) (Ok c) → ⊥
+    clash e = absurd cc
+
+-- the line of a refused configuration has no name
+pub line_same : (s : Status) → IsRefusal s → (a b : List ℕ) → fault_line s a ≡ fault_line s b
+line_same s is a b = by_refusal (λ (x : Status). fault_line x a ≡ fault_line x b) (λ f. refl) refl refl s is
+
+pub unread_unprinted : (s : Status) → IsRefusal s → (c : Config) (old : List ℕ) → Prints s c old old
+unread_unprinted s is c old = by_refusal (λ (x : Status). Prints x c old old) (λ f. refl) refl refl s is
+
+-- there is room for the name of each gauge; of a gauge that a configuration doesn't have it is empty
+name_of_short : (conf : Config) → IsConfig conf → (g : ℕ) → length (name_of conf g) ≤ MAX_NAME_BYTES
+name_of_short conf is g = elim (cases_lt g (length conf.gauges)) [
+  | inl lt ↦ short_name (name_of conf g) (is.names g lt)
+  | inr past ↦ let e : length (name_of conf g) ≡ 0 = ap (λ (x : Gauge). length x.name) (get_or_past conf.gauges g no_gauge past) in omega (arith, e)
+]
+
+pub name_short : (conf : Config) → IsConfig conf → (s : Status) → length (name_for conf s) ≤ MAX_NAME_BYTES
+name_short conf is Done = omega arith
+name_short conf is Usage = omega arith
+name_short conf is (BadConfig f) = omega arith
+name_short conf is (BadStore f) = omega arith
+name_short conf is (Recording g f) = name_of_short conf is g
+name_short conf is (Torn g b) = name_of_short conf is g
+name_short conf is ReadFault = omega arith
+name_short conf is WriteFault = omega arith
+name_short conf is DiskFault = omega arith
+name_short conf is OutOfMemory = omega arith
+name_short conf is (TooLong g) = name_of_short conf is g
+name_short conf is (Differs g w x y) = name_of_short conf is g
+
+pub not_printed : (s : Status) (c : Config) (old new : List ℕ) → (IsPrinting s → ⊥) → Prints s c old new → new ≡ old
+not_printed Done c old new not p = absurd (not tt)
+not_printed WriteFault c old new not p = absurd (not tt)
+not_printed Usage c old new not p = p
+not_printed (BadConfig f) c old new not p = p
+not_printed (BadStore f) c old new not p = p
+not_printed (Recording g f) c old new not p = p
+not_printed (Torn g b) c old new not p = p
+not_printed ReadFault c old new not p = p
+not_printed DiskFault c old new not p = p
+not_printed OutOfMemory c old new not p = p
+not_printed (TooLong g) c old new not p = p
+not_printed (Differs g w x y) c old new not p = p

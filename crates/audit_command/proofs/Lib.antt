@@ -1,0 +1,5 @@
+mod AnswerKinds
+mod Audits
+mod Ended
+mod Opened
+mod Recounts

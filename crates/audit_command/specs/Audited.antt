@@ -1,0 +1,61 @@
+-- What is compared with the samples that were counted again, and which difference is found.
+--   Meant          which segment is meant for each gauge
+--   IsItem         that of a list, which keeps its rules
+--   HasKept        one that has what the bodies of the gauge keep
+--   IsStanding     one that stands for the first so many samples of the gauge
+--   AuditsGauge    the first difference of a gauge, or none
+--   AllSame        no gauge below this one has any
+--   Finds          what an answer says that comes after all were compared
+use Rattle.std.specs.Prelude.{◌≡◌, ◌<◌, ℕ, ℤ, List, length, take, slice_index, slice_index_or, Option, Some, None}
+use Rattle.calibration.specs.History.{history}
+use Rattle.three_point.specs.Run.{three_point}
+use Rattle.segment_rules.specs.Parts.{PartsValue}
+use Rattle.report.specs.Counts.{counts_of}
+use Rattle.segment.specs.Segment.{SegmentValue, IsSegment, Stands}
+use Rattle.recount.specs.Compared.{Compares}
+use Rattle.recount.specs.declared.compare.Difference.{Difference}
+use Rattle.segment_store.specs.Holds.{gain_at}
+use Rattle.segment_store.specs.Keeps.{Keeps, bodies_of}
+use Rattle.site_config.specs.declared.config.Config.{Config}
+use Rattle.status.specs.declared.status.Status.{Status}
+use Rattle.status.specs.declared.status.Status.TheVariants.{Done, WriteFault, Differs}
+
+abbrev pub Meant : Type 1
+Meant = ℕ → SegmentValue → Type 0
+
+abbrev pub IsItem : List SegmentValue → Meant
+IsItem held g v = (v ≡ slice_index_or held g v) × IsSegment v
+
+abbrev pub HasKept : List PartsValue → Meant
+HasKept bodies g v = Keeps v (bodies_of g bodies)
+
+abbrev pub IsStanding : Config → (ℕ → List ℤ) → Meant
+IsStanding c w g v = Stands v (gain_at c.setup g) (w g)
+
+-- of each gauge the first samples, as many as are held
+abbrev pub first_samples : (ℕ → List ℤ) → List ℕ → ℕ → List ℤ
+first_samples w n g = take (slice_index n g) (w g)
+
+-- used, missing and refused samples, and the half units of each pair, are compared with those of the samples w of the gauge
+abbrev pub AuditsGauge : Config → Meant → (ℕ → List ℤ) → ℕ → Option Difference → Type 0
+AuditsGauge c meant w g other = (v : SegmentValue) × meant g v × (v.grid ≡ c.setup.grid) × Compares v
+    (counts_of c.setup.grid (gain_at c.setup g) (w g)) (three_point (history c.setup.grid (gain_at c.setup g) (w g))) other
+
+abbrev pub AllSame : Config → Meant → (ℕ → List ℤ) → ℕ → Type 0
+AllSame c meant w k = (g : ℕ) → g < k → AuditsGauge c meant w g None
+
+abbrev pub Finds : Config → Meant → (ℕ → List ℤ) → Status → Type 0
+Finds c meant w Done = AllSame c meant w (length c.gauges)
+Finds c meant w WriteFault = AllSame c meant w (length c.gauges)
+Finds c meant w (Differs g what held found) = (g < length c.gauges) × AllSame c meant w g
+    × AuditsGauge c meant w g (Some (record { what = what; held = held; found = found }))
+Finds c meant w status = Unit {0}
+
+-- the answer of comparing, if there is one
+abbrev pub FirstOther : Config → Meant → (ℕ → List ℤ) → Option Status → Type 0
+FirstOther c meant w None = Finds c meant w Done
+FirstOther c meant w (Some status) = Finds c meant w status
+
+abbrev pub IsOther : Status → Type 0
+IsOther (Differs g what held found) = Unit {0}
+IsOther status = ⊥

@@ -1,0 +1,4 @@
+pub mod Recounted
+pub mod Audited
+pub mod Answers
+pub mod Printing

@@ -1,0 +1,134 @@
+ghost use Rattle.std.specs.Prelude.{◌≡◌, ◌≢◌, ◌≤◌, ◌⊎◌, ◌++◌, [], ◌∷◌, ℕ, ℤ, List, Ok, length};
+ghost use Rattle.outside.specs.Fault.{Rose};
+ghost use Rattle.segment_store.specs.Holds.{Holds};
+ghost use Rattle.segment_store.specs.Quiet.{IsQuiet};
+ghost use Rattle.site_config.specs.Configuration.{config_of_bytes};
+ghost use Rattle.site_config.specs.Valid.{IsConfig};
+ghost use Rattle.site_config.specs.declared.config.Config.{Config};
+ghost use Rattle.site_config.specs.declared.limits.TheConstants.{MAX_NAME_BYTES};
+ghost use Rattle.recorded.specs.Recorded.{recorded};
+ghost use Rattle.fault_lines.specs.FaultLine.{fault_line, name_by, name_for};
+ghost use Rattle.fault_lines.specs.Telling.{TellsAtMost};
+ghost use Rattle.status.specs.declared.status.Status.TheVariants.{Done, Usage, ReadFault, WriteFault, DiskFault, OutOfMemory};
+ghost use Rattle.report_command.specs.Printing.{IsPrinting};
+ghost use Rattle.audit_command.specs.Audited.{Finds, IsStanding, first_samples};
+ghost use Rattle.audit_command.specs.Answers.{AnswersOver, AuditAnswers, IsAudited, IsSound};
+ghost use Rattle.audit_command.specs.Printing.{Prints};
+
+use crate::audited::audit_held;
+use config_reading::read_config;
+use fault_lines::{FaultLine, name_in, tell_fault, tell_no_memory};
+use outside::{Sink, Site, Source};
+use report_command::status_of;
+use segment_store::Store;
+use site_config::{Config, MAX_NAME_BYTES};
+use station::Station;
+use status::Status;
+use std::alloc::Global;
+
+/// Counts the held samples of a site's recordings again, and compares them with what its store
+/// holds. Whatever else than `Done` is answered is told by its line.
+pub fn audit_command<C: Source, T: Site, K: Station, O: Sink>(
+    alloc: Global,
+    config: &mut C,
+    site: &mut T,
+    station: &mut K,
+    out: &mut O,
+) -> Status
+    requires home { T.out site.old ≡ 0 }
+    // Which answer it is, by what the bodies of each gauge keep and what its recording begins with.
+    ensures answer { K.tells → T.tells → C.tells → AuditAnswers
+        (config_of_bytes (C.left config.old)) (K.seen station.old) (T.files site.old) result }
+    // Where the bodies stand for samples, these are compared with what the recording begins with.
+    ensures stands { K.tells → T.tells → C.tells → (conf : Config) →
+        config_of_bytes (C.left config.old) ≡ Ok conf → (w : ℕ → List ℤ) (n : List ℕ) →
+        Holds conf.setup w n (K.seen station.old) →
+        Finds conf (IsStanding conf (first_samples w n))
+        (first_samples (recorded conf (T.files site.old)).samples n) result }
+    ensures complete { K.tells → T.tells → C.tells → IsSound
+        (config_of_bytes (C.left config.old)) (K.seen station.old) (T.files site.old) →
+        (Rose (C.faults config.old) (C.faults config.new) → ⊥) →
+        (Rose (T.faults site.old) (T.faults site.new) → ⊥) →
+        (Rose (K.faults station.old) (K.faults station.new) → ⊥) →
+        (Rose (O.faults out.old) (O.faults out.new) → ⊥) →
+        (result ≡ Done) ⊎ (result ≡ OutOfMemory) }
+    // A line for each gauge.
+    ensures prints { O.tells → C.tells → (conf : Config) →
+        config_of_bytes (C.left config.old) ≡ Ok conf →
+        Prints result conf (O.written out.old) (O.written out.new) }
+    ensures nothing { O.tells → (IsPrinting result → ⊥) → O.written out.new ≡ O.written out.old }
+    // At most the line of the answer is told, and the store stays.
+    ensures quiet { K.tells → C.tells → TellsAtMost
+        (fault_line result (name_by (config_of_bytes (C.left config.old)) result))
+        (K.clock station.old) (K.moments station.old) (K.clock station.new) (K.moments station.new)
+        (K.told station.old) (K.told station.new) (K.seen station.old) (K.seen station.new)
+        (K.leaves station.old) (K.leaves station.new) }
+    ensures silent { K.tells → result ≡ Done → K.told station.new ≡ K.told station.old }
+    ensures last { K.tells → C.tells → result ≢ Done →
+        Rose (K.faults station.old) (K.faults station.new) ⊎
+        (K.told station.new ≡ K.told station.old ++
+        fault_line result (name_by (config_of_bytes (C.left config.old)) result) ∷ []) }
+    ensures named { result ≢ Usage }
+    ensures read { result ≡ ReadFault → Rose (C.faults config.old) (C.faults config.new) ⊎
+        Rose (T.faults site.old) (T.faults site.new) }
+    ensures write { result ≡ WriteFault → Rose (O.faults out.old) (O.faults out.new) }
+    ensures disk { result ≡ DiskFault → Rose (K.faults station.old) (K.faults station.new) }
+    ensures back { T.out site.new ≡ 0 }
+    ensures files { T.tells → T.files site.new ≡ T.files site.old }
+{
+    let Ok(mut line) = FaultLine::new(alloc, MAX_NAME_BYTES) else {
+        tell_no_memory(station);
+        return Status::OutOfMemory;
+    };
+    match read_config(alloc, config) {
+        Ok(conf) => {
+            let status = audit_by(alloc, &conf, site, station, out);
+            tell_fault(station, &mut line, status, name_in(&conf, status));
+            status
+        }
+        Err(status) => {
+            tell_fault(station, &mut line, status, "");
+            status
+        }
+    }
+}
+
+// The same by a configuration, and nothing is told.
+fn audit_by<T: Site, K: Station, O: Sink>(
+    alloc: Global,
+    conf: &Config,
+    site: &mut T,
+    station: &mut K,
+    out: &mut O,
+) -> Status
+    requires conf { IsConfig conf.now }
+    requires home { T.out site.old ≡ 0 }
+    ensures answer { K.tells → T.tells →
+        AnswersOver conf.now (K.seen station.old) (T.files site.old) result }
+    ensures stands { K.tells → T.tells → (w : ℕ → List ℤ) (n : List ℕ) →
+        Holds conf.now.setup w n (K.seen station.old) →
+        Finds conf.now (IsStanding conf.now (first_samples w n))
+        (first_samples (recorded conf.now (T.files site.old)).samples n) result }
+    ensures complete { K.tells → T.tells →
+        IsAudited conf.now (K.seen station.old) (T.files site.old) →
+        (Rose (T.faults site.old) (T.faults site.new) → ⊥) →
+        (Rose (K.faults station.old) (K.faults station.new) → ⊥) →
+        (Rose (O.faults out.old) (O.faults out.new) → ⊥) →
+        (result ≡ Done) ⊎ (result ≡ OutOfMemory) }
+    ensures prints { O.tells → Prints result conf.now (O.written out.old) (O.written out.new) }
+    ensures quiet { K.tells → IsQuiet (K.clock station.old) (K.moments station.old)
+        (K.clock station.new) (K.moments station.new) (K.told station.old) (K.told station.new)
+        (K.seen station.old) (K.seen station.new) (K.leaves station.old) (K.leaves station.new) }
+    ensures later { K.faults station.old ≤ K.faults station.new }
+    ensures named { result ≢ Usage }
+    ensures read { result ≡ ReadFault → Rose (T.faults site.old) (T.faults site.new) }
+    ensures write { result ≡ WriteFault → Rose (O.faults out.old) (O.faults out.new) }
+    ensures disk { result ≡ DiskFault → Rose (K.faults station.old) (K.faults station.new) }
+    ensures back { T.out site.new ≡ 0 }
+    ensures files { T.tells → T.files site.new ≡ T.files site.old }
+{
+    match Store::resume(alloc, station, &conf.setup) {
+        Ok(store) => audit_held(alloc, conf, &store, site, out),
+        Err(fault) => status_of(fault),
+    }
+}

@@ -1,0 +1,172 @@
+ghost use Rattle.std.specs.Prelude.{
+  ◌≡◌,
+  ◌<◌,
+  ◌≤◌,
+  ℕ,
+  ℤ,
+  List,
+  Some,
+  Err,
+  IfOk,
+  IfErr,
+  OnOk,
+  length,
+  take,
+  slice_index,
+  vec_len,
+  vec_capacity,
+};
+ghost use Rattle.outside.specs.Fault.{Rose};
+ghost use Rattle.recording.specs.Samples.{samples as samples_of};
+ghost use Rattle.recording.specs.declared.TheConstants.{MAX_SAMPLES};
+ghost use Rattle.recount.specs.Counted.{IsRecount};
+ghost use Rattle.segment_store.specs.Held.{ends_of};
+ghost use Rattle.site_config.specs.Valid.{IsConfig};
+ghost use Rattle.recorded.specs.Recorded.{body_in, recorded};
+ghost use Rattle.site_lanes.specs.Answers.{GaugeAnswers, OpenAnswers};
+ghost use Rattle.site_lanes.specs.Opening.{fault_of, status_of as opened_status_of};
+ghost use Rattle.status.specs.declared.status.Status.TheVariants.{ReadFault};
+ghost use Rattle.audit_command.specs.Recounted.{
+  AreRecounts,
+  IsOfFirst,
+  IsRecounting,
+  SourceAnswers,
+  recounted_status as recounted_status_of,
+};
+
+use calibration::{Gain, Grid};
+use outside::{Site, Source};
+use recording::Head;
+use recount::{Recount, RecountFault, count_again};
+use segment_store::Store;
+use site_config::Config;
+use site_lanes::{OpenFault, open_recording};
+use status::{RecordingFault, Status};
+use std::alloc::Global;
+
+/// Counts the held samples of all recordings again, in order of gauge. Where it refuses, the
+/// recounts so far are left in `recounts`. Every source is back at the site.
+pub(crate) fn recount_all<T: Site>(
+    alloc: Global,
+    conf: &Config,
+    store: &Store,
+    site: &mut T,
+    recounts: &mut Vec<Recount>,
+) -> Result<(), Status>
+    requires conf { IsConfig conf.now }
+    requires setup { store.now.head.setup ≡ conf.now.setup }
+    requires held { length store.now.held ≡ length conf.now.gauges }
+    requires heads { length store.now.head.heads ≡ length conf.now.gauges }
+    requires home { T.out site.old ≡ 0 }
+    requires none { vec_len recounts.old ≡ 0 }
+    requires room { length conf.now.gauges ≤ vec_capacity recounts.old }
+    ensures all { OnOk result (vec_len recounts.new ≡ length conf.now.gauges) }
+    ensures counted { AreRecounts conf.now T.tells (recorded conf.now (T.files site.old)).samples
+        (slice_index (ends_of store.now.held)) recounts.new.items }
+    ensures answer { T.tells → OpenAnswers conf.now store.now.head.heads
+        (slice_index (ends_of store.now.held)) (T.files site.old) result }
+    ensures kind { IfErr result IsRecounting }
+    ensures back { T.out site.new ≡ 0 }
+    ensures files { T.tells → T.files site.new ≡ T.files site.old }
+    ensures cause { result ≡ Err ReadFault → Rose (T.faults site.old) (T.faults site.new) }
+    ensures later { T.faults site.old ≤ T.faults site.new }
+{
+    for gauge in 0..conf.gauges.as_slice().len() {
+        match recount_gauge(alloc, conf, store, gauge as u16, site) {
+            Ok(recount) => recounts.push_reserved(recount),
+            Err(status) => return Err(status),
+        }
+    }
+    Ok(())
+}
+
+// Counts the held samples of the recording of a gauge again.
+fn recount_gauge<T: Site>(
+    alloc: Global,
+    conf: &Config,
+    store: &Store,
+    gauge: u16,
+    site: &mut T,
+) -> Result<Recount, Status>
+    requires conf { IsConfig conf.now }
+    requires known { gauge < length conf.now.gauges }
+    requires held { length store.now.held ≡ length conf.now.gauges }
+    requires heads { length store.now.head.heads ≡ length conf.now.gauges }
+    requires home { T.out site.old ≡ 0 }
+    ensures counted { IfOk result (IsOfFirst conf.now T.tells
+        (recorded conf.now (T.files site.old)).samples
+        (slice_index (ends_of store.now.held)) gauge) }
+    ensures answer { T.tells → GaugeAnswers conf.now store.now.head.heads
+        (slice_index (ends_of store.now.held)) (T.files site.old) gauge result }
+    ensures kind { IfErr result IsRecounting }
+    ensures back { T.out site.new ≡ 0 }
+    ensures files { T.tells → T.files site.new ≡ T.files site.old }
+    ensures cause { result ≡ Err ReadFault → Rose (T.faults site.old) (T.faults site.new) }
+    ensures later { T.faults site.old ≤ T.faults site.new }
+{
+    let name = conf.gauges.as_slice()[gauge as usize].file.as_str();
+    let mut src = match site.fetch(name) {
+        Ok(src) => src,
+        Err(_) => return Err(Status::ReadFault),
+    };
+    let answer = recount_source(
+        alloc,
+        &mut src,
+        &store.head().heads.as_slice()[gauge as usize],
+        &conf.setup.gains.as_slice()[gauge as usize],
+        &conf.setup.grid,
+        gauge,
+        store.held(gauge).name().to,
+    );
+    site.give_back(src);
+    answer
+}
+
+// Opens a recording, and counts its first samples again.
+fn recount_source<S: Source>(
+    alloc: Global,
+    src: &mut S,
+    kept: &Head,
+    gain: &Gain,
+    grid: &Grid,
+    gauge: u16,
+    held: u64,
+) -> Result<Recount, Status>
+    requires few { held ≤ MAX_SAMPLES }
+    ensures counted { IfOk result (λ found. (w : List ℤ) × (IsRecount grid.now gain.now found w ×
+        (S.tells → w ≡ take held (samples_of (body_in (Some (S.left src.old))))))) }
+    ensures answer { S.tells → SourceAnswers (fault_of kept.now held (S.left src.old)) gauge result }
+    ensures kind { IfErr result IsRecounting }
+    ensures cause { result ≡ Err ReadFault → Rose (S.faults src.old) (S.faults src.new) }
+    ensures later { S.faults src.old ≤ S.faults src.new }
+{
+    match open_recording(src, kept, 0) {
+        Ok(()) => match count_again(alloc, src, gain, grid, held) {
+            Ok(recount) => Ok(recount),
+            Err(fault) => Err(recounted_status(gauge, held, fault)),
+        },
+        Err(fault) => Err(opened_status(gauge, fault)),
+    }
+}
+
+fn opened_status(gauge: u16, fault: OpenFault) -> Status
+    ensures { result ≡ opened_status_of gauge fault }
+{
+    match fault {
+        OpenFault::Recording(fault) => Status::Recording { gauge, fault },
+        OpenFault::ReadFault => Status::ReadFault,
+    }
+}
+
+fn recounted_status(gauge: u16, held: u64, fault: RecountFault) -> Status
+    ensures { result ≡ recounted_status_of gauge held fault }
+{
+    match fault {
+        RecountFault::Fewer { there } => Status::Recording {
+            gauge,
+            fault: RecordingFault::Fewer { held, there },
+        },
+        RecountFault::ReadFault => Status::ReadFault,
+        RecountFault::OutOfMemory => Status::OutOfMemory,
+    }
+}

@@ -1,0 +1,161 @@
+ghost use Rattle.std.specs.Prelude.{◌≡◌, ◌≤◌, ℕ, ℤ, List, false, length};
+ghost use Rattle.std.specs.List.{All};
+ghost use Rattle.outside.specs.Fault.{Rose};
+ghost use Rattle.outside.specs.Site.{Files};
+ghost use Rattle.round_making.specs.declared.TheConstants.{MAX_WORKERS};
+ghost use Rattle.segment_store.specs.Held.{ends_of};
+ghost use Rattle.segment_store.specs.Moments.{IsThere};
+ghost use Rattle.segment_store.specs.Quiet.{IsQuiet};
+ghost use Rattle.site_config.specs.Valid.{IsConfig};
+ghost use Rattle.recorded.specs.Recorded.{recorded};
+ghost use Rattle.held_samples.specs.Going.{Going, IsStored};
+ghost use Rattle.held_samples.specs.Told.{Acknowledges};
+ghost use Rattle.site_lanes.specs.Lanes.{AreLanes, AreHeldTo, HasSource, IsFaulty, HasNotFailed};
+ghost use Rattle.site_report.specs.Room.{HasRoom};
+ghost use Rattle.status.specs.declared.status.Status.TheVariants.{Done, ReadFault, WriteFault, DiskFault};
+ghost use Rattle.count_command.specs.Holding.{HeldAt, HeldCut, LeavesStore};
+ghost use Rattle.count_command.specs.Answer.{EndAnswers, IsEnding};
+ghost use Rattle.count_command.specs.Printed.{AllStandFor, Prints, IsPrinting};
+
+use board::Board;
+use count_workers::{Lane, Plan, Prepared};
+use held_rounds::count_rounds;
+use held_samples::HeldLine;
+use outside::{Gate, Sink, Source};
+use segment_store::Store;
+use site_config::Config;
+use site_lanes::first_fault;
+use site_report::Report;
+use station::Station;
+use status::Status;
+use std::sync::Wait;
+use std::thread::Threads;
+
+// Prints the report of what is held.
+fn print_held<O: Sink>(conf: &Config, store: &Store, report: &mut Report, out: &mut O) -> Status
+    requires conf { IsConfig conf.now }
+    requires setup { store.now.head.setup ≡ conf.now.setup }
+    requires gauges { length store.now.held ≡ length conf.now.gauges }
+    requires room { HasRoom conf.now report.old }
+    ensures prints { O.tells → (w : ℕ → List ℤ) → AllStandFor conf.now.setup w store.now.held →
+        Prints result conf.now w (O.written out.old) (O.written out.new) }
+    ensures kind { IsPrinting result }
+    ensures write { result ≡ WriteFault → Rose (O.faults out.old) (O.faults out.new) }
+{
+    match report.print(conf, store, out) {
+        Ok(()) => Status::Done,
+        Err(_) => Status::WriteFault,
+    }
+}
+
+/// Rounds over lanes that were opened, and then the report. All memory is taken before the first
+/// round.
+pub fn count_opened<
+    R: AllocGlobal + Threads + Wait + Sync,
+    C: Source + Send,
+    K: Station,
+    O: Sink,
+    G: Gate + Sync,
+>(
+    rt: &R,
+    workers: u8,
+    conf: &Config,
+    store: &mut Store,
+    lanes: &mut [Lane<C>],
+    station: &mut K,
+    out: &mut O,
+    gate: &G,
+) -> Status
+    requires workers { (1 ≤ workers) × (workers ≤ MAX_WORKERS) }
+    requires conf { IsConfig conf.now }
+    requires usable { store.old.shut ≡ false }
+    requires gauges { (length store.old.held ≡ length conf.now.gauges)
+        × (length lanes.old ≡ length conf.now.gauges) }
+    requires setup { store.old.head.setup ≡ conf.now.setup }
+    requires lanes { AreHeldTo (ends_of store.old.held) lanes.old }
+    requires sources { All HasSource lanes.old }
+    requires faulty { All (IsFaulty C.faults) lanes.old }
+    requires on { K.tells → IsThere store.old (K.seen station.old) (K.leaves station.old) }
+    // Every moment is kept, whatever it answers.
+    ensures going { K.tells → C.tells → (files : Files) →
+        AreLanes C.tells C.left (recorded conf.now files) lanes.old →
+        IsStored (recorded conf.now files) store.old (K.seen station.old) (K.leaves station.old) →
+        Going (recorded conf.now files) (ends_of store.old.held)
+        (K.clock station.old) (K.moments station.old) (K.told station.old)
+        (K.clock station.new) (K.moments station.new) (K.told station.new)
+        (K.leaves station.new) (ends_of store.new.held) }
+    // What is held at the end.
+    ensures ended { K.tells → C.tells → (files : Files) →
+        AreLanes C.tells C.left (recorded conf.now files) lanes.old →
+        IsStored (recorded conf.now files) store.old (K.seen station.old) (K.leaves station.old) →
+        HeldAt result (recorded conf.now files) (K.leaves station.new) }
+    ensures cut { K.tells → C.tells → (files : Files) →
+        AreLanes C.tells C.left (recorded conf.now files) lanes.old →
+        IsStored (recorded conf.now files) store.old (K.seen station.old) (K.leaves station.old) →
+        All HasNotFailed lanes.new →
+        HeldCut result (recorded conf.now files) (K.leaves station.new) }
+    // What is told and printed.
+    ensures acknowledged { K.tells → C.tells → (files : Files) →
+        AreLanes C.tells C.left (recorded conf.now files) lanes.old → result ≡ Done →
+        Acknowledges conf.now.block (recorded conf.now files) (ends_of store.old.held)
+        (K.told station.old) (K.told station.new) }
+    ensures prints { O.tells → K.tells → C.tells → (files : Files) →
+        AreLanes C.tells C.left (recorded conf.now files) lanes.old →
+        IsStored (recorded conf.now files) store.old (K.seen station.old) (K.leaves station.old) →
+        Prints result conf.now (recorded conf.now files).samples
+        (O.written out.old) (O.written out.new) }
+    ensures nothing { O.tells → (IsPrinting result → ⊥) → O.written out.new ≡ O.written out.old }
+    // Which answer it is.
+    ensures answer { C.tells → (files : Files) →
+        AreLanes C.tells C.left (recorded conf.now files) lanes.old →
+        EndAnswers conf.now files result }
+    ensures kind { IsEnding result }
+    ensures quiet { K.tells → LeavesStore result → IsQuiet
+        (K.clock station.old) (K.moments station.old) (K.clock station.new) (K.moments station.new)
+        (K.told station.old) (K.told station.new) (K.seen station.old) (K.seen station.new)
+        (K.leaves station.old) (K.leaves station.new) }
+    ensures read { result ≡ ReadFault → All HasNotFailed lanes.new → ⊥ }
+    ensures write { result ≡ WriteFault → Rose (O.faults out.old) (O.faults out.new) }
+    ensures disk { result ≡ DiskFault → Rose (K.faults station.old) (K.faults station.new) }
+    ensures later { K.faults station.old ≤ K.faults station.new }
+    ensures sources { All HasSource lanes.new }
+    ensures faulty { All (IsFaulty C.faults) lanes.new }
+    ensures count { length lanes.new ≡ length lanes.old }
+{
+    let plan = Plan {
+        grid: conf.setup.grid,
+        gauges: conf.gauges.as_slice().len() as u16,
+        block: conf.block,
+        workers,
+    };
+    let Ok(mut prepared) = Prepared::new(rt.alloc(), &plan) else {
+        return Status::OutOfMemory;
+    };
+    let Ok(board) = Board::new(rt.alloc(), plan.gauges, plan.block, &plan.grid) else {
+        return Status::OutOfMemory;
+    };
+    let Ok(mut report) = Report::new(rt.alloc(), conf) else {
+        return Status::OutOfMemory;
+    };
+    let Ok(mut line) = HeldLine::new(rt.alloc()) else {
+        return Status::OutOfMemory;
+    };
+    match count_rounds(
+        rt,
+        &mut prepared,
+        board,
+        lanes,
+        conf,
+        store,
+        station,
+        gate,
+        &mut line,
+    ) {
+        Ok(()) => {}
+        Err(_) => return Status::DiskFault,
+    }
+    match first_fault(lanes) {
+        Some(status) => status,
+        None => print_held(conf, store, &mut report, out),
+    }
+}

@@ -1,0 +1,222 @@
+ghost use Rattle.std.specs.Prelude.{
+  ◌≡◌,
+  ◌≤◌,
+  ℕ,
+  List,
+  false,
+  length,
+  slice_index,
+  vec_len,
+  vec_capacity,
+};
+ghost use Rattle.std.specs.List.{All};
+ghost use Rattle.outside.specs.Fault.{Rose};
+ghost use Rattle.round_making.specs.declared.TheConstants.{MAX_WORKERS};
+ghost use Rattle.segment_store.specs.Held.{ends_of};
+ghost use Rattle.segment_store.specs.Holds.{Holds};
+ghost use Rattle.segment_store.specs.Moments.{IsThere};
+ghost use Rattle.segment_store.specs.Quiet.{IsQuiet};
+ghost use Rattle.site_config.specs.Valid.{IsConfig};
+ghost use Rattle.recorded.specs.Recorded.{recorded};
+ghost use Rattle.held_samples.specs.Going.{AllHold, Going, Safe, IsStored};
+ghost use Rattle.held_samples.specs.Told.{Acknowledges};
+ghost use Rattle.site_lanes.specs.Answers.{HeadsFit, AllSound};
+ghost use Rattle.site_lanes.specs.Lanes.{HasSource, IsFaulty, HasNotFailed};
+ghost use Rattle.status.specs.declared.status.Status.TheVariants.{Done, ReadFault, WriteFault, DiskFault};
+ghost use Rattle.count_command.specs.Holding.{HeldAt, HeldCut, LeavesStore};
+ghost use Rattle.count_command.specs.Answer.{store_fault, RunAnswers, AnswersOver, IsRunning, IsCounting, IsComplete};
+ghost use Rattle.count_command.specs.Printed.{Prints, IsPrinting};
+
+use crate::opened::count_opened;
+use count_workers::Lane;
+use outside::{Gate, Sink, Site};
+use segment_store::{ResumeFault, Store};
+use site_config::Config;
+use site_lanes::{give_back, open_lanes};
+use station::Station;
+use status::{Status, StoreFault};
+use std::sync::Wait;
+use std::thread::Threads;
+
+// Counts over a store that was resumed. The lanes that were opened are left in `lanes`.
+fn count_stored<
+    R: AllocGlobal + Threads + Wait + Sync,
+    T: Site,
+    K: Station,
+    O: Sink,
+    G: Gate + Sync,
+>(
+    rt: &R,
+    workers: u8,
+    conf: &Config,
+    store: &mut Store,
+    site: &mut T,
+    lanes: &mut Vec<Lane<T::Src>>,
+    station: &mut K,
+    out: &mut O,
+    gate: &G,
+) -> Status
+    requires workers { (1 ≤ workers) × (workers ≤ MAX_WORKERS) }
+    requires conf { IsConfig conf.now }
+    requires home { T.out site.old ≡ 0 }
+    requires none { vec_len lanes.old ≡ 0 }
+    requires room { length conf.now.gauges ≤ vec_capacity lanes.old }
+    requires usable { store.old.shut ≡ false }
+    requires gauges { (length store.old.held ≡ length conf.now.gauges)
+        × (length store.old.head.heads ≡ length conf.now.gauges) }
+    requires setup { store.old.head.setup ≡ conf.now.setup }
+    requires on { K.tells → IsThere store.old (K.seen station.old) (K.leaves station.old) }
+    // Every moment is kept, whatever it answers.
+    ensures going { K.tells → T.tells → IsStored (recorded conf.now (T.files site.old)) store.old
+        (K.seen station.old) (K.leaves station.old) →
+        Going (recorded conf.now (T.files site.old)) (ends_of store.old.held)
+        (K.clock station.old) (K.moments station.old) (K.told station.old)
+        (K.clock station.new) (K.moments station.new) (K.told station.new)
+        (K.leaves station.new) (ends_of store.new.held) }
+    // What is held at the end.
+    ensures ended { K.tells → T.tells → IsStored (recorded conf.now (T.files site.old)) store.old
+        (K.seen station.old) (K.leaves station.old) →
+        HeldAt result (recorded conf.now (T.files site.old)) (K.leaves station.new) }
+    ensures cut { K.tells → T.tells → IsStored (recorded conf.now (T.files site.old)) store.old
+        (K.seen station.old) (K.leaves station.old) → All HasNotFailed lanes.new.items →
+        HeldCut result (recorded conf.now (T.files site.old)) (K.leaves station.new) }
+    // What is told and printed.
+    ensures acknowledged { K.tells → T.tells → result ≡ Done →
+        Acknowledges conf.now.block (recorded conf.now (T.files site.old))
+        (ends_of store.old.held) (K.told station.old) (K.told station.new) }
+    ensures prints { O.tells → K.tells → T.tells →
+        IsStored (recorded conf.now (T.files site.old)) store.old
+        (K.seen station.old) (K.leaves station.old) →
+        Prints result conf.now (recorded conf.now (T.files site.old)).samples
+        (O.written out.old) (O.written out.new) }
+    ensures nothing { O.tells → (IsPrinting result → ⊥) → O.written out.new ≡ O.written out.old }
+    // Which answer it is.
+    ensures answer { T.tells → RunAnswers conf.now store.old.head.heads
+        (slice_index (ends_of store.old.held)) (T.files site.old) result }
+    ensures kind { IsRunning result }
+    ensures quiet { K.tells → LeavesStore result → IsQuiet
+        (K.clock station.old) (K.moments station.old) (K.clock station.new) (K.moments station.new)
+        (K.told station.old) (K.told station.new) (K.seen station.old) (K.seen station.new)
+        (K.leaves station.old) (K.leaves station.new) }
+    ensures read { result ≡ ReadFault → All HasNotFailed lanes.new.items →
+        Rose (T.faults site.old) (T.faults site.new) }
+    ensures write { result ≡ WriteFault → Rose (O.faults out.old) (O.faults out.new) }
+    ensures disk { result ≡ DiskFault → Rose (K.faults station.old) (K.faults station.new) }
+    ensures out { T.out site.new ≡ vec_len lanes.new }
+    ensures sources { All HasSource lanes.new.items }
+    ensures faulty { All (IsFaulty T.Src.faults) lanes.new.items }
+    ensures files { T.tells → T.files site.new ≡ T.files site.old }
+    ensures site { T.faults site.old ≤ T.faults site.new }
+    ensures later { K.faults station.old ≤ K.faults station.new }
+{
+    match open_lanes(conf, store, site, lanes) {
+        Ok(()) => {}
+        Err(status) => return status,
+    }
+    count_opened(
+        rt,
+        workers,
+        conf,
+        store,
+        lanes.as_mut_slice(),
+        station,
+        out,
+        gate,
+    )
+}
+
+fn status_of(fault: ResumeFault) -> Status
+    ensures { result ≡ store_fault fault }
+{
+    match fault {
+        ResumeFault::NotAStore => Status::Store(StoreFault::NotAStore),
+        ResumeFault::Version(version) => Status::Store(StoreFault::Version(version)),
+        ResumeFault::Differs { field, kept, found } => {
+            Status::Store(StoreFault::Differs { field, kept, found })
+        }
+        ResumeFault::Damaged { index, damage } => {
+            Status::Store(StoreFault::Damaged { index, damage })
+        }
+        ResumeFault::DiskFault => Status::DiskFault,
+        ResumeFault::OutOfMemory => Status::OutOfMemory,
+    }
+}
+
+/// Counts by a configuration. All sources are back at the site when the call returns.
+pub fn count_by<
+    R: AllocGlobal + Threads + Wait + Sync,
+    T: Site,
+    K: Station,
+    O: Sink,
+    G: Gate + Sync,
+>(
+    rt: &R,
+    workers: u8,
+    conf: &Config,
+    site: &mut T,
+    station: &mut K,
+    out: &mut O,
+    gate: &G,
+) -> Status
+    requires workers { (1 ≤ workers) × (workers ≤ MAX_WORKERS) }
+    requires conf { IsConfig conf.now }
+    requires home { T.out site.old ≡ 0 }
+    // Every moment is kept, whatever it answers.
+    ensures safe { K.tells → T.tells → (a : List ℕ) →
+        AllHold (recorded conf.now (T.files site.old)) a (K.leaves station.old) →
+        Safe (recorded conf.now (T.files site.old)) a
+        (K.clock station.old) (K.moments station.old) (K.told station.old)
+        (K.clock station.new) (K.moments station.new) (K.told station.new)
+        (K.leaves station.new) }
+    // What is held at the end.
+    ensures ended { K.tells → T.tells → (a : List ℕ) →
+        AllHold (recorded conf.now (T.files site.old)) a (K.leaves station.old) →
+        HeldAt result (recorded conf.now (T.files site.old)) (K.leaves station.new) }
+    ensures cut { K.tells → T.tells → (a : List ℕ) →
+        AllHold (recorded conf.now (T.files site.old)) a (K.leaves station.old) →
+        (Rose (T.faults site.old) (T.faults site.new) → ⊥) →
+        HeldCut result (recorded conf.now (T.files site.old)) (K.leaves station.new) }
+    // What is told and printed.
+    ensures acknowledged { K.tells → T.tells → (n : List ℕ) →
+        Holds conf.now.setup (recorded conf.now (T.files site.old)).samples n
+        (K.seen station.old) → result ≡ Done →
+        Acknowledges conf.now.block (recorded conf.now (T.files site.old)) n
+        (K.told station.old) (K.told station.new) }
+    ensures prints { O.tells → K.tells → T.tells → (a : List ℕ) →
+        AllHold (recorded conf.now (T.files site.old)) a (K.leaves station.old) →
+        Prints result conf.now (recorded conf.now (T.files site.old)).samples
+        (O.written out.old) (O.written out.new) }
+    ensures nothing { O.tells → (IsPrinting result → ⊥) → O.written out.new ≡ O.written out.old }
+    // Which answer it is.
+    ensures answer { K.tells → T.tells →
+        AnswersOver conf.now (K.seen station.old) (T.files site.old) result }
+    // Over a sound store and sound recordings there is no refusal.
+    ensures complete { K.tells → T.tells → (n : List ℕ)
+        (h : Holds conf.now.setup (recorded conf.now (T.files site.old)).samples n
+        (K.seen station.old)) → HeadsFit conf.now h.head.heads (T.files site.old) →
+        AllSound conf.now (T.files site.old) (length conf.now.gauges) → IsComplete result }
+    ensures kind { IsCounting result }
+    ensures quiet { K.tells → LeavesStore result → IsQuiet
+        (K.clock station.old) (K.moments station.old) (K.clock station.new) (K.moments station.new)
+        (K.told station.old) (K.told station.new) (K.seen station.old) (K.seen station.new)
+        (K.leaves station.old) (K.leaves station.new) }
+    ensures read { result ≡ ReadFault → Rose (T.faults site.old) (T.faults site.new) }
+    ensures write { result ≡ WriteFault → Rose (O.faults out.old) (O.faults out.new) }
+    ensures disk { result ≡ DiskFault → Rose (K.faults station.old) (K.faults station.new) }
+    ensures back { T.out site.new ≡ 0 }
+    ensures files { T.tells → T.files site.new ≡ T.files site.old }
+    ensures later { K.faults station.old ≤ K.faults station.new }
+{
+    let mut store = match Store::resume(rt.alloc(), station, &conf.setup) {
+        Ok(store) => store,
+        Err(fault) => return status_of(fault),
+    };
+    let Ok(mut lanes) = Vec::with_capacity(rt.alloc(), conf.gauges.as_slice().len()) else {
+        return Status::OutOfMemory;
+    };
+    let status = count_stored(
+        rt, workers, conf, &mut store, site, &mut lanes, station, out, gate,
+    );
+    give_back(site, lanes);
+    status
+}

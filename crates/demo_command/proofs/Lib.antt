@@ -1,0 +1,6 @@
+mod Joining
+mod MadeBytes
+mod OneSummary
+mod Rounds
+mod Summing
+mod Sums

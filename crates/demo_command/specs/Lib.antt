@@ -1,0 +1,4 @@
+pub mod Made
+pub mod Totals
+pub mod Summary
+pub mod Answer

@@ -1,0 +1,26 @@
+//! The command `demo`: four recordings that are made from a number, counted in rounds and summed up
+//! in five lines, without a store and a configuration.
+//!
+//! `specs/Made.antt` says what the recordings are, and `specs/Summary.antt` what is printed of them:
+//! for each gauge the half units of its rainflow table (ASTM E1049-85, 5.4.4) as cycles, and how
+//! many levels the four-point method leaves. It is the same for every number of workers.
+//!
+//! Cost: the memory of rounds and of a segment for each gauge, all taken before the first sample.
+#![tactic(auto)]
+
+mod command;
+mod counting;
+mod made;
+mod text;
+mod totals;
+
+pub use command::demo_command;
+
+/// The greatest seed.
+pub const MAX_SEED: u64 = 9_223_372_036_854_775_807;
+
+/// The most samples of each gauge.
+pub const MAX_DEMO_SAMPLES: u64 = 1_000_000;
+
+#[cfg(test)]
+mod tests;

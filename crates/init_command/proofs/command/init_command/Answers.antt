@@ -1,0 +1,18 @@
+use Rattle.std.proofs.Common.{inl, inr, ⊎_elim}
+use Rattle.site_config.specs.Configuration.{config_of_bytes}
+use Rattle.init_command.proofs.StoreMade.{refused_line, init_complete}
+use Rattle.init_command.proofs.command.init_command.Goals as goal
+
+pub returns-in-Ok-read_config-clause-complete : goal.returns-in-Ok-read_config-clause-complete
+returns-in-Ok-read_config-clause-complete g c = λ tells shows gives conf is sound none no_config no_read no_disk.
+    init_complete (config_of_bytes (g.C.Source.left c.args.config.now)) c.in-Ok-read_config.conf conf (g.T.Site.files c.args.site.now)
+    (g.K.Station.seen c.args.station.now) (g.T.Site.faults c.args.site.now) (g.T.Site.faults c.init_by.new.site)
+    (g.K.Station.faults c.args.station.now) (g.K.Station.faults c.init_by.new.station) c.init_by.result
+    (c.in-Ok-read_config.ensures.meaning gives) is (c.init_by.ensures.answer tells shows) c.init_by.ensures.read c.init_by.ensures.disk sound none no_read no_disk
+
+pub returns-clause-last : goal.returns-clause-last
+returns-clause-last g c = λ tells gives some.
+    ⊎_elim (λ rose. inl rose)
+    (λ is. inr (refused_line (config_of_bytes (g.C.Source.left c.args.config.now)) c.in-Err.status (g.K.Station.told c.args.station.now)
+    (g.K.Station.told c.tell_fault.new.station) (c.in-Err.ensures.refusal) is))
+    (c.tell_fault.ensures.last tells some)

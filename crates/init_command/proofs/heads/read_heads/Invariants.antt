@@ -1,0 +1,14 @@
+use Rattle.std.proofs.Common.{◌≡◌, ◌≤◌, length}
+use Rattle.std.specs.Prelude.{vec_capacity}
+use Rattle.init_command.specs.Heads.{AreHeadsBelow}
+use Rattle.init_command.proofs.heads.read_heads.Given as goal
+
+abbrev pub invariant-loop-gauge : goal.invariant-loop-gauge
+invariant-loop-gauge g l = record {
+  each : g.T.Site.tells → AreHeadsBelow l.conf (g.T.Site.files l.fn.site) l.gauge l.heads.items;
+  many : length l.heads.items ≡ l.gauge;
+  room : length l.conf.gauges ≤ vec_capacity l.heads;
+  later : g.T.Site.faults l.fn.site ≤ g.T.Site.faults l.site;
+  back : g.T.Site.out l.site ≡ 0;
+  files : g.T.Site.tells → g.T.Site.files l.site ≡ g.T.Site.files l.fn.site;
+}

@@ -1,0 +1,76 @@
+ghost use Rattle.std.specs.Prelude.{◌≡◌, ◌≤◌, ◌<◌, Err, IfOk, IfErr, length};
+ghost use Rattle.outside.specs.Fault.{Rose};
+ghost use Rattle.site_config.specs.Valid.{IsConfig};
+ghost use Rattle.status.specs.declared.status.Status.TheVariants.{ReadFault};
+ghost use Rattle.init_command.specs.Heads.{HeadAnswer, HeadsAnswer, IsHeadsStatus, head_status as head_status_of};
+
+use outside::Site;
+use recording::{Head, HeadFault, read_head};
+use site_config::Config;
+use status::{RecordingFault, Status};
+use std::alloc::Global;
+use store_head::Heads;
+
+/// Reads the heads of all recordings, in order of gauge.
+pub(crate) fn read_heads<T: Site>(
+    alloc: Global,
+    conf: &Config,
+    site: &mut T,
+) -> Result<Heads, Status>
+    requires conf { IsConfig conf.now }
+    requires home { T.out site.old ≡ 0 }
+    ensures answer { T.tells → HeadsAnswer conf.now (T.files site.old) result }
+    ensures all { IfOk result (λ heads. length heads ≡ length conf.now.gauges) }
+    ensures kind { IfErr result IsHeadsStatus }
+    ensures cause { result ≡ Err ReadFault → Rose (T.faults site.old) (T.faults site.new) }
+    ensures later { T.faults site.old ≤ T.faults site.new }
+    ensures back { T.out site.new ≡ 0 }
+    ensures files { T.tells → T.files site.new ≡ T.files site.old }
+{
+    let gauges = conf.gauges.as_slice();
+    let Ok(mut heads) = Vec::with_capacity(alloc, gauges.len()) else {
+        return Err(Status::OutOfMemory);
+    };
+    for gauge in 0..gauges.len() {
+        match read_head_of(gauge as u16, gauges[gauge].file.as_str(), site) {
+            Ok(head) => heads.push_reserved(head),
+            Err(status) => return Err(status),
+        }
+    }
+    Ok(Heads::from_vec(heads))
+}
+
+// The head of the recording of this gauge, which is in that file.
+#[tactic(auto, using(crate::proofs::Reading::head_kind))]
+fn read_head_of<T: Site>(gauge: u16, file: &str, site: &mut T) -> Result<Head, Status>
+    requires home { T.out site.old ≡ 0 }
+    ensures answer { T.tells → HeadAnswer (T.files site.old file.now) gauge result }
+    ensures kind { IfErr result IsHeadsStatus }
+    ensures cause { result ≡ Err ReadFault → Rose (T.faults site.old) (T.faults site.new) }
+    ensures later { T.faults site.old ≤ T.faults site.new }
+    ensures back { T.out site.new ≡ 0 }
+    ensures files { T.tells → T.files site.new ≡ T.files site.old }
+{
+    let Ok(mut src) = site.fetch(file) else {
+        return Err(Status::ReadFault);
+    };
+    let head = read_head(&mut src);
+    site.give_back(src);
+    match head {
+        Ok(head) => Ok(head),
+        Err(fault) => Err(head_status(gauge, fault)),
+    }
+}
+
+fn head_status(gauge: u16, fault: HeadFault) -> Status
+    ensures { result ≡ head_status_of gauge fault }
+{
+    let fault = match fault {
+        HeadFault::Short => RecordingFault::Short,
+        HeadFault::Magic => RecordingFault::Magic,
+        HeadFault::Version(version) => RecordingFault::Version(version),
+        HeadFault::NotZero => RecordingFault::NotZero,
+        HeadFault::ReadFault => return Status::ReadFault,
+    };
+    Status::Recording { gauge, fault }
+}

@@ -1,0 +1,79 @@
+ghost use Rattle.std.specs.Prelude.{◌≡◌, ◌≤◌, ◌<◌, ◌++◌, [], ◌∷◌, ℕ, List, IfOk, length};
+ghost use Rattle.outside.specs.Fault.{Rose};
+ghost use Rattle.station.specs.Station.{Image, Since, Only};
+ghost use Rattle.segment_bytes.specs.declared.layout.Layout.TheVariants.{Two};
+ghost use Rattle.store_head.specs.Head.{see_head, empty_store};
+ghost use Rattle.segment_store.specs.Beginning.{IsBegunAs};
+ghost use Rattle.segment_store.specs.Quiet.{IsQuiet};
+ghost use Rattle.status.specs.declared.status.Status.TheVariants.{Done, DiskFault};
+ghost use Rattle.init_command.specs.Init.{init_line};
+ghost use Rattle.init_command.specs.Making.{InStore, MakesBy, IsMaking, WhereUnmade, init_status as init_status_of};
+
+use line_room::LineRoom;
+use segment_store::{InitFault, init};
+use station::Station;
+use status::{Status, StoreFault};
+use std::alloc::{AllocError, Global};
+use store_head::StoreHead;
+
+/// Makes the store, and tells it.
+pub(crate) fn make_store<K: Station>(alloc: Global, head: &StoreHead, station: &mut K) -> Status
+    requires few { length head.now.setup.gains ≤ 32 }
+    requires heads { length head.now.heads ≡ length head.now.setup.gains }
+    ensures made { K.tells → result ≡ Done →
+        (K.seen station.new ≡ empty_store (see_head Two head.now))
+        × Only (K.seen station.new) (K.leaves station.new) }
+    ensures told { K.tells → result ≡ Done → K.told station.new ≡
+        K.told station.old ++ init_line (length head.now.setup.gains) ∷ [] }
+    ensures any_moment { K.tells → ((c : Image) → K.leaves station.old c → length c ≡ 0) →
+        Since (K.clock station.old) (K.moments station.old) (K.clock station.new)
+        (K.moments station.new) (InStore (empty_store (see_head Two head.now))) }
+    ensures left { K.tells → ((c : Image) → K.leaves station.old c → length c ≡ 0) → (c : Image) →
+        K.leaves station.new c → IsBegunAs (empty_store (see_head Two head.now)) c }
+    // Over a station that is not empty nothing is done, and so where it is refused.
+    ensures quiet { K.tells → 0 < length (K.seen station.old) → IsQuiet (K.clock station.old)
+        (K.moments station.old) (K.clock station.new) (K.moments station.new)
+        (K.told station.old) (K.told station.new) (K.seen station.old) (K.seen station.new)
+        (K.leaves station.old) (K.leaves station.new) }
+    ensures unmade { K.tells → WhereUnmade result (IsQuiet (K.clock station.old)
+        (K.moments station.old) (K.clock station.new) (K.moments station.new)
+        (K.told station.old) (K.told station.new) (K.seen station.old) (K.seen station.new)
+        (K.leaves station.old) (K.leaves station.new)) }
+    ensures answer { K.tells → MakesBy (length (K.seen station.old)) result }
+    ensures kind { IsMaking result }
+    ensures disk { result ≡ DiskFault → Rose (K.faults station.old) (K.faults station.new) }
+    ensures later { K.faults station.old ≤ K.faults station.new }
+{
+    let Ok(line) = line_of(alloc, head.setup.gains.as_slice().len()) else {
+        return Status::OutOfMemory;
+    };
+    match init(alloc, station, head) {
+        Ok(()) => {}
+        Err(fault) => return init_status(fault),
+    }
+    match station.tell(line.bytes()) {
+        Ok(()) => Status::Done,
+        Err(_) => Status::DiskFault,
+    }
+}
+
+fn line_of(alloc: Global, gauges: usize) -> Result<LineRoom, AllocError>
+    requires few { gauges ≤ 32 }
+    ensures { IfOk result (λ line. line.bytes ≡ init_line gauges) }
+{
+    let mut line = LineRoom::new(alloc, 16)?;
+    line.push(b"init ");
+    line.push_number(gauges as u64);
+    line.push(b"\n");
+    Ok(line)
+}
+
+fn init_status(fault: InitFault) -> Status
+    ensures { result ≡ init_status_of fault }
+{
+    match fault {
+        InitFault::NotEmpty { size } => Status::Store(StoreFault::NotEmpty { size }),
+        InitFault::DiskFault => Status::DiskFault,
+        InitFault::OutOfMemory => Status::OutOfMemory,
+    }
+}

@@ -1,0 +1,156 @@
+-- What each answer of `report` says.
+use Rattle.std.proofs.Common.{◌≡◌, ◌≢◌, ◌≤◌, ◌⊎◌, inl, inr, ℕ, List, refl, sym, subst, ◌∙◌, arith}
+use Rattle.std.specs.Prelude.{Result, Ok, Err}
+use Rattle.outside.specs.Fault.{Rose}
+use Rattle.station.specs.Station.{Image}
+use Rattle.calibration.specs.declared.setup.Setup.{Setup}
+use Rattle.segment_store.specs.Held.{ends_of}
+use Rattle.segment_store.specs.Image.{Reads}
+use Rattle.segment_store.specs.Moments.{IsThere, StoreValue}
+use Rattle.segment_store.specs.Opening.{DiskRose, IsUnharmed, Resumes}
+use Rattle.segment_store.specs.declared.fault.ResumeFault.{ResumeFault}
+use Rattle.segment_store.specs.declared.fault.ResumeFault.TheVariants as fault
+use Rattle.report.specs.Figures.{Figures}
+use Rattle.site_config.specs.declared.config.Config.{Config}
+use Rattle.site_config.specs.declared.fault.ConfigFault.{ConfigFault}
+use Rattle.config_reading.specs.Reading.{MeansAs, IsRefusal}
+use Rattle.status.specs.declared.status.Status.{Status}
+use Rattle.status.specs.declared.status.Status.TheVariants.{Done, Usage, Config as BadConfig, Store as BadStore, Recording, Torn, ReadFault, WriteFault, DiskFault, OutOfMemory, TooLong, Differs}
+use Rattle.report_command.specs.Printing.{Prints, IsPrinting}
+use Rattle.report_command.specs.Answers.{store_status, AnswersOver, ReadsAs, ReportAnswers, IsSound}
+
+-- of an answer of printing
+pub by_printing : (P : Status → Type 0) → P Done → P WriteFault → (s : Status) → IsPrinting s → P s
+by_printing P d w Done is = d
+by_printing P d w WriteFault is = w
+by_printing P d w Usage is = absurd is
+by_printing P d w (BadConfig f) is = absurd is
+by_printing P d w (BadStore f) is = absurd is
+by_printing P d w (Recording g f) is = absurd is
+by_printing P d w (Torn g b) is = absurd is
+by_printing P d w ReadFault is = absurd is
+by_printing P d w DiskFault is = absurd is
+by_printing P d w OutOfMemory is = absurd is
+by_printing P d w (TooLong g) is = absurd is
+by_printing P d w (Differs g x y z) is = absurd is
+
+-- of a configuration that is refused
+pub by_refusal : (P : Status → Type 0) → ((f : ConfigFault) → P (BadConfig f)) → P ReadFault → P OutOfMemory → (s : Status) → IsRefusal s → P s
+by_refusal P c r m (BadConfig f) is = c f
+by_refusal P c r m ReadFault is = r
+by_refusal P c r m OutOfMemory is = m
+by_refusal P c r m Done is = absurd is
+by_refusal P c r m Usage is = absurd is
+by_refusal P c r m (BadStore f) is = absurd is
+by_refusal P c r m (Recording g f) is = absurd is
+by_refusal P c r m (Torn g b) is = absurd is
+by_refusal P c r m WriteFault is = absurd is
+by_refusal P c r m DiskFault is = absurd is
+by_refusal P c r m (TooLong g) is = absurd is
+by_refusal P c r m (Differs g x y z) is = absurd is
+
+pub refused_prints : (f : ResumeFault) (c : Config) (figures : ℕ → Figures) (old : List ℕ) → Prints (store_status f) c figures old old
+refused_prints fault.NotAStore c figures old = refl
+refused_prints (fault.Version v) c figures old = refl
+refused_prints (fault.Differs field kept found) c figures old = refl
+refused_prints (fault.Damaged index damage) c figures old = refl
+refused_prints fault.DiskFault c figures old = refl
+refused_prints fault.OutOfMemory c figures old = refl
+
+pub unread_prints : (s : Status) → IsRefusal s → (c : Config) (figures : ℕ → Figures) (old : List ℕ) → Prints s c figures old old
+unread_prints s is c figures old = by_refusal (λ (x : Status). Prints x c figures old old) (λ f. refl) refl refl s is
+
+pub refused_answer : {X : Type 0} (c : Config) (image : Image) (see : X → ℕ × List ℕ) (f : ResumeFault) → Resumes {X = X} c.setup image see (Err f)
+    → AnswersOver c image (store_status f)
+refused_answer c image see fault.NotAStore h = (fault.NotAStore, refl, h)
+refused_answer c image see (fault.Version v) h = (fault.Version v, refl, h)
+refused_answer c image see (fault.Differs field kept found) h = (fault.Differs field kept found, refl, h)
+refused_answer c image see (fault.Damaged index damage) h = (fault.Damaged index damage, refl, h)
+refused_answer c image see fault.DiskFault h = tt
+refused_answer c image see fault.OutOfMemory h = tt
+
+pub reads_as : (setup : Setup) (s : StoreValue) (seen old : Image) (leaves : Image → Type 0) → s.head.setup ≡ setup → IsThere s seen leaves
+    → seen ≡ old → ReadsAs setup old
+reads_as setup s seen old leaves of_setup there same = record {
+  head = s.head;
+  bodies = there.0;
+  ends = ends_of s.held;
+  of_setup = of_setup;
+  reads = subst (Reads s.head there.0 (ends_of s.held)) same there.1.reads;
+}
+
+pub printed_answer : (c : Config) (image : Image) (s : Status) → IsPrinting s → ReadsAs c.setup image → AnswersOver c image s
+printed_answer c image s is reads = by_printing (AnswersOver c image) reads reads s is
+
+-- over a store that reads, nothing but a fault of the disk and want of memory is refused
+pub refused_complete : (X : Type 0) (f : ResumeFault) (before between now : ℕ) → IsUnharmed {X = X} (Err f) → DiskRose {X = X} before between (Err f)
+    → between ≤ now → (Rose before now → ⊥) → (store_status f ≡ Done) ⊎ (store_status f ≡ OutOfMemory)
+refused_complete X fault.NotAStore before between now u d le none = absurd u
+refused_complete X (fault.Version v) before between now u d le none = absurd u
+refused_complete X (fault.Differs field kept found) before between now u d le none = absurd u
+refused_complete X (fault.Damaged index damage) before between now u d le none = absurd u
+refused_complete X fault.DiskFault before between now u d le none = absurd (none (omega (arith, d, le)))
+refused_complete X fault.OutOfMemory before between now u d le none = inr refl
+
+pub printed_complete : (s : Status) (before now : ℕ) → IsPrinting s → (s ≡ WriteFault → Rose before now) → (Rose before now → ⊥) → (s ≡ Done) ⊎ (s ≡ OutOfMemory)
+printed_complete s before now is write none =
+    by_printing (λ (x : Status). (x ≡ WriteFault → Rose before now) → (x ≡ Done) ⊎ (x ≡ OutOfMemory)) (λ w. inl refl) (λ w. absurd (none (w refl))) s is write
+
+pub refused_disk : (X : Type 0) (f : ResumeFault) (before between now : ℕ) → DiskRose {X = X} before between (Err f) → between ≤ now
+    → store_status f ≡ DiskFault → Rose before now
+refused_disk X fault.NotAStore before between now d le is = absurd cc
+refused_disk X (fault.Version v) before between now d le is = absurd cc
+refused_disk X (fault.Differs field kept found) before between now d le is = absurd cc
+refused_disk X (fault.Damaged index damage) before between now d le is = absurd cc
+refused_disk X fault.DiskFault before between now d le is = omega (arith, d, le)
+refused_disk X fault.OutOfMemory before between now d le is = absurd cc
+
+pub refused_no_read : (f : ResumeFault) → store_status f ≢ ReadFault
+refused_no_read fault.NotAStore is = absurd cc
+refused_no_read (fault.Version v) is = absurd cc
+refused_no_read (fault.Differs field kept found) is = absurd cc
+refused_no_read (fault.Damaged index damage) is = absurd cc
+refused_no_read fault.DiskFault is = absurd cc
+refused_no_read fault.OutOfMemory is = absurd cc
+
+pub refused_no_write : (f : ResumeFault) → store_status f ≢ WriteFault
+refused_no_write fault.NotAStore is = absurd cc
+refused_no_write (fault.Version v) is = absurd cc
+refused_no_write (fault.Differs field kept found) is = absurd cc
+refused_no_write (fault.Damaged index damage) is = absurd cc
+refused_no_write fault.DiskFault is = absurd cc
+refused_no_write fault.OutOfMemory is = absurd cc
+
+pub printing_other : (s : Status) → IsPrinting s → (s ≢ ReadFault) × (s ≢ DiskFault)
+printing_other = by_printing (λ s. (s ≢ ReadFault) × (s ≢ DiskFault)) ((λ is. absurd cc), (λ is. absurd cc)) ((λ is. absurd cc), (λ is. absurd cc))
+
+-- an answer over a configuration that was read
+pub over_config : (conf : Result Config ConfigFault) (c : Config) (image : Image) → conf ≡ Ok c → (s : Status) → AnswersOver c image s → ReportAnswers conf image s
+over_config conf c image is Done a = (c, is, a)
+over_config conf c image is WriteFault a = (c, is, a)
+over_config conf c image is (BadStore f) a = (c, is, a)
+over_config conf c image is DiskFault a = (c, is, a)
+over_config conf c image is OutOfMemory a = tt
+over_config conf c image is ReadFault a = tt
+over_config conf c image is Usage a = absurd a
+over_config conf c image is (BadConfig f) a = absurd a
+over_config conf c image is (Recording g f) a = absurd a
+over_config conf c image is (Torn g b) a = absurd a
+over_config conf c image is (TooLong g) a = absurd a
+over_config conf c image is (Differs g x y z) a = absurd a
+
+pub unread_answer : (conf : Result Config ConfigFault) (image : Image) (s : Status) → IsRefusal s → MeansAs conf (Err s) → ReportAnswers conf image s
+unread_answer conf image s is = by_refusal (λ (x : Status). MeansAs conf (Err x) → ReportAnswers conf image x) (λ f m. m) (λ m. tt) (λ m. tt) s is
+
+-- a sound configuration is refused for a read that failed, or for want of memory
+pub unread_complete : (conf : Result Config ConfigFault) (image : Image) (s : Status) (before now : ℕ) → IsRefusal s → MeansAs conf (Err s)
+    → IsSound conf image → (s ≡ ReadFault → Rose before now) → (Rose before now → ⊥) → (s ≡ Done) ⊎ (s ≡ OutOfMemory)
+unread_complete conf image s before now is m sound read none =
+    by_refusal (λ (x : Status). MeansAs conf (Err x) → (x ≡ ReadFault → Rose before now) → (x ≡ Done) ⊎ (x ≡ OutOfMemory))
+    (λ f m r. absurd (clash (sym m ∙ sound.1))) (λ m r. absurd (none (r refl))) (λ m r. inr refl) s is m read
+  where
+    clash : {f : ConfigFault} {c : Config} → ◌≡◌ {A = Result Config ConfigFault} (Err f) (Ok c) → ⊥
+    clash e = absurd cc
+
+pub unread_other : (s : Status) → IsRefusal s → (s ≢ WriteFault) × (s ≢ DiskFault) × (IsPrinting s → ⊥)
+unread_other = by_refusal (λ s. (s ≢ WriteFault) × (s ≢ DiskFault) × (IsPrinting s → ⊥)) (λ f. ((λ is. absurd cc), (λ is. absurd cc), λ p. p)) ((λ is. absurd cc), (λ is. absurd cc), λ p. p) ((λ is. absurd cc), (λ is. absurd cc), λ p. p)

@@ -1,0 +1,4 @@
+pub mod HeldFigures
+pub mod Ended
+pub mod Told
+pub mod AnswerKinds

@@ -1,0 +1,68 @@
+-- Which answer `report` has. Each has its cause in the configuration and the store; a fault of the outside has a clause of its own, and
+-- want of memory none.
+--   store_status    the answer for a store that is not resumed
+--   AnswersOver     over what a read of the store gives
+--   ReportAnswers   by the configuration
+--   IsSound         the configuration is sound, and the store is one of its setup
+--   IsReporting     the answers that can come at all
+use Rattle.std.specs.Prelude.{◌≡◌, ℕ, List, Result, Ok, Err}
+use Rattle.station.specs.Station.{Image}
+use Rattle.calibration.specs.declared.setup.Setup.{Setup}
+use Rattle.segment_rules.specs.Parts.{PartsValue}
+use Rattle.store_head.specs.Head.{HeadValue}
+use Rattle.segment_store.specs.Image.{Reads}
+use Rattle.segment_store.specs.Opening.{Resumes}
+use Rattle.segment_store.specs.declared.fault.ResumeFault.{ResumeFault}
+use Rattle.segment_store.specs.declared.fault.ResumeFault.TheVariants as resume
+use Rattle.site_config.specs.declared.config.Config.{Config}
+use Rattle.site_config.specs.declared.fault.ConfigFault.{ConfigFault}
+use Rattle.status.specs.declared.status.StoreFault.TheVariants as store
+use Rattle.status.specs.declared.status.Status.{Status}
+use Rattle.status.specs.declared.status.Status.TheVariants.{Done, Config as BadConfig, Store as BadStore, ReadFault, WriteFault, DiskFault, OutOfMemory}
+
+abbrev pub store_status : ResumeFault → Status
+store_status resume.NotAStore = BadStore store.NotAStore
+store_status (resume.Version v) = BadStore (store.Version v)
+store_status (resume.Differs field kept found) = BadStore (store.Differs field kept found)
+store_status (resume.Damaged index damage) = BadStore (store.Damaged index damage)
+store_status resume.DiskFault = DiskFault
+store_status resume.OutOfMemory = OutOfMemory
+
+-- the first thing wrong with a store, in the order of the file
+abbrev pub IsRefused : Setup → Image → ResumeFault → Type 0
+IsRefused setup image fault = Resumes {X = ℕ × List ℕ} setup image (λ x. x) (Err fault)
+
+-- an image reads as a store of this setup
+pub record ReadsAs (setup : Setup) (image : Image) : Type 0 where
+  pub head : HeadValue
+  pub bodies : List PartsValue
+  pub ends : List ℕ
+  pub of_setup : head.setup ≡ setup
+  pub reads : Reads head bodies ends image
+
+abbrev pub AnswersOver : Config → Image → Status → Type 0
+AnswersOver c image (BadStore fault) = (f : ResumeFault) × (store_status f ≡ BadStore fault) × IsRefused c.setup image f
+AnswersOver c image Done = ReadsAs c.setup image
+AnswersOver c image WriteFault = ReadsAs c.setup image
+AnswersOver c image DiskFault = Unit {0}
+AnswersOver c image OutOfMemory = Unit {0}
+AnswersOver c image status = ⊥
+
+abbrev pub ReportAnswers : Result Config ConfigFault → Image → Status → Type 0
+ReportAnswers conf image (BadConfig fault) = conf ≡ Err fault
+ReportAnswers conf image ReadFault = Unit {0}
+ReportAnswers conf image OutOfMemory = Unit {0}
+ReportAnswers conf image status = (c : Config) × (conf ≡ Ok c) × AnswersOver c image status
+
+abbrev pub IsSound : Result Config ConfigFault → Image → Type 0
+IsSound conf image = (c : Config) × (conf ≡ Ok c) × ReadsAs c.setup image
+
+abbrev pub IsReporting : Status → Type 0
+IsReporting Done = Unit {0}
+IsReporting (BadConfig fault) = Unit {0}
+IsReporting (BadStore fault) = Unit {0}
+IsReporting ReadFault = Unit {0}
+IsReporting WriteFault = Unit {0}
+IsReporting DiskFault = Unit {0}
+IsReporting OutOfMemory = Unit {0}
+IsReporting status = ⊥

@@ -1,0 +1,127 @@
+ghost use Rattle.std.specs.Prelude.{◌≡◌, ◌≢◌, ◌≤◌, ◌⊎◌, ◌++◌, [], ◌∷◌, ℕ, ℤ, List, Ok, length};
+ghost use Rattle.outside.specs.Fault.{Rose};
+ghost use Rattle.segment_rules.specs.Parts.{PartsValue};
+ghost use Rattle.store_head.specs.Head.{HeadValue};
+ghost use Rattle.segment_store.specs.Holds.{Holds};
+ghost use Rattle.segment_store.specs.Image.{Reads};
+ghost use Rattle.segment_store.specs.Quiet.{IsQuiet};
+ghost use Rattle.site_config.specs.Configuration.{config_of_bytes};
+ghost use Rattle.site_config.specs.Valid.{IsConfig};
+ghost use Rattle.site_config.specs.declared.config.Config.{Config};
+ghost use Rattle.fault_lines.specs.FaultLine.{fault_line};
+ghost use Rattle.fault_lines.specs.Telling.{TellsAtMost};
+ghost use Rattle.status.specs.declared.status.Status.TheVariants.{Done, ReadFault, WriteFault, DiskFault, OutOfMemory};
+ghost use Rattle.report_command.specs.Printing.{Prints, PrintsKept, IsPrinting, figures_by, held_of};
+ghost use Rattle.report_command.specs.Answers.{IsSound, ReadsAs, ReportAnswers, AnswersOver, IsReporting};
+
+use crate::held::print_held;
+use crate::refusal::status_of;
+use config_reading::read_config;
+use fault_lines::{FaultLine, tell_fault, tell_no_memory};
+use outside::{Sink, Source};
+use segment_store::Store;
+use site_config::{Config, MAX_NAME_BYTES};
+use site_report::Report;
+use station::Station;
+use status::Status;
+use std::alloc::Global;
+
+/// Prints the report of what the store of a site holds. Whatever else than `Done` is answered is
+/// told by its line.
+pub fn report_command<C: Source, K: Station, O: Sink>(
+    alloc: Global,
+    config: &mut C,
+    station: &mut K,
+    out: &mut O,
+) -> Status
+    // Of samples of which a read of the store holds the first so many.
+    ensures prints { O.tells → K.tells → C.tells → (conf : Config) →
+        config_of_bytes (C.left config.old) ≡ Ok conf → (w : ℕ → List ℤ) (n : List ℕ) →
+        Holds conf.setup w n (K.seen station.old) →
+        Prints result conf (figures_by conf (held_of w n)) (O.written out.old) (O.written out.new) }
+    // Whatever the bodies stand for: the samples, the pairs and the ranges are what they keep.
+    ensures kept { O.tells → K.tells → C.tells → (conf : Config) →
+        config_of_bytes (C.left config.old) ≡ Ok conf → (head : HeadValue)
+        (bodies : List PartsValue) (ends : List ℕ) → head.setup ≡ conf.setup →
+        Reads head bodies ends (K.seen station.old) →
+        PrintsKept result conf bodies (O.written out.old) (O.written out.new) }
+    ensures nothing { O.tells → (IsPrinting result → ⊥) → O.written out.new ≡ O.written out.old }
+    // At most the line of the answer is told, and the store stays.
+    ensures quiet { K.tells → TellsAtMost (fault_line result [])
+        (K.clock station.old) (K.moments station.old) (K.clock station.new) (K.moments station.new)
+        (K.told station.old) (K.told station.new) (K.seen station.old) (K.seen station.new)
+        (K.leaves station.old) (K.leaves station.new) }
+    ensures silent { K.tells → result ≡ Done → K.told station.new ≡ K.told station.old }
+    ensures last { K.tells → result ≢ Done →
+        Rose (K.faults station.old) (K.faults station.new) ⊎
+        (K.told station.new ≡ K.told station.old ++ fault_line result [] ∷ []) }
+    // Which answer it is, and when it is `Done`.
+    ensures answer { K.tells → C.tells →
+        ReportAnswers (config_of_bytes (C.left config.old)) (K.seen station.old) result }
+    ensures complete { K.tells → C.tells →
+        IsSound (config_of_bytes (C.left config.old)) (K.seen station.old) →
+        (Rose (C.faults config.old) (C.faults config.new) → ⊥) →
+        (Rose (K.faults station.old) (K.faults station.new) → ⊥) →
+        (Rose (O.faults out.old) (O.faults out.new) → ⊥) →
+        (result ≡ Done) ⊎ (result ≡ OutOfMemory) }
+    ensures kind { IsReporting result }
+    ensures read { result ≡ ReadFault → Rose (C.faults config.old) (C.faults config.new) }
+    ensures write { result ≡ WriteFault → Rose (O.faults out.old) (O.faults out.new) }
+    ensures disk { result ≡ DiskFault → Rose (K.faults station.old) (K.faults station.new) }
+{
+    let Ok(mut line) = FaultLine::new(alloc, MAX_NAME_BYTES) else {
+        tell_no_memory(station);
+        return Status::OutOfMemory;
+    };
+    match read_config(alloc, config) {
+        Ok(conf) => {
+            let status = report_by(alloc, &conf, station, out);
+            tell_fault(station, &mut line, status, "");
+            status
+        }
+        Err(status) => {
+            tell_fault(station, &mut line, status, "");
+            status
+        }
+    }
+}
+
+// The same by a configuration, and nothing is told.
+fn report_by<K: Station, O: Sink>(
+    alloc: Global,
+    conf: &Config,
+    station: &mut K,
+    out: &mut O,
+) -> Status
+    requires conf { IsConfig conf.now }
+    ensures prints { O.tells → K.tells → (w : ℕ → List ℤ) (n : List ℕ) →
+        Holds conf.now.setup w n (K.seen station.old) →
+        Prints result conf.now (figures_by conf.now (held_of w n))
+        (O.written out.old) (O.written out.new) }
+    ensures kept { O.tells → K.tells → (head : HeadValue)
+        (bodies : List PartsValue) (ends : List ℕ) → head.setup ≡ conf.now.setup →
+        Reads head bodies ends (K.seen station.old) →
+        PrintsKept result conf.now bodies (O.written out.old) (O.written out.new) }
+    ensures nothing { O.tells → (IsPrinting result → ⊥) → O.written out.new ≡ O.written out.old }
+    ensures quiet { K.tells → IsQuiet (K.clock station.old) (K.moments station.old)
+        (K.clock station.new) (K.moments station.new) (K.told station.old) (K.told station.new)
+        (K.seen station.old) (K.seen station.new) (K.leaves station.old) (K.leaves station.new) }
+    ensures later { K.faults station.old ≤ K.faults station.new }
+    ensures answer { K.tells → AnswersOver conf.now (K.seen station.old) result }
+    ensures complete { K.tells → ReadsAs conf.now.setup (K.seen station.old) →
+        (Rose (K.faults station.old) (K.faults station.new) → ⊥) →
+        (Rose (O.faults out.old) (O.faults out.new) → ⊥) →
+        (result ≡ Done) ⊎ (result ≡ OutOfMemory) }
+    ensures kind { IsReporting result }
+    ensures no_read { result ≢ ReadFault }
+    ensures write { result ≡ WriteFault → Rose (O.faults out.old) (O.faults out.new) }
+    ensures disk { result ≡ DiskFault → Rose (K.faults station.old) (K.faults station.new) }
+{
+    let Ok(mut report) = Report::new(alloc, conf) else {
+        return Status::OutOfMemory;
+    };
+    match Store::resume(alloc, station, &conf.setup) {
+        Ok(store) => print_held(conf, &store, &mut report, out),
+        Err(fault) => status_of(fault),
+    }
+}

@@ -1,0 +1,23 @@
+ghost use Rattle.std.specs.Prelude.{◌≡◌};
+ghost use Rattle.report_command.specs.Answers.{store_status};
+
+use segment_store::ResumeFault;
+use status::{Status, StoreFault};
+
+/// The answer for a store that was not resumed.
+pub fn status_of(fault: ResumeFault) -> Status
+    ensures { result ≡ store_status fault }
+{
+    match fault {
+        ResumeFault::NotAStore => Status::Store(StoreFault::NotAStore),
+        ResumeFault::Version(version) => Status::Store(StoreFault::Version(version)),
+        ResumeFault::Differs { field, kept, found } => {
+            Status::Store(StoreFault::Differs { field, kept, found })
+        }
+        ResumeFault::Damaged { index, damage } => {
+            Status::Store(StoreFault::Damaged { index, damage })
+        }
+        ResumeFault::DiskFault => Status::DiskFault,
+        ResumeFault::OutOfMemory => Status::OutOfMemory,
+    }
+}
