@@ -1,0 +1,207 @@
+use crate::stores::{NEXT, Part, held, stored};
+use segment::JoinRefusal;
+use segment_store::{Damage, Field, ResumeFault};
+use sha2::{Digest, Sha256};
+use std::alloc::Global;
+use std::process::Abort;
+use std::test::Fail;
+
+// Four samples, whose body has 158 bytes.
+const FOUR: Part = Part {
+    gauge: 0,
+    from: 0,
+    raws: &[0, 5, 0, 5],
+};
+
+fn damaged(index: u64, damage: Damage) -> Result<u64, ResumeFault> {
+    Err(ResumeFault::Damaged { index, damage })
+}
+
+// Up to where gauge 0 is held in a store of four samples, in which all bits of a byte are turned.
+// The bytes from 63 on are a body's length, the body, its digest and a closed gate.
+fn with_turned(
+    rt: &impl Abort,
+    alloc: Global,
+    place: usize,
+) -> Result<Result<u64, ResumeFault>, Fail> {
+    let mut bytes = stored(rt, alloc, 1, &[FOUR])?;
+    assert!(rt; place < bytes.len());
+    bytes[place] = !bytes[place];
+    held(alloc, bytes)
+}
+
+// A byte of the head that is turned, and the fault, if there is one. The id and the period are
+// those of the recording, and no fault of the store.
+const FRONTS: [(usize, Option<ResumeFault>); 7] = [
+    (0, Some(ResumeFault::NotAStore)),
+    (1, Some(ResumeFault::NotAStore)),
+    (4, Some(ResumeFault::NotAStore)),
+    (5, Some(ResumeFault::Version(253))),
+    (22, None),
+    (41, None),
+    (
+        63,
+        Some(ResumeFault::Damaged {
+            index: 0,
+            damage: Damage::Length(4278190238),
+        }),
+    ),
+];
+
+// The byte, the number in which it stands, what that number becomes, and what the setup has.
+const NUMBERS: [(usize, Field, i64, i64); 8] = [
+    (7, Field::Gauges, 254, 1),
+    (9, Field::Classes, 239, 16),
+    (11, Field::Width, 253, 2),
+    (19, Field::Low, -8129, -8000),
+    (21, Field::Reference, 247, 8),
+    (49, Field::Num(0), 791, 1000),
+    (53, Field::Den(0), 254, 1),
+    (61, Field::Offset(0), 255, 0),
+];
+
+#[test]
+fn a_byte_of_the_head_is_changed(rt: HostRuntime) -> Result<(), Fail> {
+    for (place, expected) in &FRONTS {
+        let found = with_turned(&rt, rt.alloc(), *place)?.err();
+        assert_eq!(rt; found, *expected, "byte {place}");
+    }
+    for (place, field, kept, found) in NUMBERS {
+        let expected = ResumeFault::Differs { field, kept, found };
+        let answer = with_turned(&rt, rt.alloc(), place)?;
+        assert_eq!(rt; answer, Err(expected), "byte {place}");
+    }
+    Ok(())
+}
+
+#[test]
+fn the_gate_of_the_only_body_is_closed(rt: HostRuntime) -> Result<(), Fail> {
+    assert_eq!(rt; with_turned(&rt, rt.alloc(), 62)?, Ok(0));
+    Ok(())
+}
+
+// The digest covers the length and the body.
+fn digests(rt: &impl Abort, alloc: Global, place: usize) -> Result<Damage, Fail> {
+    let mut bytes = stored(rt, alloc, 1, &[FOUR])?;
+    assert!(rt; place < bytes.len() && bytes.len() == 258);
+    bytes[place] = !bytes[place];
+    let mut kept = [0; 32];
+    kept.copy_from_slice(&bytes[225..257]);
+    let found = Sha256::digest(&bytes[63..225]);
+    Ok(Damage::Digest { kept, found })
+}
+
+#[test]
+fn a_byte_of_a_body_or_a_digest_is_changed(rt: HostRuntime) -> Result<(), Fail> {
+    for place in [67, 84, 150, 224, 225, 256] {
+        let expected = damaged(0, digests(&rt, rt.alloc(), place)?);
+        assert_eq!(rt;
+            with_turned(&rt, rt.alloc(), place)?,
+            expected,
+            "byte {place}"
+        );
+    }
+    Ok(())
+}
+
+// So many bytes of a store in which a body is cut, and of others that have no head.
+const CUTS: [u64; 3] = [63, 66, 257];
+
+const NO_HEADS: [usize; 3] = [0, 21, 62];
+
+fn sized(rt: &impl Abort, alloc: Global, size: usize) -> Result<Result<u64, ResumeFault>, Fail> {
+    let mut bytes = stored(rt, alloc, 1, &[FOUR])?;
+    bytes.resize(size, 1)?;
+    held(alloc, bytes)
+}
+
+#[test]
+fn a_store_is_cut_or_padded(rt: HostRuntime) -> Result<(), Fail> {
+    for size in NO_HEADS {
+        let found = sized(&rt, rt.alloc(), size)?;
+        assert_eq!(rt; found, Err(ResumeFault::NotAStore), "{size} bytes");
+    }
+    for size in CUTS {
+        let found = sized(&rt, rt.alloc(), size as usize)?;
+        assert_eq!(rt; found, damaged(0, Damage::Cut { size }), "{size} bytes");
+    }
+    for size in [258, 300] {
+        assert_eq!(rt; sized(&rt, rt.alloc(), size)?, Ok(4), "{size} bytes");
+    }
+    Ok(())
+}
+
+// The first bytes of a store, and those of another from one place to a second.
+fn spliced(
+    rt: &impl Abort,
+    alloc: Global,
+    store: &[u8],
+    size: usize,
+    other: &[u8],
+    place: usize,
+    end: usize,
+) -> Result<Vec<u8>, Fail> {
+    assert!(rt; size <= store.len());
+    assert!(rt; place <= end && end <= other.len());
+    let mut bytes = store[..size].to_vec(alloc)?;
+    bytes.extend_from_slice(&other[place..end])?;
+    Ok(bytes)
+}
+
+#[test]
+fn bodies_stand_in_another_order(rt: HostRuntime) -> Result<(), Fail> {
+    let alloc = rt.alloc();
+    let first = stored(&rt, alloc, 1, &[FOUR])?;
+    let both = stored(&rt, alloc, 1, &[FOUR, NEXT])?;
+    let second_alone = spliced(&rt, alloc, &first, 63, &both, 258, both.len())?;
+    let next = JoinRefusal::NotNext { to: 0, from: 4 };
+    assert_eq!(rt; held(alloc, second_alone)?, damaged(0, Damage::Join(next)));
+    Ok(())
+}
+
+#[test]
+fn a_body_stands_twice(rt: HostRuntime) -> Result<(), Fail> {
+    let alloc = rt.alloc();
+    let both = stored(&rt, alloc, 1, &[FOUR, NEXT])?;
+    let first_twice = spliced(&rt, alloc, &both, 258, &both, 63, 258)?;
+    let again = JoinRefusal::NotNext { to: 4, from: 0 };
+    assert_eq!(rt; held(alloc, first_twice)?, damaged(1, Damage::Join(again)));
+    Ok(())
+}
+
+#[test]
+fn a_body_is_of_another_gauge(rt: HostRuntime) -> Result<(), Fail> {
+    let alloc = rt.alloc();
+    let other = Part { gauge: 1, ..FOUR };
+    let two_gauges = stored(&rt, alloc, 2, &[other])?;
+    let one_gauge = stored(&rt, alloc, 1, &[FOUR])?;
+    let foreign = spliced(
+        &rt,
+        alloc,
+        &one_gauge,
+        63,
+        &two_gauges,
+        103,
+        two_gauges.len(),
+    )?;
+    assert_eq!(rt; held(alloc, foreign)?, damaged(0, Damage::Gauge(1)));
+    Ok(())
+}
+
+#[test]
+fn a_body_is_of_another_layout(rt: HostRuntime) -> Result<(), Fail> {
+    let mut bytes = stored(&rt, rt.alloc(), 1, &[FOUR])?;
+    assert!(rt; bytes.len() > 5);
+    bytes[5] = 1;
+    let answer = held(rt.alloc(), bytes)?;
+    assert!(rt;
+        matches!(
+            answer,
+            Err(ResumeFault::Damaged {
+                index: 0,
+                damage: Damage::Bytes(_)
+            })
+        )
+    );
+    Ok(())
+}

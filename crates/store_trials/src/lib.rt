@@ -1,0 +1,11 @@
+//! Trials of whole stores, beside what `segment_store` proves of each call: the bytes of a store
+//! against a written example, every moment of making and of putting, and stores that were changed,
+//! cut, padded, or put together from others. There is no code but the tests.
+#![tactic(auto)]
+
+#[cfg(test)]
+mod changes;
+#[cfg(test)]
+mod moments;
+#[cfg(test)]
+mod stores;
