@@ -3,3 +3,6 @@ pub mod Refusals
 pub mod TableRun
 pub mod FiguresTaken
 pub mod RecordingRead
+pub mod NoMemory
+pub mod CountLeft
+pub mod AuditLeft

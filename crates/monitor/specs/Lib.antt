@@ -4,4 +4,10 @@ pub mod Answer
 pub mod Figures
 pub mod Printed
 pub mod Run
+pub mod Shown
+pub mod InitRun
+pub mod ReportRun
+pub mod CountRun
+pub mod AuditRun
+pub mod DemoRun
 pub use Rattle.outside.specs.Fault

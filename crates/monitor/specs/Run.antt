@@ -2,9 +2,9 @@
 --   Outside    what they show at one moment
 --   Task       what a command has to do
 --   Runs       that a run did it
---   table_task, usage_task, task_of    the tasks of the words of a command line
+--   table_task, usage_task    the tasks of `table` and of words that are no command
 --   no_memory_task                     what is left where memory ran out while the words were read
-use Rattle.std.specs.Prelude.{◌≡◌, ◌≢◌, ℕ, List, [], ◌∷◌, ◌++◌, Option, Some, None, option_map, IsSomeAnd}
+use Rattle.std.specs.Prelude.{◌≡◌, ◌≢◌, ℕ, List, [], ◌∷◌, ◌++◌, Option, None, option_map, IsSomeAnd}
 use Rattle.outside.specs.Fault.{Rose}
 use Rattle.outside.specs.Sink.{AppendsPrefix}
 use Rattle.outside.specs.Site.{Files, Asked, Asks}
@@ -12,7 +12,6 @@ use Rattle.outside.specs.declared.site.Site as site
 use Rattle.outside.specs.declared.sink.Sink as sink
 use Rattle.monitor.specs.Answer.{MayAnswer, IsAnswer}
 use Rattle.monitor.specs.FileState.{file_state}
-use Rattle.command_words.specs.Line.{Command, Table, Init, Count, Report, Audit, Demo}
 use Rattle.monitor.specs.Printed.{text_of}
 use Rattle.status.specs.declared.status.Status.{Status}
 use Rattle.status.specs.declared.status.Status.TheVariants.{Done, Usage, ReadFault, WriteFault, OutOfMemory}
@@ -96,12 +95,3 @@ no_memory_task = record {
   IsAnswer = λ answer. answer ≡ OutOfMemory;
   names = [];
 }
-
-abbrev pub task_of : Option Command → Files → Task
-task_of None files = usage_task
-task_of (Some (Table name)) files = table_task name files
-task_of (Some Init) files = usage_task
-task_of (Some (Count workers)) files = usage_task
-task_of (Some Report) files = usage_task
-task_of (Some Audit) files = usage_task
-task_of (Some (Demo seed samples workers)) files = usage_task

@@ -15,10 +15,13 @@
 
 mod command;
 mod counting;
+mod demo;
 mod figures;
 mod grid;
 mod read;
 mod refusal;
+mod refused;
+mod table;
 mod top;
 
 pub use command::table_command;

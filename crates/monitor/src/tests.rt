@@ -1,11 +1,14 @@
 ghost use Rattle.std.specs.Prelude.{◌≡◌, IfOk};
 
 use super::*;
-use outside::{MapSite, VecSink};
-use status::{RecordingFault, Status};
+use outside::{MapSite, OpenGate, Site, SteadySource, VecSink};
+use station::MomentStation;
+use status::{RecordingFault, Status, StoreFault};
 use std::alloc::{AllocError, Global};
 use std::collections::BTreeMap;
+use std::sync::Wait;
 use std::test::Fail;
+use std::thread::Threads;
 
 mod faulty;
 
@@ -46,9 +49,25 @@ fn words_of(alloc: Global, words: &[&str]) -> Result<Vec<String>, AllocError> {
     Ok(all)
 }
 
+// What these words answer without a configuration, and the lines told.
+fn run<R: AllocGlobal + Threads + Wait + Sync, T: Site>(
+    rt: &R,
+    words: &[String],
+    site: &mut T,
+    out: &mut VecSink,
+) -> Result<(Status, MomentStation), AllocError>
+    requires { T.out site.old ≡ 0 }
+{
+    let alloc = rt.alloc();
+    let mut config = SteadySource::new(Vec::new(alloc));
+    let mut station = MomentStation::new(alloc, Vec::new(alloc), Vec::new(alloc));
+    let status = monitor(rt, words, &mut config, site, &mut station, out, &OpenGate);
+    Ok((status, station))
+}
+
 // What `table t` answers of a file, and what it prints.
-fn table(
-    rt: &HostRuntime,
+fn table<R: AllocGlobal + Threads + Wait + Sync>(
+    rt: &R,
     bytes: Vec<u8>,
     longest: usize,
     room: usize,
@@ -57,7 +76,7 @@ fn table(
     let mut site = site_of(alloc, bytes, longest)?;
     let mut out = VecSink::new(alloc, room, Vec::new(alloc))?;
     let words = words_of(alloc, &["table", "t"])?;
-    let status = monitor(rt, words.as_slice(), &mut site, &mut out);
+    let (status, _) = run(rt, words.as_slice(), &mut site, &mut out)?;
     Ok((status, out))
 }
 
@@ -173,8 +192,9 @@ fn faults_of_the_outside(rt: HostRuntime) -> Result<(), Fail> {
     for failing in [0, 4, 5, 9, 10] {
         let mut site = FaultySite::new(alloc, file_of(alloc, &EXAMPLE)?, failing);
         let mut out = VecSink::new(alloc, 200, Vec::new(alloc))?;
-        let status = monitor(&rt, words.as_slice(), &mut site, &mut out);
+        let (status, station) = run(&rt, words.as_slice(), &mut site, &mut out)?;
         assert_eq!(rt; status, Status::ReadFault, "at take {failing}");
+        assert_eq!(rt; station.told(), b"read fault\n".as_slice());
         assert_eq!(rt; out.written().len(), 0);
     }
     Ok(())
@@ -196,8 +216,44 @@ fn words(rt: HostRuntime) -> Result<(), Fail> {
         let mut site = site_of(alloc, file_of(alloc, &EXAMPLE)?, 5)?;
         let mut out = VecSink::new(alloc, 200, Vec::new(alloc))?;
         let words = words_of(alloc, words)?;
-        assert_eq!(rt; monitor(&rt, words.as_slice(), &mut site, &mut out), status);
+        let (answer, _) = run(&rt, words.as_slice(), &mut site, &mut out)?;
+        assert_eq!(rt; answer, status);
         assert_eq!(rt; out.written().len(), 0);
     }
+    Ok(())
+}
+
+const CONFIG: &str = "[grid]\nclasses = 16\nwidth = 2\nlow = -8000\nreference = 8\n\
+    [count]\nblock = 4\nworkers = 2\n[[gauge]]\nname = \"G1\"\nfile = \"t\"\nnum = 1000\n";
+
+// A store is made once.
+#[test]
+fn a_store_is_made(rt: HostRuntime) -> Result<(), Fail> {
+    let alloc = rt.alloc();
+    let mut station = MomentStation::new(alloc, Vec::new(alloc), Vec::new(alloc));
+    let mut out = VecSink::new(alloc, 200, Vec::new(alloc))?;
+    let words = words_of(alloc, &["init"])?;
+    for status in [
+        Status::Done,
+        Status::Store(StoreFault::NotEmpty { size: 63 }),
+    ] {
+        let mut site = site_of(alloc, file_of(alloc, &EXAMPLE)?, 5)?;
+        let mut config = SteadySource::new(CONFIG.as_bytes().to_vec(alloc)?);
+        let answer = monitor(
+            &rt,
+            words.as_slice(),
+            &mut config,
+            &mut site,
+            &mut station,
+            &mut out,
+            &OpenGate,
+        );
+        assert_eq!(rt; answer, status);
+    }
+    assert_eq!(rt;
+        station.told(),
+        b"init 1\nstore: not empty, 63 bytes\n".as_slice()
+    );
+    assert_eq!(rt; out.written().len(), 0);
     Ok(())
 }

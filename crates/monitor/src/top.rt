@@ -1,25 +1,97 @@
-ghost use Rattle.std.specs.Prelude.{◌≡◌, ◌⊎◌, None, map, string_bytes};
-ghost use Rattle.monitor.specs.Line.{built_command_of};
-ghost use Rattle.monitor.specs.Run.{Runs, task_of, no_memory_task, outside};
+ghost use Rattle.std.specs.Prelude.{◌≡◌, ◌≢◌, ◌⊎◌, ℕ, List, Option, None, Some, map, string_bytes};
+ghost use Rattle.command_words.specs.Line.{Table, Init, Count, Report, Audit, Demo};
+ghost use Rattle.fault_lines.specs.FaultLine.{fault_line};
+ghost use Rattle.monitor.specs.Line.{built_command_of, IsToldOf};
+ghost use Rattle.monitor.specs.Run.{Runs, table_task, usage_task, no_memory_task, outside};
+ghost use Rattle.monitor.specs.InitRun.{InitRuns};
+ghost use Rattle.monitor.specs.CountRun.{CountRuns};
+ghost use Rattle.monitor.specs.ReportRun.{ReportRuns};
+ghost use Rattle.monitor.specs.AuditRun.{AuditRuns};
+ghost use Rattle.monitor.specs.DemoRun.{DemoRuns};
+ghost use Rattle.monitor.specs.Shown.{shown, Tells, Ends};
 
-use crate::command::table_command;
+use crate::demo::told_demo;
+use crate::refused::{no_memory, usage};
+use crate::table::told_table;
+use audit_command::audit_command;
 use command_words::{Command, read_words};
-use outside::{Sink, Site};
+use count_command::count_command;
+use init_command::init_command;
+use outside::{Gate, Sink, Site, Source};
+use report_command::report_command;
+use station::Station;
 use status::Status;
+use std::sync::Wait;
+use std::thread::Threads;
 
 /// Does what the words of the command line say.
 ///
 /// `table FILE` prints the rainflow table of a recording: the three-point count of ASTM E1049-85,
-/// 5.4.4, over its whole level history. Where memory runs out while the words are read, nothing is
-/// asked for and nothing printed.
-pub fn monitor<R: AllocGlobal, T: Site, O: Sink>(
+/// 5.4.4, over its whole level history. `init` makes the store of a site, `count` counts what is
+/// new of its recordings and stores it, and `report` prints the report of what is held. `audit`
+/// counts the held samples again, and compares. `demo` counts recordings that are made from a seed.
+/// `count` and `demo` wait for the workers that they start; a worker passes the gate before each
+/// block. Each answer but `Done` is told to the station, by its line. Where memory runs out while
+/// the words are read, nothing is asked for and nothing printed.
+pub fn monitor<
+    R: AllocGlobal + Threads + Wait + Sync,
+    C: Source,
+    T: Site,
+    K: Station,
+    O: Sink,
+    G: Gate + Sync,
+>(
     rt: &R,
     words: &[String],
+    config: &mut C,
     site: &mut T,
+    station: &mut K,
     out: &mut O,
+    gate: &G,
 ) -> Status
     requires home { T.out site.old ≡ 0 }
-    ensures run { Runs (task_of (built_command_of (map string_bytes words.now)) (T.files site.old))
+    // `table FILE`
+    ensures table { (file : List ℕ) →
+        built_command_of (map string_bytes words.now) ≡ Some (Table file) →
+        Runs (table_task file (T.files site.old))
+        (outside ⟦<T as Site>⟧ ⟦<O as Sink>⟧ site.old out.old)
+        (outside ⟦<T as Site>⟧ ⟦<O as Sink>⟧ site.new out.new) result ⊎
+        Runs no_memory_task
+        (outside ⟦<T as Site>⟧ ⟦<O as Sink>⟧ site.old out.old)
+        (outside ⟦<T as Site>⟧ ⟦<O as Sink>⟧ site.new out.new) result }
+    // `init`
+    ensures init { built_command_of (map string_bytes words.now) ≡ Some Init → InitRuns
+        (shown ⟦<C as Source>⟧ ⟦<T as Site>⟧ ⟦<K as Station>⟧ ⟦<O as Sink>⟧
+        config.old site.old station.old out.old)
+        (shown ⟦<C as Source>⟧ ⟦<T as Site>⟧ ⟦<K as Station>⟧ ⟦<O as Sink>⟧
+        config.new site.new station.new out.new) result }
+    // `count`
+    ensures count { (workers : Option ℕ) →
+        built_command_of (map string_bytes words.now) ≡ Some (Count workers) → CountRuns
+        (shown ⟦<C as Source>⟧ ⟦<T as Site>⟧ ⟦<K as Station>⟧ ⟦<O as Sink>⟧
+        config.old site.old station.old out.old)
+        (shown ⟦<C as Source>⟧ ⟦<T as Site>⟧ ⟦<K as Station>⟧ ⟦<O as Sink>⟧
+        config.new site.new station.new out.new) result }
+    // `report`
+    ensures report { built_command_of (map string_bytes words.now) ≡ Some Report → ReportRuns
+        (shown ⟦<C as Source>⟧ ⟦<T as Site>⟧ ⟦<K as Station>⟧ ⟦<O as Sink>⟧
+        config.old site.old station.old out.old)
+        (shown ⟦<C as Source>⟧ ⟦<T as Site>⟧ ⟦<K as Station>⟧ ⟦<O as Sink>⟧
+        config.new site.new station.new out.new) result }
+    // `audit`
+    ensures audit { built_command_of (map string_bytes words.now) ≡ Some Audit → AuditRuns
+        (shown ⟦<C as Source>⟧ ⟦<T as Site>⟧ ⟦<K as Station>⟧ ⟦<O as Sink>⟧
+        config.old site.old station.old out.old)
+        (shown ⟦<C as Source>⟧ ⟦<T as Site>⟧ ⟦<K as Station>⟧ ⟦<O as Sink>⟧
+        config.new site.new station.new out.new) result }
+    // `demo`
+    ensures demo { (seed samples workers : ℕ) →
+        built_command_of (map string_bytes words.now) ≡ Some (Demo seed samples workers) →
+        DemoRuns seed samples O.tells (O.written out.old) (O.written out.new)
+        (O.faults out.old) (O.faults out.new) result }
+    // Words that are no command.
+    ensures no_command { built_command_of (map string_bytes words.now) ≡ None →
+        Runs usage_task
         (outside ⟦<T as Site>⟧ ⟦<O as Sink>⟧ site.old out.old)
         (outside ⟦<T as Site>⟧ ⟦<O as Sink>⟧ site.new out.new) result ⊎
         Runs no_memory_task
@@ -28,10 +100,42 @@ pub fn monitor<R: AllocGlobal, T: Site, O: Sink>(
     ensures usage { result ≡ Status.Usage → built_command_of (map string_bytes words.now) ≡ None }
     ensures refused { built_command_of (map string_bytes words.now) ≡ None →
         (result ≡ Status.Usage) ⊎ (result ≡ Status.OutOfMemory) }
+    // What `table`, `demo` and wrong words tell: the line of the answer, and nothing else changes.
+    ensures told { (name : List ℕ) →
+        IsToldOf (built_command_of (map string_bytes words.now)) name → K.tells →
+        Tells (fault_line result name)
+        (shown ⟦<C as Source>⟧ ⟦<T as Site>⟧ ⟦<K as Station>⟧ ⟦<O as Sink>⟧
+        config.old site.old station.old out.old)
+        (shown ⟦<C as Source>⟧ ⟦<T as Site>⟧ ⟦<K as Station>⟧ ⟦<O as Sink>⟧
+        config.new site.new station.new out.new) }
+    ensures last { (name : List ℕ) →
+        IsToldOf (built_command_of (map string_bytes words.now)) name → K.tells →
+        result ≢ Status.Done → Ends (fault_line result name)
+        (shown ⟦<C as Source>⟧ ⟦<T as Site>⟧ ⟦<K as Station>⟧ ⟦<O as Sink>⟧
+        config.old site.old station.old out.old)
+        (shown ⟦<C as Source>⟧ ⟦<T as Site>⟧ ⟦<K as Station>⟧ ⟦<O as Sink>⟧
+        config.new site.new station.new out.new) }
+    ensures back { T.out site.new ≡ 0 }
+    ensures files { T.tells → T.files site.new ≡ T.files site.old }
 {
     match read_words(rt.alloc(), words) {
-        Ok(Some(Command::Table { file })) => table_command(rt.alloc(), file, site, out),
-        Ok(_) => Status::Usage,
-        Err(_) => Status::OutOfMemory,
+        Ok(Some(Command::Table { file })) => told_table(rt.alloc(), file, site, station, out),
+        Ok(Some(Command::Init)) => init_command(rt.alloc(), config, site, station),
+        Ok(Some(Command::Count { workers })) => {
+            count_command(rt, workers, config, site, station, out, gate)
+        }
+        Ok(Some(Command::Report)) => report_command(rt.alloc(), config, station, out),
+        Ok(Some(Command::Audit)) => audit_command(rt.alloc(), config, site, station, out),
+        Ok(
+            Some(
+                Command::Demo {
+                    seed,
+                    samples,
+                    workers,
+                },
+            ),
+        ) => told_demo(rt, seed, samples, workers, station, out, gate),
+        Ok(_) => usage(rt.alloc(), station),
+        Err(_) => no_memory(station),
     }
 }

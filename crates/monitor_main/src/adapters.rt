@@ -16,6 +16,14 @@ pub struct FileSource {
     faults: u64,
 }
 
+impl FileSource {
+    pub fn new(file: File) -> FileSource
+        ensures { result.faults ≡ 0 }
+    {
+        FileSource { file, faults: 0 }
+    }
+}
+
 impl Source for FileSource {
     ghost tells = { ⊥ };
 
@@ -77,7 +85,7 @@ impl<'a, R: Files<File = File>> Site for FolderSite<'a, R> {
         match File::open(self.rt, name) {
             Ok(file) => {
                 self.out += 1;
-                Ok(FileSource { file, faults: 0 })
+                Ok(FileSource::new(file))
             }
             Err(_) => {
                 self.faults = self.faults.saturating_add(1);

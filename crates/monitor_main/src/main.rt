@@ -1,4 +1,6 @@
-//! The program: the command line, the current folder and standard output, handed to `monitor`.
+//! The program: the command line, the current folder, standard output and standard error, handed to
+//! `monitor`. The configuration is `monitor.toml`, the store `monitor.store`; each is opened at its
+//! first use.
 //!
 //! The adapters are the trusted edge. They meet the contracts of the outside, and tell nothing of
 //! what a real file or a terminal holds: no contract can. Each counts the errors of the system that
@@ -6,6 +8,8 @@
 #![tactic(auto)]
 
 mod adapters;
+mod named_file;
+mod store_file;
 mod words;
 
 ghost use Rattle.std.specs.Prelude.{◌≡◌};
@@ -13,26 +17,54 @@ ghost use Rattle.std.specs.Process.{exit_status};
 ghost use Rattle.status.specs.Status.{code_of};
 
 use adapters::{FolderSite, OutputSink};
+use fault_lines::tell_no_memory;
 use monitor::monitor;
+use named_file::NamedFile;
+use outside::OpenGate;
+use station::Station;
 use status::Status;
 use std::process::ExitCode;
+use std::sync::Wait;
+use std::thread::Threads;
+use store_file::FileStation;
 use words::{WordFault, words_of};
 
 fn main(rt: HostRuntime) -> ExitCode {
-    exit_code(run(&rt))
+    exit_code(run(&rt, &rt))
 }
 
-// Does what the words behind the program's name say.
-fn run(rt: &HostRuntime) -> Status {
+// Does what the words behind the program's name say. Words that are no text are no command. The
+// threads come from the runtime as `main` has it.
+fn run<R: AllocGlobal + Threads + Wait + Sync>(threads: &R, rt: &HostRuntime) -> Status {
+    let mut station = FileStation::new(rt, "monitor.store", rt.stderr());
     match words_of(rt, rt.alloc()) {
-        Ok(words) => {
-            let mut site = FolderSite::new(rt);
-            let mut out = OutputSink::new(rt);
-            monitor(rt, words.as_slice(), &mut site, &mut out)
+        Ok(words) => run_words(threads, rt, words.as_slice(), &mut station),
+        Err(WordFault::NotText) => run_words(threads, rt, &[], &mut station),
+        Err(WordFault::OutOfMemory) => {
+            tell_no_memory(&mut station);
+            Status::OutOfMemory
         }
-        Err(WordFault::NotText) => Status::Usage,
-        Err(WordFault::OutOfMemory) => Status::OutOfMemory,
     }
+}
+
+fn run_words<R: AllocGlobal + Threads + Wait + Sync, K: Station>(
+    threads: &R,
+    rt: &HostRuntime,
+    words: &[String],
+    station: &mut K,
+) -> Status {
+    let mut config = NamedFile::new(rt, "monitor.toml");
+    let mut site = FolderSite::new(rt);
+    let mut out = OutputSink::new(rt);
+    monitor(
+        threads,
+        words,
+        &mut config,
+        &mut site,
+        station,
+        &mut out,
+        &OpenGate,
+    )
 }
 
 // What the process ends with.

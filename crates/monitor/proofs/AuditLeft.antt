@@ -1,0 +1,23 @@
+-- `audit`, where memory ran out before its configuration was read.
+use Rattle.std.proofs.Common.{◌≡◌, ◌≢◌, ◌⊎◌, inr, List, [], refl, sym, subst}
+use Rattle.status.specs.declared.status.Status.{Status}
+use Rattle.status.specs.declared.status.Status.TheVariants.{OutOfMemory}
+use Rattle.fault_lines.specs.FaultLine.{fault_line}
+use Rattle.monitor.specs.Shown.{Shown, Tells, Ends}
+use Rattle.monitor.specs.AuditRun.{AuditRuns}
+
+pub audit_without_memory : (before after : Shown) (s : Status) → s ≡ OutOfMemory → (before.station_tells → Tells (fault_line OutOfMemory []) before after)
+    → (before.station_tells → Ends (fault_line OutOfMemory []) before after) → after.written ≡ before.written → AuditRuns before after s
+audit_without_memory before after s is tells ends same = subst (λ (x : Status). AuditRuns before after x) (sym is) (record {
+  answer_is = λ k t c. tt;
+  complete = λ k t c sound r f d w. inr refl;
+  stands = λ k t c conf is2 w n h. tt;
+  prints = λ o c conf is2. same;
+  nothing = λ o p. same;
+  quiet = λ k c. tells k;
+  last = λ k c n. ends k;
+  named = λ no. cc;
+  read = λ no. absurd (cc);
+  write = λ no. absurd (cc);
+  disk = λ no. absurd (cc);
+})

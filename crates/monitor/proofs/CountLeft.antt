@@ -1,0 +1,43 @@
+-- `count`, where memory ran out before its configuration was read.
+use Rattle.std.proofs.Common.{◌≡◌, ◌≢◌, ◌⊎◌, inl, inr, ℕ, List, [], ◌∷◌, ◌++◌, refl, sym, subst}
+use Rattle.station.specs.Station.{Image, Lines}
+use Rattle.site_config.specs.declared.config.Config.{Config}
+use Rattle.recorded.specs.Recorded.{recorded, Recorded}
+use Rattle.held_samples.specs.Going.{AllHold, IsKept}
+use Rattle.status.specs.declared.status.Status.{Status}
+use Rattle.status.specs.declared.status.Status.TheVariants.{OutOfMemory}
+use Rattle.fault_lines.specs.FaultLine.{fault_line}
+use Rattle.count_command.proofs.FaultTold.{safe_fault, fault_below}
+use Rattle.count_command.proofs.Resumed.{safe_starts}
+use Rattle.monitor.specs.Shown.{Shown, Tells, Ends}
+use Rattle.monitor.specs.CountRun.{CountRuns}
+
+-- each moment holds what was held, where a line was told at most
+kept_moments : (before after : Shown) (r : Recorded) (a : List ℕ)
+    → ((lines : Lines) (image : Image) → before.moments before.clock lines image → (lines ≡ before.told) × before.leaves image)
+    → Tells (fault_line OutOfMemory []) before after → AllHold r a before.leaves → (lines : Lines) (image : Image) → after.moments before.clock lines image
+    → IsKept r a before.told lines image
+kept_moments before after r a only tells holds lines image was =
+    let safe = safe_starts r a before.clock before.moments before.told before.seen before.leaves holds only in
+    (safe_fault r a _ _ _ _ _ _ _ _ _ _ _ _ _ safe (fault_line OutOfMemory []) (fault_below r OutOfMemory []) tells).run.each lines image was
+
+pub count_without_memory : (before after : Shown) (s : Status) → s ≡ OutOfMemory
+    → (before.station_tells → (lines : Lines) (image : Image) → before.moments before.clock lines image → (lines ≡ before.told) × before.leaves image)
+    → (before.station_tells → Tells (fault_line OutOfMemory []) before after) → (before.station_tells → Ends (fault_line OutOfMemory []) before after)
+    → after.written ≡ before.written → CountRuns before after s
+count_without_memory before after s is only tells ends same = subst (λ (x : Status). CountRuns before after x) (sym is) (record {
+  every_moment = λ k t c conf is2 a holds. kept_moments before after (recorded conf before.files) a (only k) (tells k) holds;
+  ended = λ k t c conf is2 a holds. tt;
+  cut = λ k t c conf is2 a holds no. tt;
+  prints = λ o k t c conf is2 a holds. same;
+  nothing = λ o p. same;
+  acknowledged = λ k t c conf is2 n holds no. absurd (cc);
+  answer_is = λ k t c. tt;
+  complete = λ k t c conf is2 n h fits sound r f d w. inr refl;
+  quiet = λ k l. ([], tells k);
+  named = λ no. cc;
+  read = λ no. absurd (cc);
+  write = λ no. absurd (cc);
+  disk = λ no. absurd (cc);
+  last = λ k c n. ends k;
+})

@@ -1,0 +1,121 @@
+-- A command line that is left where memory ran out, and the lines told of words.
+use Rattle.std.proofs.Common.{◌≡◌, ◌⊎◌, inl, inr, ℕ, List, [], ◌∷◌, ◌++◌, length, refl, sym, subst, append-nil, arith}
+use Rattle.std.specs.Prelude.{Option, Some}
+use Rattle.station.specs.Station.{Image, Lines, Since}
+use Rattle.station.proofs.Moments.{entails}
+use Rattle.command_words.specs.Line.{Command, Table, Demo}
+use Rattle.site_config.specs.declared.config.Config.{Config}
+use Rattle.status.specs.declared.status.Status.{Status}
+use Rattle.status.specs.declared.status.Status.TheVariants.{Usage, OutOfMemory}
+use Rattle.fault_lines.specs.FaultLine.{fault_line}
+use Rattle.fault_lines.specs.Telling.{InFault, EndsIn}
+use Rattle.init_command.specs.Init.{InMaking}
+use Rattle.report_command.specs.Printing.{PrintsKept}
+use Rattle.report_command.proofs.HeldFigures.{kept_unprinted}
+use Rattle.outside.specs.Fault.{Rose}
+use Rattle.monitor.specs.Line.{built, IsToldOf}
+use Rattle.monitor.specs.Run.{Outside, Runs, no_memory_task}
+use Rattle.monitor.specs.Shown.{Shown, Tells, Ends}
+use Rattle.monitor.specs.InitRun.{InitRuns}
+use Rattle.monitor.specs.ReportRun.{ReportRuns}
+use Rattle.monitor.specs.DemoRun.{DemoRuns}
+
+-- nothing was asked for and nothing printed
+pub nothing_done : (before : Outside) (s : Status) → s ≡ OutOfMemory → before.out ≡ 0 → Runs no_memory_task before before s
+nothing_done before s is back = subst (λ (x : Status). Runs no_memory_task before before x) (sym is) (record {
+  done = λ a b no. absurd (cc);
+  front = λ a b no. absurd (cc);
+  nothing = λ t n m. refl;
+  answer_may = λ t. refl;
+  complete = λ t r w. refl;
+  read = λ no. absurd (cc);
+  write = λ no. absurd (cc);
+  asked = λ names has. subst before.names_asked (sym (append-nil names)) has;
+  back = back;
+  files = λ t. refl;
+})
+
+-- an empty station stays empty
+empty_moments : (before after : Shown) (line : List ℕ) (c : Config) → Tells line before after → ((image : Image) → before.leaves image → length image ≡ 0)
+    → Since before.clock before.moments after.clock after.moments (InMaking c before.files)
+empty_moments before after line c tells none =
+    entails before.clock after.clock before.moments after.moments (InMaking c before.files) (InFault line before.told before.leaves) tells.run
+    (λ lines image h. inl (omega (arith, none image h.1)))
+
+pub init_without_memory : (before after : Shown) (s : Status) → s ≡ OutOfMemory → (before.station_tells → Tells (fault_line OutOfMemory []) before after)
+    → (before.station_tells → Ends (fault_line OutOfMemory []) before after) → (before.output_tells → after.written ≡ before.written) → after.out ≡ 0
+    → (before.site_tells → after.files ≡ before.files) → InitRuns before after s
+init_without_memory before after s is tells ends nothing back files = subst (λ (x : Status). InitRuns before after x) (sym is) (record {
+  made = λ k t c no. absurd (cc);
+  told = λ k c no. absurd (cc);
+  any_moment = λ k t c conf is2 none. empty_moments before after (fault_line OutOfMemory []) conf (tells k) none;
+  unmade = λ k c u. tells k;
+  quiet = λ k c some. tells k;
+  last = λ k c n. ends k;
+  answer_is = λ k t c. tt;
+  complete = λ k t c conf is2 sound none r w f. inr refl;
+  kind = tt;
+  read = λ no. absurd (cc);
+  disk = λ no. absurd (cc);
+  nothing = nothing;
+  back = back;
+  files = files;
+})
+
+pub report_without_memory : (before after : Shown) (s : Status) → s ≡ OutOfMemory → (before.station_tells → Tells (fault_line OutOfMemory []) before after)
+    → (before.station_tells → Ends (fault_line OutOfMemory []) before after) → after.written ≡ before.written → ReportRuns before after s
+report_without_memory before after s is tells ends same = subst (λ (x : Status). ReportRuns before after x) (sym is) (record {
+  prints = λ o k c conf is2 w n holds. same;
+  kept = λ o k c conf is2 head bodies all setup reads.
+      subst (λ (new : List ℕ). PrintsKept OutOfMemory conf bodies before.written new) (sym same) (kept_unprinted OutOfMemory conf bodies before.written refl);
+  nothing = λ o p. same;
+  quiet = λ k. tells k;
+  last = λ k n. ends k;
+  answer_is = λ k c. tt;
+  complete = λ k c sound r f w. inr refl;
+  kind = tt;
+  read = λ no. absurd (cc);
+  write = λ no. absurd (cc);
+  disk = λ no. absurd (cc);
+})
+
+pub demo_without_memory : (seed samples : ℕ) (tells : Type 0) (old : List ℕ) (faults : ℕ) (s : Status) → s ≡ OutOfMemory → DemoRuns seed samples tells old old faults faults s
+demo_without_memory seed samples tells old faults s is = subst (λ (x : Status). DemoRuns seed samples tells old old faults faults x) (sym is) (record {
+  done = λ t no. absurd (cc);
+  front = λ t no. absurd (cc);
+  nothing = λ t n m. refl;
+  some = λ p. absurd p;
+  kind = tt;
+  write = λ no. absurd (cc);
+})
+
+pub ends_by : (faults faults2 : ℕ) (told told2 : Lines) (line : List ℕ) → Rose faults faults2 ⊎ (told2 ≡ told ++ line ∷ []) → Rose faults faults2 ⊎ EndsIn line told2
+ends_by faults faults2 told told2 line (inl rose) = inl rose
+ends_by faults faults2 told told2 line (inr is) = inr (told, is)
+
+-- the last line told, where it is put behind the others
+pub ends_at : (before after : Shown) (line : List ℕ) → Rose before.station_faults after.station_faults ⊎ (after.told ≡ before.told ++ line ∷ []) → Ends line before after
+ends_at before after line (inl rose) = inl rose
+ends_at before after line (inr is) = inr (before.told, is)
+
+-- the name in what `table` tells is the file's
+pub table_last : (w : Option Command) (file name : List ℕ) (s : Status) (before after : Shown) → w ≡ Some (Table file) → IsToldOf (built w) name
+    → Ends (fault_line s file) before after → Ends (fault_line s name) before after
+table_last w file name s before after is told last =
+    let same : name ≡ file = subst (λ (x : Option Command). IsToldOf (built x) name) is told in
+    subst (λ (n : List ℕ). Ends (fault_line s n) before after) (sym same) last
+
+-- none is in what `demo` tells
+pub demo_last : (w : Option Command) (seed samples workers : ℕ) (name : List ℕ) (s : Status) (before after : Shown) → w ≡ Some (Demo seed samples workers)
+    → IsToldOf (built w) name → Ends (fault_line s []) before after → Ends (fault_line s name) before after
+demo_last w seed samples workers name s before after is told last =
+    let same : name ≡ [] = subst (λ (x : Option Command). IsToldOf (built x) name) is told in
+    subst (λ (n : List ℕ). Ends (fault_line s n) before after) (sym same) last
+
+-- no name is in what wrong words tell
+pub usage_last : (s : Status) (name : List ℕ) (before after : Shown) → (s ≡ Usage) ⊎ (s ≡ OutOfMemory) → Ends (fault_line s []) before after
+    → Ends (fault_line s name) before after
+usage_last s name before after (inl is) last =
+    subst (λ (x : Status). Ends (fault_line x name) before after) (sym is) (subst (λ (x : Status). Ends (fault_line x []) before after) is last)
+usage_last s name before after (inr is) last =
+    subst (λ (x : Status). Ends (fault_line x name) before after) (sym is) (subst (λ (x : Status). Ends (fault_line x []) before after) is last)

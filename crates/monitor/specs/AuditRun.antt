@@ -1,0 +1,40 @@
+-- What a run of `audit` did.
+use Rattle.std.specs.Prelude.{◌≡◌, ◌≢◌, ◌⊎◌, ℕ, ℤ, List, Ok}
+use Rattle.outside.specs.Fault.{Rose}
+use Rattle.segment_store.specs.Holds.{Holds}
+use Rattle.site_config.specs.Configuration.{config_of_bytes}
+use Rattle.site_config.specs.declared.config.Config.{Config}
+use Rattle.recorded.specs.Recorded.{recorded}
+use Rattle.status.specs.declared.status.Status.{Status}
+use Rattle.status.specs.declared.status.Status.TheVariants.{Done, Usage, ReadFault, WriteFault, DiskFault, OutOfMemory}
+use Rattle.report_command.specs.Printing.{IsPrinting}
+use Rattle.audit_command.specs.Answers.{AuditAnswers, IsSound}
+use Rattle.audit_command.specs.Audited.{Finds, IsStanding, first_samples}
+use Rattle.audit_command.specs.Printing.{Prints}
+use Rattle.monitor.specs.InitRun.{line_for}
+use Rattle.monitor.specs.Shown.{Shown, Tells, Ends}
+
+pub record AuditRuns (before after : Shown) (answer : Status) : Type 0 where
+  -- Which answer it is, by what the bodies of each gauge keep and what its recording begins with, and when it is `Done`.
+  pub answer_is : before.station_tells → before.site_tells → before.config_tells →
+      AuditAnswers (config_of_bytes before.config) before.seen before.files answer
+  pub complete : before.station_tells → before.site_tells → before.config_tells →
+      IsSound (config_of_bytes before.config) before.seen before.files →
+      ¬ Rose before.config_faults after.config_faults → ¬ Rose before.site_faults after.site_faults →
+      ¬ Rose before.station_faults after.station_faults → ¬ Rose before.output_faults after.output_faults →
+      (answer ≡ Done) ⊎ (answer ≡ OutOfMemory)
+  -- Where the bodies stand for samples, these are compared with what the recording begins with.
+  pub stands : before.station_tells → before.site_tells → before.config_tells → (c : Config) →
+      config_of_bytes before.config ≡ Ok c → (w : ℕ → List ℤ) (n : List ℕ) → Holds c.setup w n before.seen →
+      Finds c (IsStanding c (first_samples w n)) (first_samples (recorded c before.files).samples n) answer
+  -- A line for each gauge.
+  pub prints : before.output_tells → before.config_tells → (c : Config) →
+      config_of_bytes before.config ≡ Ok c → Prints answer c before.written after.written
+  pub nothing : before.output_tells → ¬ IsPrinting answer → after.written ≡ before.written
+  -- At most the line of the answer is told, and the store stays.
+  pub quiet : before.station_tells → before.config_tells → Tells (line_for before answer) before after
+  pub last : before.station_tells → before.config_tells → answer ≢ Done → Ends (line_for before answer) before after
+  pub named : answer ≢ Usage
+  pub read : answer ≡ ReadFault → Rose before.config_faults after.config_faults ⊎ Rose before.site_faults after.site_faults
+  pub write : answer ≡ WriteFault → Rose before.output_faults after.output_faults
+  pub disk : answer ≡ DiskFault → Rose before.station_faults after.station_faults

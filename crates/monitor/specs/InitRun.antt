@@ -1,0 +1,46 @@
+-- What a run of `init` did.
+--   line_for   the line of an answer, by the configuration before the run
+--   InitRuns   that a run did it
+use Rattle.std.specs.Prelude.{◌≡◌, ◌≢◌, ◌<◌, ◌⊎◌, ℕ, List, [], ◌∷◌, ◌++◌, length, Ok}
+use Rattle.outside.specs.Fault.{Rose}
+use Rattle.station.specs.Station.{Image, Since}
+use Rattle.site_config.specs.Configuration.{config_of_bytes}
+use Rattle.site_config.specs.declared.config.Config.{Config}
+use Rattle.status.specs.declared.status.Status.{Status}
+use Rattle.status.specs.declared.status.Status.TheVariants.{Done, ReadFault, DiskFault, OutOfMemory}
+use Rattle.fault_lines.specs.FaultLine.{fault_line, name_by}
+use Rattle.init_command.specs.Heads.{AreSound}
+use Rattle.init_command.specs.Init.{init_line, InMaking, IsMade, InitAnswers, IsInit, IsUnmade}
+use Rattle.monitor.specs.Shown.{Shown, Tells, Ends}
+
+abbrev pub line_for : Shown → Status → List ℕ
+line_for before answer = fault_line answer (name_by (config_of_bytes before.config) answer)
+
+pub record InitRuns (before after : Shown) (answer : Status) : Type 0 where
+  -- With `Done` a crash leaves the new store and nothing else, and its line was told.
+  pub made : before.station_tells → before.site_tells → before.config_tells → answer ≡ Done → (c : Config) →
+      config_of_bytes before.config ≡ Ok c → IsMade c before.files after.seen after.leaves
+  pub told : before.station_tells → before.config_tells → answer ≡ Done → (c : Config) →
+      config_of_bytes before.config ≡ Ok c → after.told ≡ before.told ++ init_line (length c.gauges) ∷ []
+  -- On an empty station each moment is too short for a head, or has no open ready byte, or is the new store.
+  pub any_moment : before.station_tells → before.site_tells → before.config_tells → (c : Config) →
+      config_of_bytes before.config ≡ Ok c → ((image : Image) → before.leaves image → length image ≡ 0) →
+      Since before.clock before.moments after.clock after.moments (InMaking c before.files)
+  -- Where it is refused, and over a station that is not empty, at most the line of the answer is told.
+  pub unmade : before.station_tells → before.config_tells → IsUnmade answer → Tells (line_for before answer) before after
+  pub quiet : before.station_tells → before.config_tells → 0 < length before.seen → Tells (line_for before answer) before after
+  pub last : before.station_tells → before.config_tells → answer ≢ Done → Ends (line_for before answer) before after
+  -- Which answer it is, and when it is `Done`.
+  pub answer_is : before.station_tells → before.site_tells → before.config_tells →
+      InitAnswers (config_of_bytes before.config) before.files before.seen answer
+  pub complete : before.station_tells → before.site_tells → before.config_tells → (c : Config) →
+      config_of_bytes before.config ≡ Ok c → AreSound c before.files (length c.gauges) → length before.seen ≡ 0 →
+      ¬ Rose before.config_faults after.config_faults → ¬ Rose before.site_faults after.site_faults →
+      ¬ Rose before.station_faults after.station_faults → (answer ≡ Done) ⊎ (answer ≡ OutOfMemory)
+  pub kind : IsInit answer
+  pub read : answer ≡ ReadFault → Rose before.config_faults after.config_faults ⊎ Rose before.site_faults after.site_faults
+  pub disk : answer ≡ DiskFault → Rose before.station_faults after.station_faults
+  -- What stays.
+  pub nothing : before.output_tells → after.written ≡ before.written
+  pub back : after.out ≡ 0
+  pub files : before.site_tells → after.files ≡ before.files

@@ -1,0 +1,45 @@
+ghost use Rattle.std.specs.Prelude.{◌≡◌, ◌≢◌, ◌≤◌, ◌⊎◌, []};
+ghost use Rattle.fault_lines.specs.FaultLine.{fault_line};
+ghost use Rattle.fault_lines.specs.Telling.{TellsAtMost, EndsIn};
+ghost use Rattle.outside.specs.Fault.{Rose};
+ghost use Rattle.demo_command.specs.declared.TheConstants.{MAX_SEED, MAX_DEMO_SAMPLES};
+ghost use Rattle.round_making.specs.declared.TheConstants.{MAX_WORKERS};
+ghost use Rattle.monitor.specs.DemoRun.{DemoRuns};
+
+use crate::refused::no_memory;
+use demo_command::demo_command;
+use fault_lines::{FaultLine, tell_fault};
+use outside::{Gate, Sink};
+use station::Station;
+use status::Status;
+use std::sync::Wait;
+use std::thread::Threads;
+
+/// Counts recordings that are made from a seed, and tells whatever else than `Done` is answered.
+/// Where there is no room for that line nothing is counted.
+pub(crate) fn told_demo<
+    R: AllocGlobal + Threads + Wait + Sync,
+    K: Station,
+    O: Sink,
+    G: Gate + Sync,
+>(rt: &R, seed: u64, samples: u64, workers: u8, station: &mut K, out: &mut O, gate: &G) -> Status
+    requires seed { seed ≤ MAX_SEED }
+    requires samples { (1 ≤ samples) × (samples ≤ MAX_DEMO_SAMPLES) }
+    requires workers { (1 ≤ workers) × (workers ≤ MAX_WORKERS) }
+    ensures run { DemoRuns seed samples O.tells (O.written out.old) (O.written out.new)
+        (O.faults out.old) (O.faults out.new) result }
+    ensures told { K.tells → TellsAtMost (fault_line result [])
+        (K.clock station.old) (K.moments station.old) (K.clock station.new) (K.moments station.new)
+        (K.told station.old) (K.told station.new) (K.seen station.old) (K.seen station.new)
+        (K.leaves station.old) (K.leaves station.new) }
+    ensures last { K.tells → result ≢ Status.Done →
+        Rose (K.faults station.old) (K.faults station.new) ⊎
+        EndsIn (fault_line result []) (K.told station.new) }
+{
+    let Ok(mut line) = FaultLine::new(rt.alloc(), 0) else {
+        return no_memory(station);
+    };
+    let status = demo_command(rt, seed, samples, workers, out, gate);
+    tell_fault(station, &mut line, status, "");
+    status
+}

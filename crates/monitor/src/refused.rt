@@ -1,0 +1,40 @@
+ghost use Rattle.std.specs.Prelude.{◌≡◌, ◌⊎◌, []};
+ghost use Rattle.outside.specs.Fault.{Rose};
+ghost use Rattle.fault_lines.specs.FaultLine.{fault_line};
+ghost use Rattle.fault_lines.specs.Telling.{TellsAtMost, EndsIn};
+
+use fault_lines::{FaultLine, tell_fault, tell_no_memory};
+use station::Station;
+use status::Status;
+use std::alloc::Global;
+
+/// Tells that the words are no command.
+pub(crate) fn usage<K: Station>(alloc: Global, station: &mut K) -> Status
+    ensures status { (result ≡ Status.Usage) ⊎ (result ≡ Status.OutOfMemory) }
+    ensures told { K.tells → TellsAtMost (fault_line result [])
+        (K.clock station.old) (K.moments station.old) (K.clock station.new) (K.moments station.new)
+        (K.told station.old) (K.told station.new) (K.seen station.old) (K.seen station.new)
+        (K.leaves station.old) (K.leaves station.new) }
+    ensures last { K.tells → Rose (K.faults station.old) (K.faults station.new) ⊎
+        EndsIn (fault_line result []) (K.told station.new) }
+{
+    let Ok(mut line) = FaultLine::new(alloc, 0) else {
+        return no_memory(station);
+    };
+    tell_fault(station, &mut line, Status::Usage, "");
+    Status::Usage
+}
+
+/// Tells that memory ran out.
+pub(crate) fn no_memory<K: Station>(station: &mut K) -> Status
+    ensures status { result ≡ Status.OutOfMemory }
+    ensures told { K.tells → TellsAtMost (fault_line Status.OutOfMemory [])
+        (K.clock station.old) (K.moments station.old) (K.clock station.new) (K.moments station.new)
+        (K.told station.old) (K.told station.new) (K.seen station.old) (K.seen station.new)
+        (K.leaves station.old) (K.leaves station.new) }
+    ensures last { K.tells → Rose (K.faults station.old) (K.faults station.new) ⊎
+        EndsIn (fault_line Status.OutOfMemory []) (K.told station.new) }
+{
+    tell_no_memory(station);
+    Status::OutOfMemory
+}

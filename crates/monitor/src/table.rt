@@ -1,0 +1,48 @@
+ghost use Rattle.std.specs.Prelude.{◌≡◌, ◌≢◌, ◌⊎◌};
+ghost use Rattle.outside.specs.Fault.{Rose};
+ghost use Rattle.fault_lines.specs.FaultLine.{fault_line};
+ghost use Rattle.fault_lines.specs.Telling.{TellsAtMost, EndsIn};
+ghost use Rattle.monitor.specs.Run.{Runs, table_task, no_memory_task, outside};
+
+use crate::command::table_command;
+use crate::refused::no_memory;
+use fault_lines::{FaultLine, tell_fault};
+use outside::{Sink, Site};
+use station::Station;
+use status::Status;
+use std::alloc::Global;
+
+/// Prints the rainflow table of a recording, and tells whatever else is answered, with the file's
+/// name. Where there is no room for that line nothing is asked for.
+pub(crate) fn told_table<T: Site, K: Station, O: Sink>(
+    alloc: Global,
+    file: &str,
+    site: &mut T,
+    station: &mut K,
+    out: &mut O,
+) -> Status
+    requires home { T.out site.old ≡ 0 }
+    ensures run { Runs (table_task file.now (T.files site.old))
+        (outside ⟦<T as Site>⟧ ⟦<O as Sink>⟧ site.old out.old)
+        (outside ⟦<T as Site>⟧ ⟦<O as Sink>⟧ site.new out.new) result ⊎
+        Runs no_memory_task
+        (outside ⟦<T as Site>⟧ ⟦<O as Sink>⟧ site.old out.old)
+        (outside ⟦<T as Site>⟧ ⟦<O as Sink>⟧ site.new out.new) result }
+    ensures named { result ≢ Status.Usage }
+    ensures told { K.tells → TellsAtMost (fault_line result file.now)
+        (K.clock station.old) (K.moments station.old) (K.clock station.new) (K.moments station.new)
+        (K.told station.old) (K.told station.new) (K.seen station.old) (K.seen station.new)
+        (K.leaves station.old) (K.leaves station.new) }
+    ensures last { K.tells → result ≢ Status.Done →
+        Rose (K.faults station.old) (K.faults station.new) ⊎
+        EndsIn (fault_line result file.now) (K.told station.new) }
+    ensures back { T.out site.new ≡ 0 }
+    ensures files { T.tells → T.files site.new ≡ T.files site.old }
+{
+    let Ok(mut line) = FaultLine::new(alloc, file.len()) else {
+        return no_memory(station);
+    };
+    let status = table_command(alloc, file, site, out);
+    tell_fault(station, &mut line, status, file);
+    status
+}

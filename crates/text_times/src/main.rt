@@ -1,0 +1,109 @@
+//! The bytes that are made of a full segment, and what they take: its text in a report and its body
+//! in a store. For each a digest of its bytes, and with the word `time` also the least processor
+//! time of nine calls, in microseconds, over a segment of so much noise that nearly every pair of
+//! levels was counted.
+//!
+//! Only safety is proved here. What the calls write is said by their own contracts.
+#![tactic(auto)]
+
+mod made;
+
+use made::{body_of, digest_of, noise_segment};
+use report::{Page, gauge_text};
+use segment::Segment;
+use segment_bytes::{Layout, max_body};
+use std::rt::Env;
+use std::time::CpuClock;
+use std::{env, fmt, io};
+
+const REPEATS: u32 = 9;
+
+// How many samples are counted, and how many where times are asked for.
+const FEW: u32 = 1 << 13;
+
+const MANY: u32 = 1 << 24;
+
+fn main(rt: HostRuntime) -> io::Result<()> {
+    let is_timed = env::args(&rt)?.skip(1).any(|word| word.as_str() == "time");
+    let (samples, repeats) = if is_timed { (MANY, REPEATS) } else { (FEW, 1) };
+    for classes in [128, 1024] {
+        let segment = noise_segment(rt.alloc(), classes, samples)?;
+        show(&rt, repeats, &segment, What::Text)?;
+        show(&rt, repeats, &segment, What::Body)?;
+    }
+    Ok(())
+}
+
+// What is made of a segment.
+#[derive(Clone, Copy, Debug, PartialEq, Eq)]
+enum What {
+    Text,
+    Body,
+}
+
+impl What {
+    fn time<R: CpuClock + AllocGlobal>(self, rt: &R, segment: &Segment) -> io::Result<(u64, u128)> {
+        match self {
+            What::Text => time_text(rt, segment),
+            What::Body => time_body(rt, segment),
+        }
+    }
+}
+
+impl fmt::Display for What {
+    fn fmt<W: fmt::Write>(&self, f: &mut fmt::Formatter<W>) -> fmt::Result {
+        f.write_str(match self {
+            What::Text => "gauge_text",
+            What::Body => "body",
+        })
+    }
+}
+
+// A digest of the text of a gauge in a report, and what a call takes, in nanoseconds.
+fn time_text<R: CpuClock + AllocGlobal>(rt: &R, segment: &Segment) -> io::Result<(u64, u128)> {
+    let mut page = Page::new(rt.alloc(), segment.grid().classes())?;
+    let start = rt.process_cpu_time()?;
+    gauge_text(&mut page, "gauge", segment);
+    let end = rt.process_cpu_time()?;
+    let time = if end >= start {
+        (end - start).as_nanos()
+    } else {
+        u128::MAX
+    };
+    Ok((digest_of(page.bytes()), time))
+}
+
+// Likewise of the body in a store.
+fn time_body<R: CpuClock + AllocGlobal>(rt: &R, segment: &Segment) -> io::Result<(u64, u128)> {
+    let longest = max_body(Layout::Two, segment.grid().classes());
+    let mut buf = vec![in rt.alloc(); 0; longest]?;
+    let start = rt.process_cpu_time()?;
+    let body = body_of(segment, &mut buf);
+    let end = rt.process_cpu_time()?;
+    let time = if end >= start {
+        (end - start).as_nanos()
+    } else {
+        u128::MAX
+    };
+    Ok((digest_of(body), time))
+}
+
+// The same digest and the least time of so many calls.
+fn show<R: CpuClock + AllocGlobal + Print>(
+    rt: &R,
+    repeats: u32,
+    segment: &Segment,
+    what: What,
+) -> io::Result<()> {
+    let (digest, mut least) = what.time(rt, segment)?;
+    for _ in 1..repeats {
+        let (_, time) = what.time(rt, segment)?;
+        least = least.min(time);
+    }
+    let classes = segment.grid().classes();
+    if repeats > 1 {
+        println!(rt; "{what}_of_{classes} {digest} {}", least / 1000)
+    } else {
+        println!(rt; "{what}_of_{classes} {digest}")
+    }
+}
