@@ -9,66 +9,23 @@ program prints, byte for byte, and its exit status are compared. Last line: comp
 """
 import os
 import random
-import struct
 import subprocess
 import sys
 import tempfile
 
+# No folder is made in the checkout.
+sys.dont_write_bytecode = True
+
+from model import MISSING, Count, Grid, recording
+
+# What `table` counts by: 64 classes of 1 N/mm² from 0, and raw values in N/mm².
 CLASSES = 64
-MISSING = -(2**31)
-HEAD = b"SGRC" + bytes([1, 0, 0, 0]) + bytes([0x11] * 16) + struct.pack("<II", 10000, 0)
-
-
-def turning_points(levels):
-    """The first level, the last one, and each that is above or below both neighbours, plateaus taken as one."""
-    flat = [x for i, x in enumerate(levels) if i == 0 or x != levels[i - 1]]
-    return [
-        x
-        for i, x in enumerate(flat)
-        if i in (0, len(flat) - 1) or (x > flat[i - 1]) == (x > flat[i + 1])
-    ]
-
-
-def half_units(points):
-    """Half cycles by range: the first range that a following one reaches is counted and taken out, until none is left."""
-    left = list(points)
-    counted = {}
-
-    def count(a, b, halves):
-        counted[abs(a - b)] = counted.get(abs(a - b), 0) + halves
-
-    while True:
-        for i in range(2, len(left)):
-            if abs(left[i] - left[i - 1]) >= abs(left[i - 1] - left[i - 2]):
-                break
-        else:
-            break
-        if i == 2:
-            count(left[0], left[1], 1)
-            del left[0]
-        else:
-            count(left[i - 2], left[i - 1], 2)
-            del left[i - 2 : i]
-    for a, b in zip(left, left[1:]):
-        count(a, b, 1)
-    return counted
-
-
-def halved(n):
-    return "%d.%d" % (n // 2, 5 * (n % 2))
+GRID = Grid(CLASSES, 2, 0, 32)
+GAIN = (1000, 1, 0)
 
 
 def table_of(raws):
-    used = [r for r in raws if 0 <= r < CLASSES]
-    missing = raws.count(MISSING)
-    lines = [
-        "samples %d used %d missing %d refused %d"
-        % (len(raws), len(used), missing, len(raws) - len(used) - missing),
-        "rainflow",
-    ]
-    counted = half_units(turning_points(used))
-    # A class is two steps of half a N/mm² wide.
-    lines += [halved(2 * k) + " " + halved(counted[k]) for k in sorted(counted, reverse=True)]
+    lines = Count(GRID, GAIN, raws).table()
     return "".join(line + "\n" for line in lines)
 
 
@@ -97,8 +54,7 @@ def case_of(rng):
     """A file's bytes, and the status and the text that are due."""
     size = rng.choice((0, 1, 2, 3, 5, 9, 40, 300, 2000, 17000, 40000))
     raws = history(rng, size) if size else []
-    body = struct.pack("<%di" % len(raws), *raws)
-    file = HEAD + body
+    file = recording(raws)
     damage = rng.randrange(12)
     if damage == 0:
         return file[: rng.randrange(32)], 4, ""

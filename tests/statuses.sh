@@ -1,6 +1,6 @@
 #!/bin/sh
-# Runs the program into each exit status of docs/FORMATS.md that a shell can cause, and compares status and standard output.
-# Status 10 would need a file of four terabytes. A program may be given: statuses.sh [PROGRAM]
+# Runs the program into each exit status of docs/FORMATS.md that a shell can cause, and compares status, standard output and the
+# told line. Status 10 would need a file of four terabytes. A program may be given: statuses.sh [PROGRAM]
 # Last line: statuses: N passed, M failed
 set -u
 unset CDPATH
@@ -37,13 +37,14 @@ if ! [ -x "$program" ]; then
     program=$top/crates/monitor_main/out/monitor_main
 fi
 
-# status NAME WANTED WORDS..: that status, and nothing is printed
+# status NAME WANTED LINE WORDS..: that status, nothing is printed, and this line is told
 status() {
     name=$1
     wanted=$2
-    shift 2
-    printed=$("$program" "$@" 2>/dev/null)
-    check "$name" "$wanted:" "$?:$printed"
+    line=$3
+    shift 3
+    printed=$("$program" "$@" 2>"$room/told")
+    check "$name" "$wanted::$line" "$?:$printed:$(cat "$room/told")"
 }
 
 cd "$room" || exit 1
@@ -61,41 +62,105 @@ check 'a sound recording' "0:$table" "$("$program" table sound >printed; echo "$
 check 'a head alone' '0:samples 0 used 0 missing 0 refused 0
 rainflow' "$("$program" table head >printed; echo "$?:$(cat printed)")"
 
-status 'no words' 1
-status 'no such command' 1 count-all sound
-status 'no file' 1 table
-status 'a word too many' 1 table sound sound
-status 'a dash' 1 table -t
-status 'an empty word' 1 ''
+usage='usage: monitor table FILE | init | count [--workers N] | report | audit | demo [--seed N] [--samples N] [--workers N]'
+status 'no words' 1 "$usage"
+status 'no such command' 1 "$usage" count-all sound
+status 'no file' 1 "$usage" table
+status 'a word too many' 1 "$usage" table sound sound
+status 'a dash' 1 "$usage" table -t
+status 'an empty word' 1 "$usage" ''
+status 'a word that is no text' 1 "$usage" table "$(printf '\377')"
 
 : >empty
-status 'an empty file' 4 table empty
+status 'an empty file' 4 'recording empty: short' table empty
 head -c 31 "$sound" >short
-status 'a short head' 4 table short
+status 'a short head' 4 'recording short: short' table short
 { printf 'sGRC' && tail -c +5 "$sound"; } >magic
-status 'another format' 4 table magic
+status 'another format' 4 'recording magic: no SGRC' table magic
 { head -c 4 "$sound" && printf '\002' && tail -c +6 "$sound"; } >version
-status 'another version' 4 table version
+status 'another version' 4 'recording version: version 2' table version
 { head -c 5 "$sound" && printf '\001' && tail -c +7 "$sound"; } >reserved
-status 'a reserved byte' 4 table reserved
+status 'a reserved byte' 4 'recording reserved: not zero' table reserved
+cp short 'a
+b'
+status 'a name of two lines' 4 'recording a?b: short' table 'a
+b'
 
 for bytes in 1 2 3; do
     { cat "$sound" && head -c "$bytes" /dev/zero; } >torn
-    status "$bytes bytes behind the last sample" 5 table torn
+    status "$bytes bytes behind the last sample" 5 "recording torn: ends in $bytes odd bytes" table torn
 done
 
-status 'a missing file' 6 table missing
+status 'a missing file' 6 'read fault' table missing
 mkdir folder
-status 'a folder' 6 table folder
+status 'a folder' 6 'read fault' table folder
+
+# A store.
+store() {
+    od -An -v -tx1 monitor.store | tr -d ' \n'
+}
+config='[grid]
+classes = 16
+width = 2
+low = -8000
+reference = 8
+[count]
+block = 4
+workers = 2
+[[gauge]]
+name = "G1"
+file = "g1.sgrc"
+num = 1000'
+status 'no configuration' 6 'read fault' init
+: >monitor.toml
+status 'an empty configuration' 2 'config: missing grid' init
+echo '[grid' >monitor.toml
+status 'no TOML' 2 'config: not TOML' init
+printf '%s\nden = 0\n' "$config" >monitor.toml
+status 'a value outside its limits' 2 'config: out of range gauge 0 den' init
+echo "$config" >monitor.toml
+status 'no recording' 6 'read fault' init
+cp magic g1.sgrc
+status 'another recording' 4 'recording G1: no SGRC' init
+cp sound g1.sgrc
+status 'a word behind init' 1 "$usage" init x
+check 'nothing was made' no "$([ -e monitor.store ] && echo yes || echo no)"
+status 'no store' 3 'store: not a store' report
+mkdir monitor.store
+status 'a folder for a store' 8 'station fault' init
+rmdir monitor.store
+status 'a new store' 0 'init 1' init
+new=015347535402000100100002ffffffffffffe0c00008$(printf '11%.0s' 1 2 3 4 5 6 7 8 9 10 11 12 13 14 15 16)00002710
+new=${new}00000000000003e800000001000000000000000000
+check 'its bytes' "$new" "$(store)"
+status 'a store that is there' 3 'store: not empty, 63 bytes' init
+check 'its bytes, as they were' "$new" "$(store)"
+report='gauge G1
+samples 0 used 0 missing 0 refused 0
+rainflow
+matrix
+crossings
+peaks
+valleys
+ranges'
+check 'a report of nothing held' "0:$report" "$("$program" report >printed; echo "$?:$(cat printed)")"
+printf '%s\n' "$config" | sed 's/classes = 16/classes = 17/' >monitor.toml
+status 'another configuration' 3 'store: classes was 16, is 17' report
+status 'too many workers' 1 "$usage" demo --workers 9
+made=$("$program" demo --samples 3000 --workers 1; echo "$?")
+check 'a demonstration' 'demo seed 0 samples 3000' "$(echo "$made" | head -n 1)"
+check 'the same with three workers' "$made" "$("$program" demo --samples 3000 --workers 3; echo "$?")"
 
 if [ -c /dev/full ]; then
-    "$program" table sound >/dev/full 2>/dev/null
-    check 'a full output' 7 "$?"
+    "$program" table sound >/dev/full 2>told
+    check 'a full output' '7:write fault' "$?:$(cat told)"
 else
     echo 'statuses: skipped: there is no /dev/full'
 fi
 "$program" table sound >&- 2>/dev/null
 check 'a closed output' 7 "$?"
+"$program" table missing 2>&-
+check 'a closed standard error' 6 "$?"
 
 # Want of memory, wherever it comes: whatever the limit, the answer is 0 with the table, or 9 with nothing. Below some limit the
 # program isn't loaded at all, and the system answers in its place, by 126 and more.
@@ -105,12 +170,12 @@ rainflow'
 wanting=0
 wrong=
 for limit in $(seq 1000 20 4000; seq 4000 500 24000); do
-    printed=$( (ulimit -v "$limit" && exec "$program" table long) 2>/dev/null)
+    printed=$( (ulimit -v "$limit" && exec "$program" table long) 2>told)
     got=$?
-    case $got:$printed in
-    "0:$all") ;;
-    9:) wanting=$((wanting + 1)) ;;
-    12[6-9]: | 1[3-9][0-9]:) ;;
+    case $got:$printed:$(cat told) in
+    "0:$all:") ;;
+    '9::out of memory') wanting=$((wanting + 1)) ;;
+    12[6-9]::* | 1[3-9][0-9]::*) ;;
     *) wrong="$wrong $limit:$got" ;;
     esac
 done
