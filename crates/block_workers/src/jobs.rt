@@ -1,6 +1,5 @@
 ghost use Rattle.std.specs.Prelude.{◌≡◌, ◌<◌, ◌≤◌, ℕ, length, vec_len, slice_index_or};
 ghost use Rattle.std.specs.List.{All};
-ghost use Rattle.std.specs.Thread.{IsSync, IsSend};
 ghost use Rattle.block_workers.specs.Jobs.{CanRead, ReadJob, AllRead, CanWork, WorkJob, AllWorked};
 ghost use Rattle.block_workers.specs.Jobs.{SameRead, SameWork, RingAt, AllRings, Fifo, AllFifo};
 
@@ -10,7 +9,7 @@ use lane_ends::End;
 use outside::{Gate, Source};
 use std::sync::Wait;
 use std::thread;
-use std::thread::{Threads, join_mut};
+use std::thread::Threads;
 
 /// What reads a lane.
 #[derive(Drop)]
@@ -87,33 +86,22 @@ fn run_workers<R: Threads + Wait + Sync, G: Gate + Sync>(rt: &R, gate: &G, worke
     );
 }
 
-/// The round of all readers, on so many threads at most, and of all workers beside them, each on a
-/// thread of its own. Where a thread can't be made the caller runs what it would have run, and the
-/// readers come first; so no ring is ever found empty for ever.
+/// The round of all readers, and then of all workers, each time on as many threads as there are
+/// workers. A ring has room for a whole round, so the readers wait for no worker; and when the
+/// workers begin, all that they take is there.
 pub fn run_all<R: Threads + Wait + Sync, C: Source + Send, G: Gate + Sync>(
     rt: &R,
     gate: &G,
     workers: &mut [Worker],
     readers: &mut [Reader<C>],
-    threads: usize,
 )
     requires read { All CanRead readers.old }
     requires work { All CanWork workers.old }
-    requires threads { 0 < threads }
     ensures readers { AllRead C.tells C.left C.faults readers.old readers.new }
     ensures workers { AllWorked workers.old workers.new }
 {
-    join_mut(
-        rt,
-        &mut ||
-            requires { IsSync R.row × IsSync G.row × All CanWork workers.now }
-            ensures { AllWorked workers.entry.now workers.exit.now }
-        { run_workers(rt, gate, workers) },
-        &mut ||
-            requires { IsSync R.row × IsSend C.row × All CanRead readers.now × (0 < threads) }
-            ensures { AllRead C.tells C.left C.faults readers.entry.now readers.exit.now }
-        { run_readers(rt, readers, threads) },
-    );
+    run_readers(rt, readers, workers.len().max(1));
+    run_workers(rt, gate, workers);
 }
 
 // Looks at both ends of one ring.

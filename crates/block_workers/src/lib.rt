@@ -1,4 +1,4 @@
-//! Readers and workers: what they do in a round, and how all of them run beside each other.
+//! Readers and workers: what they do in a round, the readers beside each other, and then the workers.
 //!
 //! A reader takes up to 16 blocks of its lane, fills a unit with each and deals them to its rings,
 //! one ring to a worker. A worker takes its rings one after another, each to its mark, counts each
@@ -7,7 +7,7 @@
 //! `specs/Dealing.antt` says what goes through the rings, `specs/Reading.antt` what a reader reads
 //! and how it ends, `specs/Working.antt` what a worker counts, and `specs/Jobs.antt` what a round
 //! does to all of them. A feed or a take that finds no place or no item is made again after a
-//! yield: these are the waits.
+//! yield. These are the waits; in a round there is none, since what is taken was fed before.
 #![tactic(auto)]
 
 mod desk;

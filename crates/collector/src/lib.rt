@@ -1,5 +1,5 @@
-//! The collector, which places what the workers have counted while they count on, and a whole round
-//! of readers, workers and collector beside each other.
+//! The collector, which places what the workers have counted, and a whole round of readers, workers
+//! and collector.
 //!
 //! The collector goes round the return rings until it has the mark of each. What comes is a mix of
 //! the workers' lists; each unit is deposited and given back as it comes (`specs/Collecting.antt`).

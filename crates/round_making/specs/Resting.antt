@@ -3,7 +3,7 @@
 --   RestingReader, RestingWorker, RestingReturn, IsEven    the parts between two rounds
 --   IsResting                  all of them: the units are in the pool, and what was fed was taken
 --   IsSameBut                  the same but for the board
-use Rattle.std.specs.Prelude.{◌≡◌, ◌*◌, ◌<◌, ◌≤◌, ℕ, List, [], length, map, slice_index_or, vec_len, vec_capacity, None}
+use Rattle.std.specs.Prelude.{◌≡◌, ◌*◌, ◌<◌, ◌≤◌, ℕ, List, length, map, slice_index_or, vec_len, vec_capacity, None}
 use Rattle.calibration.specs.Grid.{GridValue}
 use Rattle.gauge_ring.specs.declared.taker.Taker.{Taker}
 use Rattle.gauge_ring.specs.declared.feeder.Feeder.{Feeder}

@@ -4,7 +4,7 @@
 --   FrontDone            what the front of a lane stands for
 --   flow_of              the round of the flow that the law on arrivals speaks of
 --   RoundDone            all that a round does
-use Rattle.std.specs.Prelude.{◌≡◌, ◌≢◌, ◌+◌, ◌-◌, ◌*◌, ◌<◌, ◌≤◌, ◌++◌, ℕ, pos, List, [], length, map, take, replicate, Some, slice_index_or}
+use Rattle.std.specs.Prelude.{◌≡◌, ◌≢◌, ◌+◌, ◌-◌, ◌*◌, ◌<◌, ◌≤◌, ◌++◌, ℕ, pos, List, [], length, take, replicate, Some, slice_index_or}
 use Rattle.outside.specs.Fault.{Rose}
 use Rattle.recording.specs.declared.TheConstants.{MAX_SAMPLES}
 use Rattle.recording.specs.Samples.{samples}

@@ -1,5 +1,5 @@
 //! A whole round over its parts: the lanes lend their sources, readers, workers and the collector
-//! run beside each other, all rings are settled, and the sources are put back.
+//! run, all rings are settled, and the sources are put back.
 //!
 //! Between two rounds all parts are at rest (`specs/Resting.antt`): all units are in the pool, and
 //! what was fed to each ring was taken. `specs/Round.antt` says what a round does: where each lane

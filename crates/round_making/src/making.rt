@@ -12,7 +12,7 @@ use outside::{Gate, Source};
 use std::sync::Wait;
 use std::thread::Threads;
 
-/// A round over its parts, which are at rest before it and after it. The readers share two threads.
+/// A round over its parts, which are at rest before it and after it.
 pub fn make_round<R: Threads + Wait + Sync, C: Source + Send, G: Gate + Sync>(
     rt: &R,
     gate: &G,
@@ -34,8 +34,7 @@ pub fn make_round<R: Threads + Wait + Sync, C: Source + Send, G: Gate + Sync>(
 {
     begin_windows(board, lanes);
     lend_lanes(readers, lanes, pool);
-    let threads = readers.len().min(2);
-    run_round(rt, gate, board, pool, returns, workers, readers, threads);
+    run_round(rt, gate, board, pool, returns, workers, readers);
     settle_all(workers, readers);
     settle_returns(returns, workers);
     return_lanes(readers, lanes, pool);
