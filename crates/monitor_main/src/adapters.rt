@@ -6,25 +6,29 @@ mod tests;
 use outside::{Failed, Sink, Site, Source};
 use std::fs::File;
 use std::io;
-use std::io::{ErrorKind, Read, Write};
+use std::io::{BufReader, ErrorKind, Read, Write};
 use std::rt::Files;
+
+// What is read ahead of a recording, in bytes: blocks are read in such pieces, however small they
+// are.
+const READ_AHEAD: usize = 65536;
 
 /// An open file, read from its start.
 #[derive(Drop)]
-pub struct FileSource {
-    file: File,
+pub struct FileSource<F: Read + Send + Drop> {
+    file: F,
     faults: u64,
 }
 
-impl FileSource {
-    pub fn new(file: File) -> FileSource
+impl<F: Read + Send + Drop> FileSource<F> {
+    pub fn new(file: F) -> FileSource<F>
         ensures { result.faults ≡ 0 }
     {
         FileSource { file, faults: 0 }
     }
 }
 
-impl Source for FileSource {
+impl<F: Read + Send + Drop> Source for FileSource<F> {
     ghost tells = { ⊥ };
 
     ghost left = { λ _. [] };
@@ -47,15 +51,28 @@ impl Source for FileSource {
     }
 }
 
-/// The files of the current folder. A name is a path.
+// Opens a file that is read ahead, or is not where there is no memory for that.
+fn open_ahead<R: Files<File = File> + AllocGlobal>(
+    rt: &R,
+    name: &str,
+) -> io::Result<BufReader<File>> {
+    match BufReader::with_capacity(rt.alloc(), READ_AHEAD, File::open(rt, name)?) {
+        Err(fault) if fault.kind() == ErrorKind::OutOfMemory => {
+            BufReader::with_capacity(rt.alloc(), 0, File::open(rt, name)?)
+        }
+        opened => opened,
+    }
+}
+
+/// The files of the current folder. A name is a path. Of each that is out 64 KiB are read ahead.
 #[derive(Drop)]
-pub struct FolderSite<'a, R: Files<File = File>> {
+pub struct FolderSite<'a, R: Files<File = File> + AllocGlobal> {
     rt: &'a R,
     out: u64,
     faults: u64,
 }
 
-impl<'a, R: Files<File = File>> FolderSite<'a, R> {
+impl<'a, R: Files<File = File> + AllocGlobal> FolderSite<'a, R> {
     pub fn new(rt: &'a R) -> FolderSite<'a, R>
         ensures out { result.out ≡ 0 }
         ensures faults { result.faults ≡ 0 }
@@ -68,8 +85,8 @@ impl<'a, R: Files<File = File>> FolderSite<'a, R> {
     }
 }
 
-impl<'a, R: Files<File = File>> Site for FolderSite<'a, R> {
-    type Src = FileSource;
+impl<'a, R: Files<File = File> + AllocGlobal> Site for FolderSite<'a, R> {
+    type Src = FileSource<BufReader<File>>;
 
     ghost tells = { ⊥ };
 
@@ -81,8 +98,8 @@ impl<'a, R: Files<File = File>> Site for FolderSite<'a, R> {
 
     ghost faults = { λ s. s.faults };
 
-    fn fetch(&mut self, name: &str) -> Result<FileSource, Failed> {
-        match File::open(self.rt, name) {
+    fn fetch(&mut self, name: &str) -> Result<FileSource<BufReader<File>>, Failed> {
+        match open_ahead(self.rt, name) {
             Ok(file) => {
                 self.out += 1;
                 Ok(FileSource::new(file))
@@ -94,7 +111,7 @@ impl<'a, R: Files<File = File>> Site for FolderSite<'a, R> {
         }
     }
 
-    fn give_back(&mut self, src: FileSource) {
+    fn give_back(&mut self, src: FileSource<BufReader<File>>) {
         if src.faults > 0 {
             self.faults = self.faults.saturating_add(1);
         }

@@ -13,7 +13,7 @@ use std::fs::File;
 pub struct NamedFile<'a> {
     rt: &'a HostRuntime,
     name: &'static str,
-    source: Option<FileSource>,
+    source: Option<FileSource<File>>,
     faults: u64,
 }
 
