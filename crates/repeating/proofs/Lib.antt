@@ -1,0 +1,11 @@
+pub mod Below
+pub mod Ending
+pub mod Cut
+pub mod CutHistory
+pub mod Halves
+pub mod Turned
+pub mod Widest
+pub mod Again
+pub mod FromResult
+pub mod CopiedRows
+pub mod OfResidue
