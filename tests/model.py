@@ -54,6 +54,30 @@ def half_units(points):
     return counted
 
 
+def turned(levels):
+    """From the first greatest level to the end, then from the beginning to that level."""
+    at = levels.index(max(levels))
+    return levels[at:] + levels[: at + 1]
+
+
+def repeating_cycles(levels):
+    """Cycles by pair of levels in a history that repeats: of the turned history the first range that a following one reaches is one
+    cycle and is taken out, until none is left."""
+    left = turning_points(turned(levels)) if levels else []
+    counted = {}
+    i = 2
+    while i < len(left):
+        if abs(left[i] - left[i - 1]) >= abs(left[i - 1] - left[i - 2]):
+            pair = (min(left[i - 2 : i]), max(left[i - 2 : i]))
+            counted[pair] = counted.get(pair, 0) + 1
+            del left[i - 2 : i]
+            # No earlier range is reached now that was not before.
+            i = max(2, i - 3)
+        else:
+            i += 1
+    return counted
+
+
 def by_range(pairs):
     ranges = {}
     for (lo, hi), halves in pairs.items():
@@ -143,6 +167,11 @@ class Count:
         lines += ["ranges"] + self.grid.ranges(self.simple_ranges())
         return lines
 
+    def repeat_text(self, name):
+        """The cycles of the history as one that repeats."""
+        halves = {pair: 2 * n for pair, n in repeating_cycles(self.levels).items()}
+        return ["repeat " + name] + self.grid.ranges(by_range(halves))
+
 
 class Detail:
     def __init__(self, name, gauge, kind, category, gamma):
@@ -194,4 +223,13 @@ def report(names, counts, details):
     for name, count in zip(names, counts):
         lines += count.text(name)
     lines += [d.line(names[d.gauge], counts[d.gauge]) for d in details]
+    return text_of(lines)
+
+
+def repeat(names, counts):
+    """What `repeat` prints of gauges with these names and counts."""
+    return text_of(line for name, count in zip(names, counts) for line in count.repeat_text(name))
+
+
+def text_of(lines):
     return "".join(line + "\n" for line in lines)

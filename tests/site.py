@@ -8,6 +8,7 @@ Each case makes a folder with a configuration and recordings, and a store by `in
 Only a kill that met a running program is one of the KILLS; a growth has at most three times as many tries. What is checked, byte for byte:
 - after a kill `report` is that of a front of each recording, which holds every acknowledged sample;
 - after `count`, its report and that of `report` are those of the whole recordings, and each last acknowledged number is the length;
+- after `count`, what `repeat` prints is the count of each whole recording as a history that repeats;
 - `audit` finds every gauge the same, and the one that was changed where a held sample was.
 Last line: site: N passed, M failed
 """
@@ -23,7 +24,7 @@ import time
 # No folder is made in the checkout.
 sys.dont_write_bytecode = True
 
-from model import MISSING, Count, Detail, Grid, recording, report
+from model import MISSING, Count, Detail, Grid, recording, repeat, report
 
 NORMAL = [160, 140, 125, 112, 100, 90, 80, 71, 63, 56, 50, 45, 40, 36]
 
@@ -93,10 +94,16 @@ class Site:
 
     def report(self, lengths):
         """The report of so many samples of each gauge."""
-        counts = [
+        return report(self.names, self.counts(lengths), self.details)
+
+    def repeat(self, lengths):
+        """The count of so many samples of each gauge as histories that repeat."""
+        return repeat(self.names, self.counts(lengths))
+
+    def counts(self, lengths):
+        return [
             Count(self.grid, gain, raws[:n]) for gain, raws, n in zip(self.gains, self.raws, lengths)
         ]
-        return report(self.names, counts, self.details)
 
 
 class Trial:
@@ -175,6 +182,7 @@ def grow(trial, site, lengths, kills):
         if name in held(told):
             trial.check("last acknowledged", held(told)[name], n)
     trial.check("report", trial.run("report"), (0, text, ""))
+    trial.check("repeat", trial.run("repeat"), (0, site.repeat(lengths), ""))
     return time.time() - begun
 
 

@@ -62,7 +62,7 @@ check 'a sound recording' "0:$table" "$("$program" table sound >printed; echo "$
 check 'a head alone' '0:samples 0 used 0 missing 0 refused 0
 rainflow' "$("$program" table head >printed; echo "$?:$(cat printed)")"
 
-usage='usage: monitor table FILE | init | count [--workers N] | report | audit | demo [--seed N] [--samples N] [--workers N]'
+usage='usage: monitor table FILE | init | count [--workers N] | report | audit | demo [--seed N] [--samples N] [--workers N] | repeat'
 status 'no words' 1 "$usage"
 status 'no such command' 1 "$usage" count-all sound
 status 'no file' 1 "$usage" table
@@ -126,6 +126,7 @@ cp sound g1.sgrc
 status 'a word behind init' 1 "$usage" init x
 check 'nothing was made' no "$([ -e monitor.store ] && echo yes || echo no)"
 status 'no store' 3 'store: not a store' report
+status 'no store that repeats' 3 'store: not a store' repeat
 mkdir monitor.store
 status 'a folder for a store' 8 'station fault' init
 rmdir monitor.store
@@ -144,6 +145,22 @@ peaks
 valleys
 ranges'
 check 'a report of nothing held' "0:$report" "$("$program" report >printed; echo "$?:$(cat printed)")"
+check 'nothing held repeats' '0:repeat G1' "$("$program" repeat >printed; echo "$?:$(cat printed)")"
+# The standard's example, as a load within the classes.
+{
+    head -c 32 "$sound"
+    printf '\376\377\377\377\001\000\000\000\375\377\377\377\005\000\000\000\377\377\377\377'
+    printf '\003\000\000\000\374\377\377\377\004\000\000\000\376\377\377\377'
+} >g1.sgrc
+"$program" count >/dev/null 2>told
+check 'the example is held' '0:held G1 9' "$?:$(cat told)"
+repeated='repeat G1
+9.0 1.0
+7.0 1.0
+4.0 1.0
+3.0 1.0'
+check 'the example repeats' "0:$repeated" "$("$program" repeat >printed; echo "$?:$(cat printed)")"
+status 'a word behind repeat' 1 "$usage" repeat x
 printf '%s\n' "$config" | sed 's/classes = 16/classes = 17/' >monitor.toml
 status 'another configuration' 3 'store: classes was 16, is 17' report
 status 'too many workers' 1 "$usage" demo --workers 9

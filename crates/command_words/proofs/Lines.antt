@@ -3,7 +3,7 @@ use Rattle.std.proofs.Common.{◌≡◌, true, List, codes, Option, Some, None, 
 use Rattle.clap.specs.Words.{App, Text, is_simple_and_free, found_of, first_value}
 use Rattle.clap.specs.declared.parser.matches.ArgMatches.{ArgMatches}
 use Rattle.clap.proofs.OnLiterals.{clap_on_literals}
-use Rattle.command_words.specs.Line.{Command, Table, table_app, init_app, report_app, audit_app, count_app, demo_app, table_in, count_in, demo_in, table_line, line_without_arguments, count_line, demo_line, count_with, demo_with}
+use Rattle.command_words.specs.Line.{Command, Table, table_app, init_app, report_app, audit_app, repeat_app, count_app, demo_app, table_in, count_in, demo_in, table_line, line_without_arguments, count_line, demo_line, count_with, demo_with}
 use Rattle.command_words.specs.Commands.{HasRead}
 use Rattle.command_words.proofs.Parsed.{has_read-as, line_by-refused, line_by-taken}
 
@@ -22,6 +22,10 @@ report_free = refl
 pub audit_free : is_simple_and_free audit_app ≡ true
 unfolding clap_on_literals
 audit_free = refl
+
+pub repeat_free : is_simple_and_free repeat_app ≡ true
+unfolding clap_on_literals
+repeat_free = refl
 
 pub count_free : is_simple_and_free count_app ≡ true
 unfolding clap_on_literals

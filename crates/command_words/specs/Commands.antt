@@ -8,7 +8,7 @@ use Rattle.clap.specs.declared.parser.matches.ArgMatches.{ArgMatches}
 use Rattle.command_words.specs.declared.command.Command.{Command as Named}
 use Rattle.command_words.specs.declared.command.Command.TheVariants as variants
 use Rattle.command_words.specs.declared.command.TheConstants.{MAX_WORKERS, MAX_SEED, MAX_DEMO_SAMPLES}
-use Rattle.command_words.specs.Line.{Command, Table, Init, Count, Report, Audit, Demo, is_accepted_by}
+use Rattle.command_words.specs.Line.{Command, Table, Init, Count, Report, Audit, Demo, Repeat, is_accepted_by}
 
 abbrev pub command_in : Named → Command
 command_in (variants.Table file) = Table file.now
@@ -17,6 +17,7 @@ command_in (variants.Count workers) = Count workers
 command_in variants.Report = Report
 command_in variants.Audit = Audit
 command_in (variants.Demo seed samples workers) = Demo seed samples workers
+command_in variants.Repeat = Repeat
 
 abbrev pub meaning_of : Option Named → Option Command
 meaning_of read = option_map command_in read
@@ -29,6 +30,7 @@ IsWithinRanges variants.Report = Unit {0}
 IsWithinRanges variants.Audit = Unit {0}
 IsWithinRanges (variants.Demo seed samples workers) =
     (seed ≤ MAX_SEED) × (1 ≤ samples) × (samples ≤ MAX_DEMO_SAMPLES) × (1 ≤ workers) × (workers ≤ MAX_WORKERS)
+IsWithinRanges variants.Repeat = Unit {0}
 
 -- a getter finds what the definition's rows have
 abbrev pub Finds : App → List Text → ArgMatches → Type 0

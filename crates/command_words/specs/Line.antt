@@ -22,6 +22,7 @@ pub data Command : Type 0 where
   Report : Command
   Audit : Command
   Demo : ℕ → ℕ → ℕ → Command
+  Repeat : Command
 
 infixl 10 ◌>>=◌
 abbrev pub ◌>>=◌ : {A B : Type 0} → Option A → (A → Option B) → Option B
@@ -72,7 +73,7 @@ table_line = line_by table_app table_in
 abbrev pub line_without_arguments : App → Command → List Text → Option Command
 line_without_arguments app command = line_by app (λ rows. Some command)
 
--- init, report, audit
+-- init, report, audit, repeat
 abbrev pub init_app : App
 init_app = new_app (codes "init")
 
@@ -81,6 +82,9 @@ report_app = new_app (codes "report")
 
 abbrev pub audit_app : App
 audit_app = new_app (codes "audit")
+
+abbrev pub repeat_app : App
+repeat_app = new_app (codes "repeat")
 
 -- count [--workers N]
 abbrev pub workers_rule : Rule
@@ -138,4 +142,5 @@ command_of (first ∷ rest) =
     else if is_named (codes "report") first then line_without_arguments report_app Report (first ∷ rest)
     else if is_named (codes "audit") first then line_without_arguments audit_app Audit (first ∷ rest)
     else if is_named (codes "demo") first then demo_line (first ∷ rest)
+    else if is_named (codes "repeat") first then line_without_arguments repeat_app Repeat (first ∷ rest)
     else None

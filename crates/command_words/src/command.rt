@@ -31,4 +31,6 @@ pub enum Command<'a> {
         samples: u64,
         workers: u8,
     },
+    /// `repeat`
+    Repeat,
 }

@@ -37,6 +37,13 @@ pub fn audit_app<'a>(alloc: Global) -> clap::Command<'a>
     clap::Command::new(alloc, "audit")
 }
 
+/// `repeat`
+pub fn repeat_app<'a>(alloc: Global) -> clap::Command<'a>
+    ensures { app_of result ≡ spec.repeat_app }
+{
+    clap::Command::new(alloc, "repeat")
+}
+
 /// `count [--workers N]`
 pub fn count_app<'a>(alloc: Global) -> Result<clap::Command<'a>, AllocError>
     ensures { IfOk result (λ c. app_of c ≡ spec.count_app) }

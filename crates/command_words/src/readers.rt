@@ -1,5 +1,5 @@
 ghost use Rattle.std.specs.Prelude.{◌≡◌, ◌≤◌, IfOk, IfSome, map, option_map, string_bytes};
-ghost use Rattle.command_words.specs.Line.{Init, Report, Audit, init_app, report_app, audit_app, command_of, table_line, line_without_arguments, count_line, demo_line, number_at, count_with, demo_with};
+ghost use Rattle.command_words.specs.Line.{Init, Report, Audit, Repeat, init_app, report_app, audit_app, repeat_app, command_of, table_line, line_without_arguments, count_line, demo_line, number_at, count_with, demo_with};
 ghost use Rattle.command_words.specs.Commands.{IsWithinRanges, meaning_of};
 
 use crate::command::{MAX_DEMO_SAMPLES, MAX_SEED, MAX_WORKERS};
@@ -33,6 +33,9 @@ pub fn read_words<'a>(alloc: Global, words: &'a [String]) -> Result<Option<Comma
     }
     if first.as_str() == "demo" {
         return read_demo(alloc, words);
+    }
+    if first.as_str() == "repeat" {
+        return read_repeat(alloc, words);
     }
     Ok(None)
 }
@@ -80,6 +83,17 @@ fn read_audit<'a>(alloc: Global, words: &'a [String]) -> Result<Option<Command<'
     match read_by(options::audit_app(alloc), words)? {
         None => Ok(None),
         Some(_) => Ok(Some(Command::Audit)),
+    }
+}
+
+fn read_repeat<'a>(alloc: Global, words: &'a [String]) -> Result<Option<Command<'a>>, AllocError>
+    ensures line { IfOk result (λ read. meaning_of read ≡
+        line_without_arguments repeat_app Repeat (map string_bytes words.entry.now)) }
+    ensures ranges { IfOk result (λ read. IfSome read IsWithinRanges) }
+{
+    match read_by(options::repeat_app(alloc), words)? {
+        None => Ok(None),
+        Some(_) => Ok(Some(Command::Repeat)),
     }
 }
 

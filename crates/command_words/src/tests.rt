@@ -55,6 +55,9 @@ fn lines_of_others(rt: HostRuntime) -> Result<(), Fail> {
         ("audit", Some(Command::Audit)),
         ("audit --", Some(Command::Audit)),
         ("audit x", None),
+        ("repeat", Some(Command::Repeat)),
+        ("repeat --workers 2", None),
+        ("repeats", None),
         ("Table t.sgrc", None),
         (
             "demo",

@@ -83,7 +83,7 @@ differs_text what held found = what_text what ++ codes " held " ++ decimal held 
 -- Of `Done` nothing is told. The name is that of the gauge, or of a single file.
 abbrev pub fault_line : Status → List ℕ → List ℕ
 fault_line Done name = []
-fault_line Usage name = codes "usage: monitor table FILE | init | count [--workers N] | report | audit | demo [--seed N] [--samples N] [--workers N]\n"
+fault_line Usage name = codes "usage: monitor table FILE | init | count [--workers N] | report | audit | demo [--seed N] [--samples N] [--workers N] | repeat\n"
 fault_line (Config fault) name = codes "config: " ++ config_fault_text fault ++ codes "\n"
 fault_line (Store fault) name = codes "store: " ++ store_text fault ++ codes "\n"
 fault_line (Recording gauge fault) name = recording_line name (recording_text fault)

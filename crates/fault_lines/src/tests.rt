@@ -191,7 +191,7 @@ fn faults_of_the_outside(rt: HostRuntime) -> Result<(), Fail> {
         (
             Status::Usage,
             "usage: monitor table FILE | init | count [--workers N] | report | audit | \
-             demo [--seed N] [--samples N] [--workers N]",
+             demo [--seed N] [--samples N] [--workers N] | repeat",
         ),
         (Status::ReadFault, "read fault"),
         (Status::WriteFault, "write fault"),

@@ -20,7 +20,7 @@ use site_config::{ConfigFault, Key, KeyName};
 use status::{RecordingFault, Status};
 
 const USAGE: &[u8] =
-    b"usage: monitor table FILE | init | count [--workers N] | report | audit | demo [--seed N] [--samples N] [--workers N]\n";
+    b"usage: monitor table FILE | init | count [--workers N] | report | audit | demo [--seed N] [--samples N] [--workers N] | repeat\n";
 
 /// Writes the line of a status.
 pub(crate) fn push_status(line: &mut LineRoom, status: Status, name: &[u8])

@@ -6,3 +6,4 @@ pub mod RecordingRead
 pub mod NoMemory
 pub mod CountLeft
 pub mod AuditLeft
+pub mod RepeatLeft

@@ -7,6 +7,7 @@ pub mod Run
 pub mod Shown
 pub mod InitRun
 pub mod ReportRun
+pub mod RepeatRun
 pub mod CountRun
 pub mod AuditRun
 pub mod DemoRun

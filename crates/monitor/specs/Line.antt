@@ -1,6 +1,6 @@
 -- The commands that are built. The words of another command are still no command.
 use Rattle.std.specs.Prelude.{◌≡◌, ℕ, List, [], Option, Some, None}
-use Rattle.command_words.specs.Line.{Command, Table, Init, Count, Report, Audit, Demo, command_of}
+use Rattle.command_words.specs.Line.{Command, Table, Init, Count, Report, Audit, Demo, Repeat, command_of}
 
 abbrev pub built : Option Command → Option Command
 built None = None
@@ -10,6 +10,7 @@ built (Some (Count workers)) = Some (Count workers)
 built (Some Report) = Some Report
 built (Some Audit) = Some Audit
 built (Some (Demo seed samples workers)) = Some (Demo seed samples workers)
+built (Some Repeat) = Some Repeat
 
 abbrev pub built_command_of : List (List ℕ) → Option Command
 built_command_of words = built (command_of words)

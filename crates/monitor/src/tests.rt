@@ -1,7 +1,7 @@
 ghost use Rattle.std.specs.Prelude.{◌≡◌, IfOk};
 
 use super::*;
-use outside::{MapSite, OpenGate, Site, SteadySource, VecSink};
+use outside::{MapSite, OpenGate, SteadySource, VecSink};
 use station::MomentStation;
 use status::{RecordingFault, Status, StoreFault};
 use std::alloc::{AllocError, Global};
@@ -9,10 +9,6 @@ use std::collections::BTreeMap;
 use std::sync::Wait;
 use std::test::Fail;
 use std::thread::Threads;
-
-mod faulty;
-
-use faulty::FaultySite;
 
 const HEAD: [u8; 32] = [
     b'S', b'G', b'R', b'C', 1, 0, 0, 0, 0x11, 0x11, 0x11, 0x11, 0x11, 0x11, 0x11, 0x11, 0x11, 0x11,
@@ -50,13 +46,13 @@ fn words_of(alloc: Global, words: &[&str]) -> Result<Vec<String>, AllocError> {
 }
 
 // What these words answer without a configuration, and the lines told.
-fn run<R: AllocGlobal + Threads + Wait + Sync, T: Site>(
+fn run<R: AllocGlobal + Threads + Wait + Sync>(
     rt: &R,
     words: &[String],
-    site: &mut T,
+    site: &mut MapSite,
     out: &mut VecSink,
 ) -> Result<(Status, MomentStation), AllocError>
-    requires { T.out site.old ≡ 0 }
+    requires { site.old.out ≡ 0 }
 {
     let alloc = rt.alloc();
     let mut config = SteadySource::new(Vec::new(alloc));
@@ -189,8 +185,10 @@ fn faults_of_the_outside(rt: HostRuntime) -> Result<(), Fail> {
     // Takes of 7 bytes: the head ends in the fifth, the body in the tenth, and the eleventh finds
     // the end.
     let words = words_of(alloc, &["table", "t"])?;
-    for failing in [0, 4, 5, 9, 10] {
-        let mut site = FaultySite::new(alloc, file_of(alloc, &EXAMPLE)?, failing);
+    for failing in [0, 4, 5, 9, 10u64] {
+        let site = site_of(alloc, file_of(alloc, &EXAMPLE)?, 7)?;
+        let name = String::from_str(alloc, "t")?;
+        let mut site = site.failing_reads(name, vec![in alloc; failing]?);
         let mut out = VecSink::new(alloc, 200, Vec::new(alloc))?;
         let (status, station) = run(&rt, words.as_slice(), &mut site, &mut out)?;
         assert_eq!(rt; status, Status::ReadFault, "at take {failing}");
@@ -200,24 +198,29 @@ fn faults_of_the_outside(rt: HostRuntime) -> Result<(), Fail> {
     Ok(())
 }
 
+// How the line of words that are no command begins.
+const USAGE: &str = "usage: monitor table FILE";
+
 #[test]
 fn words(rt: HostRuntime) -> Result<(), Fail> {
     let alloc = rt.alloc();
-    let cases: [(&[&str], Status); 7] = [
-        (&[], Status::Usage),
-        (&["draw"], Status::Usage),
-        (&["table"], Status::Usage),
-        (&["table", "-t"], Status::Usage),
-        (&["tables", "t"], Status::Usage),
-        (&["table", "t", "t"], Status::Usage),
-        (&["table", "u"], Status::ReadFault),
+    let cases: [(&[&str], Status, &str); 8] = [
+        (&[], Status::Usage, USAGE),
+        (&["draw"], Status::Usage, USAGE),
+        (&["table"], Status::Usage, USAGE),
+        (&["table", "-t"], Status::Usage, USAGE),
+        (&["tables", "t"], Status::Usage, USAGE),
+        (&["table", "t", "t"], Status::Usage, USAGE),
+        (&["count", "--workers", "9"], Status::Usage, USAGE),
+        (&["table", "u"], Status::ReadFault, "read fault"),
     ];
-    for (words, status) in cases {
+    for (words, status, line) in cases {
         let mut site = site_of(alloc, file_of(alloc, &EXAMPLE)?, 5)?;
         let mut out = VecSink::new(alloc, 200, Vec::new(alloc))?;
         let words = words_of(alloc, words)?;
-        let (answer, _) = run(&rt, words.as_slice(), &mut site, &mut out)?;
+        let (answer, station) = run(&rt, words.as_slice(), &mut site, &mut out)?;
         assert_eq!(rt; answer, status);
+        assert!(rt; station.told().starts_with(line.as_bytes()));
         assert_eq!(rt; out.written().len(), 0);
     }
     Ok(())
@@ -226,17 +229,19 @@ fn words(rt: HostRuntime) -> Result<(), Fail> {
 const CONFIG: &str = "[grid]\nclasses = 16\nwidth = 2\nlow = -8000\nreference = 8\n\
     [count]\nblock = 4\nworkers = 2\n[[gauge]]\nname = \"G1\"\nfile = \"t\"\nnum = 1000\n";
 
-// A store is made once.
+// A store is made once; of a gauge of which nothing is held nothing repeats.
 #[test]
 fn a_store_is_made(rt: HostRuntime) -> Result<(), Fail> {
     let alloc = rt.alloc();
     let mut station = MomentStation::new(alloc, Vec::new(alloc), Vec::new(alloc));
     let mut out = VecSink::new(alloc, 200, Vec::new(alloc))?;
-    let words = words_of(alloc, &["init"])?;
-    for status in [
-        Status::Done,
-        Status::Store(StoreFault::NotEmpty { size: 63 }),
+    let made = Status::Store(StoreFault::NotEmpty { size: 63 });
+    for (word, status) in [
+        ("init", Status::Done),
+        ("init", made),
+        ("repeat", Status::Done),
     ] {
+        let words = words_of(alloc, &[word])?;
         let mut site = site_of(alloc, file_of(alloc, &EXAMPLE)?, 5)?;
         let mut config = SteadySource::new(CONFIG.as_bytes().to_vec(alloc)?);
         let answer = monitor(
@@ -254,6 +259,6 @@ fn a_store_is_made(rt: HostRuntime) -> Result<(), Fail> {
         station.told(),
         b"init 1\nstore: not empty, 63 bytes\n".as_slice()
     );
-    assert_eq!(rt; out.written().len(), 0);
+    assert_eq!(rt; out.written(), b"repeat G1\n".as_slice());
     Ok(())
 }

@@ -1,11 +1,12 @@
 ghost use Rattle.std.specs.Prelude.{◌≡◌, ◌≢◌, ◌⊎◌, ℕ, List, Option, None, Some, map, string_bytes};
-ghost use Rattle.command_words.specs.Line.{Table, Init, Count, Report, Audit, Demo};
+ghost use Rattle.command_words.specs.Line.{Table, Init, Count, Report, Audit, Demo, Repeat};
 ghost use Rattle.fault_lines.specs.FaultLine.{fault_line};
 ghost use Rattle.monitor.specs.Line.{built_command_of, IsToldOf};
 ghost use Rattle.monitor.specs.Run.{Runs, table_task, usage_task, no_memory_task, outside};
 ghost use Rattle.monitor.specs.InitRun.{InitRuns};
 ghost use Rattle.monitor.specs.CountRun.{CountRuns};
 ghost use Rattle.monitor.specs.ReportRun.{ReportRuns};
+ghost use Rattle.monitor.specs.RepeatRun.{RepeatRuns};
 ghost use Rattle.monitor.specs.AuditRun.{AuditRuns};
 ghost use Rattle.monitor.specs.DemoRun.{DemoRuns};
 ghost use Rattle.monitor.specs.Shown.{shown, Tells, Ends};
@@ -18,6 +19,7 @@ use command_words::{Command, read_words};
 use count_command::count_command;
 use init_command::init_command;
 use outside::{Gate, Sink, Site, Source};
+use repeat_command::repeat_command;
 use report_command::report_command;
 use station::Station;
 use status::Status;
@@ -30,6 +32,7 @@ use std::thread::Threads;
 /// 5.4.4, over its whole level history. `init` makes the store of a site, `count` counts what is
 /// new of its recordings and stores it, and `report` prints the report of what is held. `audit`
 /// counts the held samples again, and compares. `demo` counts recordings that are made from a seed.
+/// `repeat` prints what is held of each gauge as a history that repeats (5.4.5).
 /// `count` and `demo` wait for the workers that they start; a worker passes the gate before each
 /// block. Each answer but `Done` is told to the station, by its line. Where memory runs out while
 /// the words are read, nothing is asked for and nothing printed.
@@ -89,6 +92,12 @@ pub fn monitor<
         built_command_of (map string_bytes words.now) ≡ Some (Demo seed samples workers) →
         DemoRuns seed samples O.tells (O.written out.old) (O.written out.new)
         (O.faults out.old) (O.faults out.new) result }
+    // `repeat`
+    ensures repeat { built_command_of (map string_bytes words.now) ≡ Some Repeat → RepeatRuns
+        (shown ⟦<C as Source>⟧ ⟦<T as Site>⟧ ⟦<K as Station>⟧ ⟦<O as Sink>⟧
+        config.old site.old station.old out.old)
+        (shown ⟦<C as Source>⟧ ⟦<T as Site>⟧ ⟦<K as Station>⟧ ⟦<O as Sink>⟧
+        config.new site.new station.new out.new) result }
     // Words that are no command.
     ensures no_command { built_command_of (map string_bytes words.now) ≡ None →
         Runs usage_task
@@ -135,6 +144,7 @@ pub fn monitor<
                 },
             ),
         ) => told_demo(rt, seed, samples, workers, station, out, gate),
+        Ok(Some(Command::Repeat)) => repeat_command(rt.alloc(), config, station, out),
         Ok(_) => usage(rt.alloc(), station),
         Err(_) => no_memory(station),
     }

@@ -22,7 +22,7 @@ samples_line-short n few =
     let to8 = appended (codes "samples " ++ decimal n.samples ++ codes " used " ++ decimal n.used ++ codes " missing " ++ decimal n.missing ++ codes " refused " ++ decimal n.refused) (codes "\n") 84 1 to7 (omega arith) in
     to8
 
-span : (grid : GridValue) → IsGrid grid → (grid.classes - 1) * grid.w2 ≤ 2 ^ 41
+pub span : (grid : GridValue) → IsGrid grid → (grid.classes - 1) * grid.w2 ≤ 2 ^ 41
 span grid is = omega (arith, is.span, is.classes_from)
 
 table_text-short : (grid : GridValue) (n : SampleCounts) (halves : ℕ → ℕ) → IsGrid grid → AreFewCounts n → ((k : ℕ) → halves k ≤ 2 ^ 41) → length (table_text grid n halves) ≤ 94 + (grid.classes - 1) * 32

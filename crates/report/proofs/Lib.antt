@@ -5,3 +5,4 @@ mod Billionths
 mod DetailFits
 pub mod SameCounts
 pub mod SegmentFigures
+pub mod Repeats

@@ -50,7 +50,7 @@ none_at_range : (k n : ℕ) → sum_at_range (λ lo hi. 0) k n ≡ 0
 none_at_range k zero = refl
 none_at_range k (suc n) = omega (arith, none_at_range k n)
 
-counts_at_range : (cells : List Cell) (k n : ℕ) → sum_at_range (count_of cells) k n ≤ total_of cells
+pub counts_at_range : (cells : List Cell) (k n : ℕ) → sum_at_range (count_of cells) k n ≤ total_of cells
 counts_at_range [] k n = omega (arith, none_at_range k n)
 counts_at_range (c ∷ cells) k n = omega (
   arith,

@@ -2,4 +2,5 @@ pub mod Counts
 pub mod Figures
 pub mod Lines
 pub mod Texts
+pub mod Repeat
 pub mod Page

@@ -1,9 +1,12 @@
-ghost use Rattle.std.specs.Prelude.{◌≡◌};
+ghost use Rattle.std.specs.Prelude.{◌≡◌, ◌≤◌, length};
 
 use super::*;
 use calibration::{Classifier, Gain, Grid};
 use exact_frac::Frac;
+use repeating::Repeating;
 use segment::Segment;
+use std::alloc::Global;
+use std::process::Abort;
 use std::test::Fail;
 
 // The standard's own example, over classes of 1 MPa.
@@ -141,4 +144,37 @@ fn gauges(rt: HostRuntime) -> Result<(), Fail> {
     gauge_text(&mut page, "A", &seg);
     assert_eq!(rt; page.bytes(), EMPTY_TEXT.as_bytes());
     Ok(())
+}
+
+// The text of a gauge with these samples, where its history repeats.
+fn check_repeat(
+    rt: &impl Abort,
+    alloc: Global,
+    name: &str,
+    raws: &[i32],
+    expected: &str,
+) -> Result<(), Fail>
+    requires name { length name.now ≤ 32 }
+    requires raws { length raws.now ≤ 9 }
+{
+    let grid = Grid::new(16, 2, -8000, 8)?;
+    let gain = Gain::new(1000, 1, 0)?;
+    let mut page = Page::new(alloc, 16)?;
+    let mut count = Repeating::new(alloc, &grid)?;
+    let mut seg = Segment::new(alloc, &grid, 0, 0, 100)?;
+    seg.count_block(raws, &Classifier::new(&gain, &grid), &mut [0; 9]);
+    count.of(&seg);
+    repeat_text(&mut page, name, &count);
+    assert_eq!(rt; page.bytes(), expected.as_bytes());
+    Ok(())
+}
+
+// The standard's own example, half a cycle that becomes a whole one, and a plateau.
+#[test]
+fn repeating_gauges(rt: HostRuntime) -> Result<(), Fail> {
+    let alloc = rt.alloc();
+    let expected = "repeat G1\n9.0 1.0\n7.0 1.0\n4.0 1.0\n3.0 1.0\n";
+    check_repeat(&rt, alloc, "G1", &EXAMPLE, expected)?;
+    check_repeat(&rt, alloc, "north", &[0, 5], "repeat north\n5.0 1.0\n")?;
+    check_repeat(&rt, alloc, "A", &[2, 2, 2], "repeat A\n")
 }

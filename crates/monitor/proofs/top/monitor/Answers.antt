@@ -7,6 +7,7 @@ use Rattle.monitor.specs.Shown.{shown}
 use Rattle.monitor.proofs.NoMemory.{nothing_done, init_without_memory, report_without_memory, demo_without_memory, ends_at, table_last, demo_last, usage_last}
 use Rattle.monitor.proofs.CountLeft.{count_without_memory}
 use Rattle.monitor.proofs.AuditLeft.{audit_without_memory}
+use Rattle.monitor.proofs.RepeatLeft.{repeat_without_memory}
 use Rattle.monitor.proofs.top.monitor.Goals as goal
 
 pub returns-in-Ok-Some-Table-clause-last : goal.returns-in-Ok-Some-Table-clause-last
@@ -146,5 +147,30 @@ returns-in-Ok-Some-Audit-clause-audit g c = λ is.
 pub returns-in-Err-clause-audit : goal.returns-in-Err-clause-audit
 returns-in-Err-clause-audit g c = λ is.
     audit_without_memory (shown g.C.Source g.T.Site g.K.Station g.O.Sink c.args.config.now c.args.site.now c.args.station.now c.args.out.now)
+    (shown g.C.Source g.T.Site g.K.Station g.O.Sink c.args.config.now c.args.site.now c.no_memory.new.station c.args.out.now)
+    c.no_memory.result c.no_memory.ensures.status c.no_memory.ensures.told c.no_memory.ensures.last refl
+
+pub returns-in-Ok-Some-Repeat-clause-repeat : goal.returns-in-Ok-Some-Repeat-clause-repeat
+returns-in-Ok-Some-Repeat-clause-repeat g c = λ is.
+    let run = c.repeat_command.ensures in
+    record {
+      prints = run.prints;
+      nothing = run.nothing;
+      quiet = run.quiet;
+      last = λ tells some.
+          ends_at (shown g.C.Source g.T.Site g.K.Station g.O.Sink c.args.config.now c.args.site.now c.args.station.now c.args.out.now)
+          (shown g.C.Source g.T.Site g.K.Station g.O.Sink c.repeat_command.new.config c.args.site.now c.repeat_command.new.station c.repeat_command.new.out)
+          _ (run.last tells some);
+      answer_is = run.answer;
+      complete = run.complete;
+      kind = run.kind;
+      read = run.read;
+      write = run.write;
+      disk = run.disk;
+    }
+
+pub returns-in-Err-clause-repeat : goal.returns-in-Err-clause-repeat
+returns-in-Err-clause-repeat g c = λ is.
+    repeat_without_memory (shown g.C.Source g.T.Site g.K.Station g.O.Sink c.args.config.now c.args.site.now c.args.station.now c.args.out.now)
     (shown g.C.Source g.T.Site g.K.Station g.O.Sink c.args.config.now c.args.site.now c.no_memory.new.station c.args.out.now)
     c.no_memory.result c.no_memory.ensures.status c.no_memory.ensures.told c.no_memory.ensures.last refl

@@ -1,0 +1,22 @@
+-- `repeat`, where memory ran out before its configuration was read.
+use Rattle.std.proofs.Common.{◌≡◌, ◌⊎◌, inr, List, [], refl, sym, subst}
+use Rattle.status.specs.declared.status.Status.{Status}
+use Rattle.status.specs.declared.status.Status.TheVariants.{OutOfMemory}
+use Rattle.fault_lines.specs.FaultLine.{fault_line}
+use Rattle.monitor.specs.Shown.{Shown, Tells, Ends}
+use Rattle.monitor.specs.RepeatRun.{RepeatRuns}
+
+pub repeat_without_memory : (before after : Shown) (s : Status) → s ≡ OutOfMemory → (before.station_tells → Tells (fault_line OutOfMemory []) before after)
+    → (before.station_tells → Ends (fault_line OutOfMemory []) before after) → after.written ≡ before.written → RepeatRuns before after s
+repeat_without_memory before after s is tells ends same = subst (λ (x : Status). RepeatRuns before after x) (sym is) (record {
+  prints = λ o k c conf is2 w n holds. same;
+  nothing = λ o p. same;
+  quiet = λ k. tells k;
+  last = λ k n. ends k;
+  answer_is = λ k c. tt;
+  complete = λ k c sound r f w. inr refl;
+  kind = tt;
+  read = λ no. absurd (cc);
+  write = λ no. absurd (cc);
+  disk = λ no. absurd (cc);
+})

@@ -1,0 +1,98 @@
+ghost use Rattle.std.specs.Prelude.{◌≡◌, ◌≢◌, ◌<◌, ◌≤◌, ◌⊎◌, ◌++◌, ℕ, ℤ, List, length, OnOk, OnErr};
+ghost use Rattle.outside.specs.Fault.{Rose, HasCause};
+ghost use Rattle.outside.specs.Sink.{AppendsPrefix};
+ghost use Rattle.calibration.specs.Gain.{GainValue};
+ghost use Rattle.calibration.specs.History.{history};
+ghost use Rattle.repeating.specs.Repeating.{repeating_cycles};
+ghost use Rattle.report.specs.Repeat as texts;
+ghost use Rattle.report_command.specs.Printing.{IsPrinting};
+ghost use Rattle.segment.specs.Segment.{Stands};
+ghost use Rattle.site_config.specs.Valid.{IsConfig};
+ghost use Rattle.status.specs.declared.status.Status.TheVariants.{WriteFault};
+ghost use Rattle.repeat_command.specs.Printing.{AllHeldStand, Prints, repeat_texts};
+
+use outside::{Failed, Sink};
+use repeating::Repeating;
+use report::{Page, repeat_text};
+use segment::Segment;
+use segment_store::Store;
+use site_config::Config;
+use status::Status;
+
+/// Prints what is held of each gauge as a history that repeats.
+pub(crate) fn print_held<O: Sink>(
+    conf: &Config,
+    store: &Store,
+    count: &mut Repeating,
+    page: &mut Page,
+    out: &mut O,
+) -> Status
+    requires conf { IsConfig conf.now }
+    requires setup { store.now.head.setup ≡ conf.now.setup }
+    requires gauges { length store.now.held ≡ length conf.now.gauges }
+    requires grid { count.old.grid ≡ conf.now.setup.grid }
+    requires classes { conf.now.setup.grid.classes ≤ page.old.classes }
+    ensures prints { O.tells → (w : ℕ → List ℤ) → AllHeldStand conf.now store.now.held w →
+        Prints result conf.now w (O.written out.old) (O.written out.new) }
+    ensures kind { IsPrinting result }
+    ensures write { result ≡ WriteFault → Rose (O.faults out.old) (O.faults out.new) }
+{
+    match print_repeats(conf, store, count, page, out) {
+        Ok(()) => Status::Done,
+        Err(_) => Status::WriteFault,
+    }
+}
+
+fn print_repeats<O: Sink>(
+    conf: &Config,
+    store: &Store,
+    count: &mut Repeating,
+    page: &mut Page,
+    out: &mut O,
+) -> Result<(), Failed>
+    requires conf { IsConfig conf.now }
+    requires setup { store.now.head.setup ≡ conf.now.setup }
+    requires gauges { length store.now.held ≡ length conf.now.gauges }
+    requires grid { count.old.grid ≡ conf.now.setup.grid }
+    requires classes { conf.now.setup.grid.classes ≤ page.old.classes }
+    ensures ok { O.tells → (w : ℕ → List ℤ) → AllHeldStand conf.now store.now.held w →
+        OnOk result (O.written out.new ≡ O.written out.old ++ repeat_texts conf.now w) }
+    ensures failed { O.tells → (w : ℕ → List ℤ) → AllHeldStand conf.now store.now.held w →
+        OnErr result (AppendsPrefix (O.written out.old) (O.written out.new)
+        (repeat_texts conf.now w)) }
+    ensures cause { HasCause (O.faults out.old) (O.faults out.new) result }
+{
+    for gauge in 0..conf.gauges.as_slice().len() {
+        let name = conf.gauges.as_slice()[gauge].name.as_str();
+        print_repeat(name, store.held(gauge as u16), count, page, out)?;
+    }
+    Ok(())
+}
+
+// Prints the text of a gauge by its segment.
+fn print_repeat<O: Sink>(
+    name: &str,
+    seg: &Segment,
+    count: &mut Repeating,
+    page: &mut Page,
+    out: &mut O,
+) -> Result<(), Failed>
+    requires name { length name.now ≤ 32 }
+    requires grid { count.old.grid ≡ seg.now.grid }
+    requires classes { seg.now.grid.classes ≤ page.old.classes }
+    ensures ok { O.tells → (gain : GainValue) (w : List ℤ) → Stands seg.now gain w →
+        OnOk result (O.written out.new ≡ O.written out.old ++
+        texts.repeat_text seg.now.grid name.now
+        (repeating_cycles (history seg.now.grid gain w))) }
+    ensures failed { O.tells → (gain : GainValue) (w : List ℤ) → Stands seg.now gain w →
+        OnErr result (AppendsPrefix (O.written out.old) (O.written out.new)
+        (texts.repeat_text seg.now.grid name.now
+        (repeating_cycles (history seg.now.grid gain w)))) }
+    ensures cause { HasCause (O.faults out.old) (O.faults out.new) result }
+    ensures grid { count.new.grid ≡ count.old.grid }
+    ensures classes { page.new.classes ≡ page.old.classes }
+{
+    count.of(seg);
+    repeat_text(page, name, count);
+    out.put(page.bytes())
+}

@@ -1,0 +1,69 @@
+ghost use Rattle.std.specs.Prelude.{◌≡◌, ◌≤◌, ◌<◌, length};
+ghost use Rattle.tally.specs.Counts.{count_of};
+ghost use Rattle.report.specs.Page.{Fits, with_text};
+ghost use Rattle.report.specs.Repeat as spec;
+
+use crate::Page;
+use crate::lines::push_range_line;
+use repeating::Repeating;
+
+/// Makes the page the text of a gauge whose history repeats (5.4.5): a line for each range that has
+/// a cycle, the greatest first.
+pub fn repeat_text(page: &mut Page, name: &str, rep: &Repeating)
+    requires name { length name.now ≤ 32 }
+    requires classes { rep.now.grid.classes ≤ page.old.classes }
+    ensures { page.new ≡ record page.old {
+      bytes = spec.repeat_text rep.now.grid name.now (count_of rep.now.tally.cells);
+    } }
+{
+    // What a count keeps: its grid and all its numbers lie within limits.
+    let _grid = rep.grid();
+    page.clear();
+    push_repeat(page, name, rep);
+}
+
+#[tactic(auto, unfolding(crate::specs::Repeat::repeat_text))]
+fn push_repeat(page: &mut Page, name: &str, rep: &Repeating)
+    requires room { Fits page.old
+        (spec.repeat_text rep.now.grid name.now (count_of rep.now.tally.cells)) }
+    ensures { page.new ≡ with_text page.old
+        (spec.repeat_text rep.now.grid name.now (count_of rep.now.tally.cells)) }
+{
+    push_repeat_name(page, name);
+    push_cycles(page, rep);
+}
+
+fn push_repeat_name(page: &mut Page, name: &str)
+    requires room { Fits page.old (spec.repeat_line name.now) }
+    ensures { page.new ≡ with_text page.old (spec.repeat_line name.now) }
+{
+    page.push(b"repeat ");
+    page.push(name.as_bytes());
+    page.push(b"\n");
+}
+
+fn push_cycles(page: &mut Page, rep: &Repeating)
+    requires room { Fits page.old
+        (spec.cycle_lines rep.now.grid (count_of rep.now.tally.cells)) }
+    ensures { page.new ≡ with_text page.old
+        (spec.cycle_lines rep.now.grid (count_of rep.now.tally.cells)) }
+{
+    let width = u64::from(rep.grid().w2());
+    for k in (1..rep.grid().classes()).rev() {
+        push_range_line(page, u64::from(k) * width, doubled_at(rep, k));
+    }
+}
+
+// The cycles of all pairs so far apart, in half units.
+fn doubled_at(rep: &Repeating, k: u16) -> u64
+    requires some { 1 ≤ k }
+    requires within { k < rep.now.grid.classes }
+    ensures { result ≡ spec.doubled_at (count_of rep.now.tally.cells) rep.now.grid.classes k }
+{
+    let classes = rep.grid().classes();
+    let mut cycles = 0;
+    for lo in 0..classes - k {
+        cycles += rep.cycles(lo, lo + k);
+    }
+    2 * cycles
+}
