@@ -1,9 +1,11 @@
 ghost use Rattle.std.specs.Prelude.{◌≡◌, IfOk};
 
+use calibration::{Gain, Gains, Grid, Setup};
 use count_command::count_command;
 use init_command::init_command;
 use outside::{Gate, MapSite, OpenGate, SteadySource, VecSink};
 use recording::{Head, write_head, write_samples};
+use segment_store::Store;
 use station::{MomentStation, Torn};
 use status::Status;
 use std::alloc::Global;
@@ -105,18 +107,43 @@ pub fn site_of(alloc: Global, file: Vec<u8>) -> Result<MapSite, Fail>
     Ok(MapSite::new(alloc, files, 7, Vec::new(alloc)))
 }
 
+/// Up to where the only gauge is held in the store with these bytes.
+pub fn held(alloc: Global, image: Vec<u8>) -> Result<u64, Fail> {
+    let gain = Gain::new(1000, 1, 0)?;
+    let setup = Setup {
+        grid: Grid::new(16, 2, -8000, 8)?,
+        gains: Gains::from_vec(vec![in alloc; gain]?),
+    };
+    let mut station = MomentStation::new(alloc, image, Vec::new(alloc));
+    let store = Store::resume(alloc, &mut station, &setup)?;
+    Ok(store.held(0).name().to)
+}
+
 /// What stands on a station.
 pub fn image(alloc: Global, station: &MomentStation) -> Result<Vec<u8>, Fail> {
     Ok(station.crash(alloc, station.calls(), Torn::New)?)
 }
 
+/// A station on which `init` made the store of this configuration and site.
+pub fn made_over(
+    rt: &impl Abort,
+    alloc: Global,
+    config: &str,
+    site: &mut MapSite,
+) -> Result<MomentStation, Fail>
+    requires { site.old.out ≡ 0 }
+{
+    let mut station = MomentStation::new(alloc, Vec::new(alloc), Vec::new(alloc));
+    let mut source = SteadySource::new(config.as_bytes().to_vec(alloc)?);
+    let status = init_command(alloc, &mut source, site, &mut station);
+    assert_eq!(rt; status, Status::Done);
+    Ok(station)
+}
+
 /// A store that `init` made of the common configuration and a recording.
 pub fn made(rt: &impl Abort, alloc: Global) -> Result<Vec<u8>, Fail> {
     let mut site = site_of(alloc, recording_of(alloc, 0x11, &[])?)?;
-    let mut station = MomentStation::new(alloc, Vec::new(alloc), Vec::new(alloc));
-    let mut config = SteadySource::new(COMMON.as_bytes().to_vec(alloc)?);
-    let status = init_command(alloc, &mut config, &mut site, &mut station);
-    assert_eq!(rt; status, Status::Done);
+    let station = made_over(rt, alloc, COMMON, &mut site)?;
     assert_eq!(rt; station.told(), b"init 1\n".as_slice());
     image(alloc, &station)
 }
@@ -129,8 +156,30 @@ pub struct Run {
     pub out: VecSink,
 }
 
+/// Runs `count` over this configuration, site and station. The output has so much room.
+pub fn count_over<R: AllocGlobal + Threads + Wait + Sync, G: Gate + Sync>(
+    rt: &R,
+    config: &str,
+    site: &mut MapSite,
+    mut station: MomentStation,
+    room: usize,
+    gate: &G,
+) -> Result<Run, Fail>
+    requires { site.old.out ≡ 0 }
+{
+    let alloc = rt.alloc();
+    let mut source = SteadySource::new(config.as_bytes().to_vec(alloc)?);
+    let mut out = VecSink::new(alloc, room, Vec::new(alloc))?;
+    let status = count_command(rt, None, &mut source, site, &mut station, &mut out, gate);
+    Ok(Run {
+        status,
+        station,
+        out,
+    })
+}
+
 /// Runs `count` over the common configuration, a recording, and a station with this image, on which
-/// the calls of these numbers fail. The output has so much room.
+/// the calls of these numbers fail.
 pub fn count_at<R: AllocGlobal + Threads + Wait + Sync, G: Gate + Sync>(
     rt: &R,
     file: Vec<u8>,
@@ -139,25 +188,9 @@ pub fn count_at<R: AllocGlobal + Threads + Wait + Sync, G: Gate + Sync>(
     room: usize,
     gate: &G,
 ) -> Result<Run, Fail> {
-    let alloc = rt.alloc();
-    let mut site = site_of(alloc, file)?;
-    let mut station = MomentStation::new(alloc, image, failing);
-    let mut config = SteadySource::new(COMMON.as_bytes().to_vec(alloc)?);
-    let mut out = VecSink::new(alloc, room, Vec::new(alloc))?;
-    let status = count_command(
-        rt,
-        None,
-        &mut config,
-        &mut site,
-        &mut station,
-        &mut out,
-        gate,
-    );
-    Ok(Run {
-        status,
-        station,
-        out,
-    })
+    let mut site = site_of(rt.alloc(), file)?;
+    let station = MomentStation::new(rt.alloc(), image, failing);
+    count_over(rt, COMMON, &mut site, station, room, gate)
 }
 
 /// Likewise, where nothing fails.

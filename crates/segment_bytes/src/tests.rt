@@ -149,19 +149,41 @@ fn one_byte_changed(rt: HostRuntime) -> Result<(), Fail> {
     Ok(())
 }
 
-// The body of no samples is 72 zeros; one byte less, and one more.
-const ZEROS: [(usize, Option<BytesFault>); 3] = [
-    (71, Some(BytesFault::Short { need: 72, have: 71 })),
-    (72, None),
-    (73, Some(BytesFault::Trailing { rest: 1 })),
+// The body of no samples is 72 zeros, and 70 in rows; one byte less, and one more.
+const ZEROS: [(Layout, usize, Option<BytesFault>); 6] = [
+    (
+        Layout::One,
+        71,
+        Some(BytesFault::Short { need: 72, have: 71 }),
+    ),
+    (Layout::One, 72, None),
+    (Layout::One, 73, Some(BytesFault::Trailing { rest: 1 })),
+    (
+        Layout::Two,
+        69,
+        Some(BytesFault::Short { need: 70, have: 69 }),
+    ),
+    (Layout::Two, 70, None),
+    (Layout::Two, 71, Some(BytesFault::Trailing { rest: 1 })),
 ];
 
 #[test]
 fn short_and_trailing(rt: HostRuntime) -> Result<(), Fail> {
-    for (bytes, expected) in &ZEROS {
+    for (layout, bytes, expected) in &ZEROS {
         assert!(rt; *bytes <= 73);
-        let found = fault(&rt, rt.alloc(), Layout::One, &[0; 73][..*bytes])?;
+        let found = fault(&rt, rt.alloc(), *layout, &[0; 73][..*bytes])?;
         assert_eq!(rt; found, *expected, "{bytes} bytes");
+    }
+    Ok(())
+}
+
+#[test]
+fn the_body_of_no_samples(rt: HostRuntime) -> Result<(), Fail> {
+    for (layout, zeros) in [(Layout::One, 72usize), (Layout::Two, 70)] {
+        let segment = taken(&rt, rt.alloc(), &[])?;
+        let mut buf = vec![in rt.alloc(); 7; 3000]?;
+        assert!(rt; zeros <= 73);
+        assert_eq!(rt; body(&rt, layout, &segment, &mut buf), &[0; 73][..zeros]);
     }
     Ok(())
 }

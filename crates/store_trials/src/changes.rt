@@ -1,7 +1,6 @@
 use crate::stores::{NEXT, Part, held, stored};
 use segment::JoinRefusal;
-use segment_store::{Damage, Field, ResumeFault};
-use sha2::{Digest, Sha256};
+use segment_store::{Damage, ResumeFault};
 use std::alloc::Global;
 use std::process::Abort;
 use std::test::Fail;
@@ -15,93 +14,6 @@ const FOUR: Part = Part {
 
 fn damaged(index: u64, damage: Damage) -> Result<u64, ResumeFault> {
     Err(ResumeFault::Damaged { index, damage })
-}
-
-// Up to where gauge 0 is held in a store of four samples, in which all bits of a byte are turned.
-// The bytes from 63 on are a body's length, the body, its digest and a closed gate.
-fn with_turned(
-    rt: &impl Abort,
-    alloc: Global,
-    place: usize,
-) -> Result<Result<u64, ResumeFault>, Fail> {
-    let mut bytes = stored(rt, alloc, 1, &[FOUR])?;
-    assert!(rt; place < bytes.len());
-    bytes[place] = !bytes[place];
-    held(alloc, bytes)
-}
-
-// A byte of the head that is turned, and the fault, if there is one. The id and the period are
-// those of the recording, and no fault of the store.
-const FRONTS: [(usize, Option<ResumeFault>); 7] = [
-    (0, Some(ResumeFault::NotAStore)),
-    (1, Some(ResumeFault::NotAStore)),
-    (4, Some(ResumeFault::NotAStore)),
-    (5, Some(ResumeFault::Version(253))),
-    (22, None),
-    (41, None),
-    (
-        63,
-        Some(ResumeFault::Damaged {
-            index: 0,
-            damage: Damage::Length(4278190238),
-        }),
-    ),
-];
-
-// The byte, the number in which it stands, what that number becomes, and what the setup has.
-const NUMBERS: [(usize, Field, i64, i64); 8] = [
-    (7, Field::Gauges, 254, 1),
-    (9, Field::Classes, 239, 16),
-    (11, Field::Width, 253, 2),
-    (19, Field::Low, -8129, -8000),
-    (21, Field::Reference, 247, 8),
-    (49, Field::Num(0), 791, 1000),
-    (53, Field::Den(0), 254, 1),
-    (61, Field::Offset(0), 255, 0),
-];
-
-#[test]
-fn a_byte_of_the_head_is_changed(rt: HostRuntime) -> Result<(), Fail> {
-    for (place, expected) in &FRONTS {
-        let found = with_turned(&rt, rt.alloc(), *place)?.err();
-        assert_eq!(rt; found, *expected, "byte {place}");
-    }
-    for (place, field, kept, found) in NUMBERS {
-        let expected = ResumeFault::Differs { field, kept, found };
-        let answer = with_turned(&rt, rt.alloc(), place)?;
-        assert_eq!(rt; answer, Err(expected), "byte {place}");
-    }
-    Ok(())
-}
-
-#[test]
-fn the_gate_of_the_only_body_is_closed(rt: HostRuntime) -> Result<(), Fail> {
-    assert_eq!(rt; with_turned(&rt, rt.alloc(), 62)?, Ok(0));
-    Ok(())
-}
-
-// The digest covers the length and the body.
-fn digests(rt: &impl Abort, alloc: Global, place: usize) -> Result<Damage, Fail> {
-    let mut bytes = stored(rt, alloc, 1, &[FOUR])?;
-    assert!(rt; place < bytes.len() && bytes.len() == 258);
-    bytes[place] = !bytes[place];
-    let mut kept = [0; 32];
-    kept.copy_from_slice(&bytes[225..257]);
-    let found = Sha256::digest(&bytes[63..225]);
-    Ok(Damage::Digest { kept, found })
-}
-
-#[test]
-fn a_byte_of_a_body_or_a_digest_is_changed(rt: HostRuntime) -> Result<(), Fail> {
-    for place in [67, 84, 150, 224, 225, 256] {
-        let expected = damaged(0, digests(&rt, rt.alloc(), place)?);
-        assert_eq!(rt;
-            with_turned(&rt, rt.alloc(), place)?,
-            expected,
-            "byte {place}"
-        );
-    }
-    Ok(())
 }
 
 // So many bytes of a store in which a body is cut, and of others that have no head.

@@ -9,3 +9,5 @@ mod changes;
 mod moments;
 #[cfg(test)]
 mod stores;
+#[cfg(test)]
+mod turned;

@@ -1,7 +1,7 @@
 ghost use Rattle.std.specs.Prelude.{◌≤◌};
 
 use crate::stores::{
-    FIRST, NEXT, Refusal, held, image, made, put, put_after_a_failure, setup, stored,
+    FIRST, NEXT, Refusal, held, image, made, made_in, put, put_after_a_failure, setup, stored,
 };
 use segment_store::{PutFault, ResumeFault, Store};
 use station::{MomentStation, Torn};
@@ -49,10 +49,7 @@ fn every_moment_of_making(rt: HostRuntime) -> Result<(), Fail> {
 
 // A store of this version with the first part, into which the next one is put.
 fn with_next(rt: &impl Abort, alloc: Global, version: u8) -> Result<MomentStation, Fail> {
-    let mut bytes = image(alloc, &made(alloc, 1)?)?;
-    assert!(rt; bytes.len() == 63);
-    bytes[5] = version;
-    let mut station = MomentStation::new(alloc, bytes, Vec::new(alloc));
+    let mut station = made_in(rt, alloc, version)?;
     put(rt, alloc, 1, &mut station, FIRST)??;
     put(rt, alloc, 1, &mut station, NEXT)??;
     Ok(station)

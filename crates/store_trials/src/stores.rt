@@ -31,6 +31,13 @@ pub const NEXT: Part = Part {
     raws: &[-1, 3, -4, 4, -2],
 };
 
+/// Both at once: the standard's own example.
+pub const WHOLE: Part = Part {
+    gauge: 0,
+    from: 0,
+    raws: &[-2, 1, -3, 5, -1, 3, -4, 4, -2],
+};
+
 /// Why a part was not put.
 #[derive(Clone, Copy, Debug, PartialEq, Eq)]
 pub enum Refusal {
@@ -70,6 +77,14 @@ pub fn made(alloc: Global, gauges: usize) -> Result<MomentStation, Fail>
     let mut station = MomentStation::new(alloc, Vec::new(alloc), Vec::new(alloc));
     init(alloc, &mut station, &head(alloc, gauges)?)?;
     Ok(station)
+}
+
+/// Likewise, of one gauge and this version.
+pub fn made_in(rt: &impl Abort, alloc: Global, version: u8) -> Result<MomentStation, Fail> {
+    let mut bytes = image(alloc, &made(alloc, 1)?)?;
+    assert!(rt; bytes.len() == 63);
+    bytes[5] = version;
+    Ok(MomentStation::new(alloc, bytes, Vec::new(alloc)))
 }
 
 /// What stands on a station.

@@ -1,0 +1,210 @@
+#!/usr/bin/env python3
+"""Refuses the program memory, one request at a time, and looks at how it ends.
+
+refused.py PROGRAM
+
+A small library in C is put before the system's own (LD_PRELOAD), which refuses the Nth request of a run. Each command below runs with N
+from 1 on, until a run makes fewer requests. What is checked:
+- the run ends as the one without a refusal does, in status, text and lines, or it tells `out of memory` last, ends with status 9, and
+  prints nothing;
+- after `init` there is no store, one that is none yet, or the whole one;
+- after `count` the store holds a front of the recording, with at least what was acknowledged, and a further `count` prints the report.
+What is expected comes from an independent count (model.py). It needs a C compiler, as $CC or cc. Last line: refused: N passed, M failed
+"""
+
+import os
+import re
+import subprocess
+import sys
+import tempfile
+
+# No folder is made in the checkout.
+sys.dont_write_bytecode = True
+
+from model import Count, Detail, Grid, recording, repeat, report
+
+LIBRARY = r"""
+#include <errno.h>
+#include <stdatomic.h>
+#include <stdlib.h>
+#include <unistd.h>
+void *__libc_malloc(size_t);
+void *__libc_calloc(size_t, size_t);
+void *__libc_realloc(void *, size_t);
+void *__libc_memalign(size_t, size_t);
+static atomic_long requests;
+static long refused;
+static int fd;
+__attribute__((constructor)) static void begin(void) {
+    refused = atol(getenv("REFUSED"));
+    fd = atoi(getenv("REFUSED_FD"));
+}
+static int refuses(void) {
+    if (refused == 0 || atomic_fetch_add(&requests, 1) + 1 != refused) return 0;
+    (void)!write(fd, "x", 1);
+    errno = ENOMEM;
+    return 1;
+}
+void *malloc(size_t n) { return refuses() ? 0 : __libc_malloc(n); }
+void *calloc(size_t n, size_t m) { return refuses() ? 0 : __libc_calloc(n, m); }
+void *realloc(void *p, size_t n) { return refuses() ? 0 : __libc_realloc(p, n); }
+void *memalign(size_t a, size_t n) { return refuses() ? 0 : __libc_memalign(a, n); }
+void *aligned_alloc(size_t a, size_t n) { return refuses() ? 0 : __libc_memalign(a, n); }
+int posix_memalign(void **p, size_t a, size_t n) {
+    if (refuses()) return ENOMEM;
+    *p = __libc_memalign(a, n);
+    return *p ? 0 : ENOMEM;
+}
+"""
+
+CONFIGURATION = """[grid]
+classes = 16
+width = 2
+low = -8000
+reference = 8
+[count]
+block = 4
+workers = 2
+[[gauge]]
+name = "G1"
+file = "g1.sgrc"
+num = 1000
+[[detail]]
+name = "W1"
+gauge = "G1"
+kind = "normal"
+category = 71
+gamma = 100
+"""
+EXAMPLE = [-2, 1, -3, 5, -1, 3, -4, 4, -2]
+GRID = Grid(16, 2, -8000, 8)
+STORE = bytes.fromhex(
+    "015347535402000100100002ffffffffffffe0c00008" + "11" * 16 + "0000271000000000000003e800000001000000000000000000"
+)
+
+
+def report_of(samples):
+    return report(["G1"], [Count(GRID, (1000, 1, 0), EXAMPLE[:samples])], [Detail("W1", 0, "normal", 71, 100)])
+
+
+def table_of(raws):
+    lines = Count(Grid(64, 2, 0, 32), (1000, 1, 0), raws).table()
+    return "".join(line + "\n" for line in lines)
+
+
+class Trial:
+    def __init__(self, program, library):
+        self.program, self.library = program, library
+        self.passed = self.failed = 0
+
+    def check(self, what, got, due):
+        if got in due:
+            self.passed += 1
+            return
+        self.failed += 1
+        print("refused: %s: %r, due %r" % (what, got, due))
+
+    def run(self, words, number=0):
+        """Status, text and lines of a run of which this request is refused, and whether it came so far."""
+        reader, writer = os.pipe()
+        env = dict(os.environ, LD_PRELOAD=self.library, REFUSED=str(number), REFUSED_FD=str(writer))
+        done = subprocess.run([self.program, *words], capture_output=True, text=True, env=env, pass_fds=[writer], timeout=60)
+        os.close(writer)
+        was_refused = os.read(reader, 1) == b"x"
+        os.close(reader)
+        return (done.returncode, done.stdout, done.stderr), was_refused
+
+    def each(self, name, words, begin, after):
+        """Tries a command with each request refused, in a folder that `begin` fills. `after` looks at it, with the lines that were told."""
+        begin()
+        whole, _ = self.run(words)
+        number = outs = 0
+        while True:
+            number += 1
+            begin()
+            ended, was_refused = self.run(words, number)
+            if not was_refused:
+                self.check("%s, which makes %d requests" % (name, number - 1), ended, [whole])
+                break
+            status, text, told = ended
+            outs += status == 9
+            if status == 9:
+                self.check("%s: text where request %d is refused" % (name, number), text, [""])
+                self.check("%s: lines where request %d is refused" % (name, number), told.endswith("out of memory\n"), [True])
+            else:
+                self.check("%s: end where request %d is refused" % (name, number), ended, [whole])
+            after(number, told)
+        print("refused: %s: %d requests, %d of them end it" % (name, number - 1, outs))
+
+
+def write(name, data):
+    with open(name, "wb") as file:
+        file.write(data)
+
+
+def store():
+    try:
+        with open("monitor.store", "rb") as file:
+            return file.read()
+    except FileNotFoundError:
+        return b""
+
+
+def no_store():
+    if os.path.exists("monitor.store"):
+        os.remove("monitor.store")
+
+
+def rows(trial):
+    write("monitor.toml", CONFIGURATION.encode())
+    write("g1.sgrc", recording(EXAMPLE))
+    write("t.sgrc", recording([raw + 8 for raw in EXAMPLE]))
+
+    def after_init(number, told):
+        left = store()
+        is_none = len(left) < 22 or left[0] != 1
+        trial.check("init: store where request %d is refused" % number, is_none or left == STORE, [True])
+        trial.check("init: line where request %d is refused" % number, "init 1\n" not in told or left == STORE, [True])
+
+    def after_count(number, told):
+        acknowledged = max([int(n) for n in re.findall(r"^held G1 (\d+)$", told, re.M)], default=0)
+        ended, _ = trial.run(["report"])
+        trial.check("report where request %d of count was refused" % number, ended, [(0, report_of(n), "") for n in range(acknowledged, 10)])
+        status, text, _ = trial.run(["count"])[0]
+        trial.check("count where request %d of count was refused" % number, (status, text), [(0, report_of(9))])
+
+    def after_reading(image):
+        return lambda number, told: trial.check("store where request %d is refused" % number, store() == image, [True])
+
+    trial.each("init", ["init"], no_store, after_init)
+    trial.each("init again", ["init"], lambda: write("monitor.store", STORE), after_reading(STORE))
+    trial.each("count", ["count"], lambda: write("monitor.store", STORE), after_count)
+    trial.check("count", trial.run(["count"])[0], [(0, report_of(9), "")])
+    image = store()
+    repeated = repeat(["G1"], [Count(GRID, (1000, 1, 0), EXAMPLE)])
+    for command, due in (("report", report_of(9)), ("repeat", repeated), ("audit", "audit G1 same\n")):
+        trial.check(command, trial.run([command])[0], [(0, due, "")])
+        trial.each(command, [command], lambda: None, after_reading(image))
+    no_store()
+    trial.check("no store", trial.run(["report"])[0], [(3, "", "store: not a store\n")])
+    trial.each("report of no store", ["report"], no_store, after_reading(b""))
+    trial.check("table", trial.run(["table", "t.sgrc"])[0], [(0, table_of([raw + 8 for raw in EXAMPLE]), "")])
+    trial.each("table", ["table", "t.sgrc"], no_store, after_reading(b""))
+    trial.each("demo", ["demo", "--samples", "100", "--workers", "2"], no_store, after_reading(b""))
+
+
+def main():
+    program = os.path.abspath(sys.argv[1])
+    with tempfile.TemporaryDirectory() as room:
+        os.chdir(room)
+        write("refusing.c", LIBRARY.encode())
+        subprocess.run([os.environ.get("CC", "cc"), "-O1", "-shared", "-fPIC", "-o", "refusing.so", "refusing.c"], check=True)
+        trial = Trial(program, os.path.join(room, "refusing.so"))
+        rows(trial)
+        os.chdir("/")
+    print("refused: %d passed, %d failed" % (trial.passed, trial.failed))
+    return 1 if trial.failed else 0
+
+
+if __name__ == "__main__":
+    sys.exit(main())
