@@ -313,7 +313,8 @@ class Case:
 
     def change_recording(self, rng):
         # A few of them are gone.
-        self.recordings[self.file] = changed(rng, self.recordings[self.file]) if rng.random() < 0.98 else None
+        if self.recordings[self.file] is not None:
+            self.recordings[self.file] = changed(rng, self.recordings[self.file]) if rng.random() < 0.98 else None
 
     def change_store(self, rng):
         self.store = changed_store(rng, self.store)
