@@ -3,7 +3,7 @@ use Rattle.std.proofs.Common.{◌≡◌, true, List, codes, Option, Some, None, 
 use Rattle.clap.specs.Words.{App, Text, is_simple_and_free, found_of, first_value}
 use Rattle.clap.specs.declared.parser.matches.ArgMatches.{ArgMatches}
 use Rattle.clap.proofs.OnLiterals.{clap_on_literals}
-use Rattle.command_words.specs.Line.{Command, Table, table_app, init_app, report_app, audit_app, repeat_app, count_app, demo_app, table_in, count_in, demo_in, table_line, line_without_arguments, count_line, demo_line, count_with, demo_with}
+use Rattle.command_words.specs.Line.{Command, Table, table_app, init_app, report_app, audit_app, repeat_app, count_app, demo_app, sheet_app, column_app, table_in, count_in, demo_in, column_in, table_line, line_without_arguments, count_line, demo_line, column_line, count_with, demo_with, column_with}
 use Rattle.command_words.specs.Commands.{HasRead}
 use Rattle.command_words.proofs.Parsed.{has_read-as, line_by-refused, line_by-taken}
 
@@ -34,6 +34,14 @@ count_free = refl
 pub demo_free : is_simple_and_free demo_app ≡ true
 unfolding clap_on_literals
 demo_free = refl
+
+pub sheet_free : is_simple_and_free sheet_app ≡ true
+unfolding clap_on_literals
+sheet_free = refl
+
+pub column_free : is_simple_and_free column_app ≡ true
+unfolding clap_on_literals
+column_free = refl
 
 pub table_refused : (a : App) (words : List Text) → a ≡ table_app → HasRead a words None → table_line words ≡ None
 table_refused a words is h = line_by-refused table_app table_in words (has_read-as a table_app words None is h)
@@ -68,3 +76,15 @@ pub demo_taken : (a : App) (words : List Text) (m : ArgMatches) → a ≡ demo_a
 demo_taken a words m is h =
     let read = has_read-as a demo_app words (Some m) is h in
     line_by-taken demo_app demo_in words m read ∙ sym (same_demo _ _ _ _ _ _ (read.1 (codes "seed")) (read.1 (codes "samples")) (read.1 (codes "workers")))
+
+pub column_refused : (a : App) (words : List Text) → a ≡ column_app → HasRead a words None → column_line words ≡ None
+column_refused a words is h = line_by-refused column_app column_in words (has_read-as a column_app words None is h)
+
+pub same_column : (a b c d e f g h : Option Text) → a ≡ b → c ≡ d → e ≡ f → g ≡ h → column_with a c e g ≡ column_with b d f h
+same_column a b c d e f g h w x y z = rw (w, x, y, z) refl
+
+pub column_taken : (a : App) (words : List Text) (m : ArgMatches) → a ≡ column_app → HasRead a words (Some m)
+    → column_line words ≡ column_with (first_value (found_of m) (codes "file")) (first_value (found_of m) (codes "name")) (first_value (found_of m) (codes "id")) (first_value (found_of m) (codes "period"))
+column_taken a words m is h =
+    let read = has_read-as a column_app words (Some m) is h in
+    line_by-taken column_app column_in words m read ∙ sym (same_column _ _ _ _ _ _ _ _ (read.1 (codes "file")) (read.1 (codes "name")) (read.1 (codes "id")) (read.1 (codes "period")))

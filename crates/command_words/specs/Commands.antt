@@ -8,7 +8,7 @@ use Rattle.clap.specs.declared.parser.matches.ArgMatches.{ArgMatches}
 use Rattle.command_words.specs.declared.command.Command.{Command as Named}
 use Rattle.command_words.specs.declared.command.Command.TheVariants as variants
 use Rattle.command_words.specs.declared.command.TheConstants.{MAX_WORKERS, MAX_SEED, MAX_DEMO_SAMPLES}
-use Rattle.command_words.specs.Line.{Command, Table, Init, Count, Report, Audit, Demo, Repeat, is_accepted_by}
+use Rattle.command_words.specs.Line.{Command, Table, Init, Count, Report, Audit, Demo, Repeat, Column, Sheet, is_accepted_by}
 
 abbrev pub command_in : Named → Command
 command_in (variants.Table file) = Table file.now
@@ -18,6 +18,8 @@ command_in variants.Report = Report
 command_in variants.Audit = Audit
 command_in (variants.Demo seed samples workers) = Demo seed samples workers
 command_in variants.Repeat = Repeat
+command_in (variants.Column file name id period_us) = Column file.now name.now id period_us
+command_in variants.Sheet = Sheet
 
 abbrev pub meaning_of : Option Named → Option Command
 meaning_of read = option_map command_in read
@@ -31,6 +33,8 @@ IsWithinRanges variants.Audit = Unit {0}
 IsWithinRanges (variants.Demo seed samples workers) =
     (seed ≤ MAX_SEED) × (1 ≤ samples) × (samples ≤ MAX_DEMO_SAMPLES) × (1 ≤ workers) × (workers ≤ MAX_WORKERS)
 IsWithinRanges variants.Repeat = Unit {0}
+IsWithinRanges (variants.Column file name id period_us) = Unit {0}
+IsWithinRanges variants.Sheet = Unit {0}
 
 -- a getter finds what the definition's rows have
 abbrev pub Finds : App → List Text → ArgMatches → Type 0

@@ -3,15 +3,18 @@
 --   Command                    a command, with the values of its words
 --   is_accepted_by             clap takes the words
 --   number_in                  the number that a word spells
+--   id_in                      the sixteen bytes that a word spells
 --   table_line, count_line, .. each command: its arguments as clap's rules, and what they say
 --   command_of                 the whole line
-use Rattle.std.specs.Prelude.{ℕ, pos, true, Bool, ◌&&◌, ◌==◌, nat_lt, nat_le, if◌then◌else◌, List, [], ◌∷◌, length, codes, Option, Some, None, option_map}
+use Rattle.std.specs.Prelude.{ℕ, pos, true, Bool, ◌&&◌, ◌||◌, ◌==◌, nat_lt, nat_le, if◌then◌else◌, List, [], ◌∷◌, length, codes, Option, Some, None, option_map, Result, Ok, Err}
 use Rattle.std.specs.List.{list_all}
 use Rattle.std.specs.Char.{digit_value}
 use Rattle.std.specs.Str.Parse.{digits_value, without_leading_plus}
 use Rattle.std.specs.Cmp.Lexicographic.{pointwise}
+use Rattle.hex.specs.Hex.{decode_sized}
+use Rattle.hex.specs.declared.error.FromHexError.{FromHexError}
 use Rattle.clap.specs.Words.{App, Row, Rule, Text, new_app, new_rule, with_rule, matches_of, first_of, fault_of}
-use Rattle.command_words.specs.declared.command.TheConstants.{MAX_WORKERS, MAX_SEED, MAX_DEMO_SAMPLES}
+use Rattle.command_words.specs.declared.command.TheConstants.{MAX_WORKERS, MAX_SEED, MAX_DEMO_SAMPLES, MAX_PERIOD_US}
 use Rattle.clap.specs.declared.builder.action.ArgAction.TheVariants.{Set}
 use Rattle.clap.specs.declared.builder.value_parser.ValueParser.TheVariants.{Signed, Unsigned}
 
@@ -23,6 +26,8 @@ pub data Command : Type 0 where
   Audit : Command
   Demo : ℕ → ℕ → ℕ → Command
   Repeat : Command
+  Column : Text → Text → List ℕ → ℕ → Command
+  Sheet : Command
 
 infixl 10 ◌>>=◌
 abbrev pub ◌>>=◌ : {A B : Type 0} → Option A → (A → Option B) → Option B
@@ -73,7 +78,7 @@ table_line = line_by table_app table_in
 abbrev pub line_without_arguments : App → Command → List Text → Option Command
 line_without_arguments app command = line_by app (λ rows. Some command)
 
--- init, report, audit, repeat
+-- init, report, audit, repeat, sheet
 abbrev pub init_app : App
 init_app = new_app (codes "init")
 
@@ -85,6 +90,9 @@ audit_app = new_app (codes "audit")
 
 abbrev pub repeat_app : App
 repeat_app = new_app (codes "repeat")
+
+abbrev pub sheet_app : App
+sheet_app = new_app (codes "sheet")
 
 -- count [--workers N]
 abbrev pub workers_rule : Rule
@@ -129,6 +137,40 @@ demo_in rows = demo_with (first_of (codes "seed") rows) (first_of (codes "sample
 abbrev pub demo_line : List Text → Option Command
 demo_line = line_by demo_app demo_in
 
+-- an id: 32 hexadecimal digits in lower case, two for each of its sixteen bytes
+abbrev pub is_lower_digit : ℕ → Bool
+is_lower_digit c = (nat_le 48 c && nat_le c 57) || (nat_le 97 c && nat_le c 102)
+
+abbrev pub decoded : Result (List ℕ) FromHexError → Option (List ℕ)
+decoded (Ok id) = Some id
+decoded (Err fault) = None
+
+abbrev pub id_in : Text → Option (List ℕ)
+id_in text = if list_all is_lower_digit text then decoded (decode_sized text 16) else None
+
+abbrev pub id_at : Option Text → Option (List ℕ)
+id_at None = None
+id_at (Some text) = id_in text
+
+-- column FILE NAME ID PERIOD
+abbrev pub column_app : App
+column_app =
+    with_rule (with_rule (with_rule (with_rule (new_app (codes "column")) (place_rule (codes "file"))) (place_rule (codes "name"))) (place_rule (codes "id"))) (place_rule (codes "period"))
+
+abbrev pub column_with : Option Text → Option Text → Option Text → Option Text → Option Command
+column_with file name id period = do
+  file ← file
+  name ← name
+  id ← id_at id
+  period ← number_at 0 MAX_PERIOD_US period
+  Some (Column file name id period)
+
+abbrev pub column_in : List Row → Option Command
+column_in rows = column_with (first_of (codes "file") rows) (first_of (codes "name") rows) (first_of (codes "id") rows) (first_of (codes "period") rows)
+
+abbrev pub column_line : List Text → Option Command
+column_line = line_by column_app column_in
+
 -- the command that the first word names
 abbrev pub is_named : Text → Text → Bool
 is_named name word = pointwise ◌==◌ word name
@@ -143,4 +185,6 @@ command_of (first ∷ rest) =
     else if is_named (codes "audit") first then line_without_arguments audit_app Audit (first ∷ rest)
     else if is_named (codes "demo") first then demo_line (first ∷ rest)
     else if is_named (codes "repeat") first then line_without_arguments repeat_app Repeat (first ∷ rest)
+    else if is_named (codes "column") first then column_line (first ∷ rest)
+    else if is_named (codes "sheet") first then line_without_arguments sheet_app Sheet (first ∷ rest)
     else None

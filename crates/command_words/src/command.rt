@@ -7,6 +7,9 @@ pub const MAX_SEED: u64 = 9_223_372_036_854_775_807;
 /// The most samples that `demo` makes for each gauge; it makes at least one.
 pub const MAX_DEMO_SAMPLES: u64 = 1_000_000;
 
+/// The longest time between two samples that `column` takes, in microseconds.
+pub const MAX_PERIOD_US: u64 = 4_294_967_295;
+
 /// A command, with the values of its words.
 #[derive(Clone, Copy, Debug, PartialEq, Eq)]
 pub enum Command<'a> {
@@ -33,4 +36,13 @@ pub enum Command<'a> {
     },
     /// `repeat`
     Repeat,
+    /// `column FILE NAME ID PERIOD`: the id of a recording, and microseconds.
+    Column {
+        file: &'a str,
+        name: &'a str,
+        id: [u8; 16],
+        period_us: u32,
+    },
+    /// `sheet`
+    Sheet,
 }

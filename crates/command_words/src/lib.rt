@@ -2,7 +2,7 @@
 //!
 //! `specs/Line.antt` has the meaning. The words behind the first are read by `clap`, as one simple command without subcommands,
 //! and the definition names `clap`'s own: its rules, the fault of the words, and what a getter finds. A request for help is a
-//! refusal. Numbers are those of Rust's `parse`, so `+2` and `02` are 2.
+//! refusal. Numbers are those of Rust's `parse`, so `+2` and `02` are 2; an id is read by `hex`.
 //!
 //! A command of its own is a builder, a reader and a line of `read_words`.
 //!
@@ -10,12 +10,13 @@
 #![tactic(auto)]
 
 mod command;
+mod id;
 mod number;
 mod options;
 mod parse;
 mod readers;
 
-pub use command::{Command, MAX_DEMO_SAMPLES, MAX_SEED, MAX_WORKERS};
+pub use command::{Command, MAX_DEMO_SAMPLES, MAX_PERIOD_US, MAX_SEED, MAX_WORKERS};
 pub use readers::read_words;
 
 #[cfg(test)]

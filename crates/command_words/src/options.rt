@@ -10,10 +10,7 @@ use std::alloc::{AllocError, Global};
 pub fn table_app<'a>(alloc: Global) -> Result<clap::Command<'a>, AllocError>
     ensures { IfOk result (λ c. app_of c ≡ spec.table_app) }
 {
-    let file = Arg::new(alloc, "file")
-        .required(true)
-        .action(ArgAction::Set);
-    clap::Command::new(alloc, "table").arg(file)
+    clap::Command::new(alloc, "table").arg(place(alloc, "file"))
 }
 
 /// `init`
@@ -42,6 +39,32 @@ pub fn repeat_app<'a>(alloc: Global) -> clap::Command<'a>
     ensures { app_of result ≡ spec.repeat_app }
 {
     clap::Command::new(alloc, "repeat")
+}
+
+/// `sheet`
+pub fn sheet_app<'a>(alloc: Global) -> clap::Command<'a>
+    ensures { app_of result ≡ spec.sheet_app }
+{
+    clap::Command::new(alloc, "sheet")
+}
+
+/// `column FILE NAME ID PERIOD`
+pub fn column_app<'a>(alloc: Global) -> Result<clap::Command<'a>, AllocError>
+    ensures { IfOk result (λ c. app_of c ≡ spec.column_app) }
+{
+    clap::Command::new(alloc, "column")
+        .arg(place(alloc, "file"))?
+        .arg(place(alloc, "name"))?
+        .arg(place(alloc, "id"))?
+        .arg(place(alloc, "period"))
+}
+
+// An argument that has to be there, by its place.
+fn place<'a>(alloc: Global, id: &'a str) -> Arg<'a>
+    ensures rule { rule_of result ≡ spec.place_rule id.entry.now }
+    ensures local { result.global ≡ false }
+{
+    Arg::new(alloc, id).required(true).action(ArgAction::Set)
 }
 
 /// `count [--workers N]`

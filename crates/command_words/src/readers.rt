@@ -1,8 +1,9 @@
 ghost use Rattle.std.specs.Prelude.{◌≡◌, ◌≤◌, IfOk, IfSome, map, option_map, string_bytes};
-ghost use Rattle.command_words.specs.Line.{Init, Report, Audit, Repeat, init_app, report_app, audit_app, repeat_app, command_of, table_line, line_without_arguments, count_line, demo_line, number_at, count_with, demo_with};
+ghost use Rattle.command_words.specs.Line.{Init, Report, Audit, Repeat, Sheet, init_app, report_app, audit_app, repeat_app, sheet_app, command_of, table_line, line_without_arguments, count_line, demo_line, column_line, number_at, id_at, count_with, demo_with, column_with};
 ghost use Rattle.command_words.specs.Commands.{IsWithinRanges, meaning_of};
 
-use crate::command::{MAX_DEMO_SAMPLES, MAX_SEED, MAX_WORKERS};
+use crate::command::{MAX_DEMO_SAMPLES, MAX_PERIOD_US, MAX_SEED, MAX_WORKERS};
+use crate::id::id_in;
 use crate::number::number_in;
 use crate::parse::read_by;
 use crate::{Command, options};
@@ -36,6 +37,12 @@ pub fn read_words<'a>(alloc: Global, words: &'a [String]) -> Result<Option<Comma
     }
     if first.as_str() == "repeat" {
         return read_repeat(alloc, words);
+    }
+    if first.as_str() == "column" {
+        return read_column(alloc, words);
+    }
+    if first.as_str() == "sheet" {
+        return read_sheet(alloc, words);
     }
     Ok(None)
 }
@@ -94,6 +101,17 @@ fn read_repeat<'a>(alloc: Global, words: &'a [String]) -> Result<Option<Command<
     match read_by(options::repeat_app(alloc), words)? {
         None => Ok(None),
         Some(_) => Ok(Some(Command::Repeat)),
+    }
+}
+
+fn read_sheet<'a>(alloc: Global, words: &'a [String]) -> Result<Option<Command<'a>>, AllocError>
+    ensures line { IfOk result (λ read. meaning_of read ≡
+        line_without_arguments sheet_app Sheet (map string_bytes words.entry.now)) }
+    ensures ranges { IfOk result (λ read. IfSome read IsWithinRanges) }
+{
+    match read_by(options::sheet_app(alloc), words)? {
+        None => Ok(None),
+        Some(_) => Ok(Some(Command::Sheet)),
     }
 }
 
@@ -171,5 +189,51 @@ fn number_of(text: Option<&str>, low: u64, high: u64) -> Option<u64>
     match text {
         None => None,
         Some(text) => number_in(low, high, text),
+    }
+}
+
+fn read_column<'a>(alloc: Global, words: &'a [String]) -> Result<Option<Command<'a>>, AllocError>
+    ensures line { IfOk result (λ read. meaning_of read ≡ column_line (map string_bytes words.entry.now)) }
+    ensures ranges { IfOk result (λ read. IfSome read IsWithinRanges) }
+{
+    let Some(matches) = read_by(options::column_app(alloc)?, words)? else {
+        return Ok(None);
+    };
+    Ok(column_with(
+        matches.get_str("file"),
+        matches.get_str("name"),
+        matches.get_str("id"),
+        matches.get_str("period"),
+    ))
+}
+
+// `column` with the texts of its arguments.
+fn column_with<'a>(
+    file: Option<&'a str>,
+    name: Option<&'a str>,
+    id: Option<&str>,
+    period: Option<&str>,
+) -> Option<Command<'a>>
+    ensures line { meaning_of result ≡ column_with (option_map (λ s. s.now) file.entry) (option_map (λ s. s.now) name.entry)
+        (option_map (λ s. s.now) id.entry) (option_map (λ s. s.now) period.entry) }
+    ensures ranges { IfSome result IsWithinRanges }
+{
+    let id = id_of(id)?;
+    let period_us = number_of(period, 0, MAX_PERIOD_US)?;
+    Some(Command::Column {
+        file: file?,
+        name: name?,
+        id,
+        period_us: period_us as u32,
+    })
+}
+
+// The id of an argument, where it is given.
+fn id_of(text: Option<&str>) -> Option<[u8; 16]>
+    ensures { result ≡ id_at (option_map (λ s. s.now) text.entry) }
+{
+    match text {
+        None => None,
+        Some(text) => id_in(text),
     }
 }

@@ -177,6 +177,15 @@ recording-short (recording.Fewer held there) =
     let to1 = appended (decimal held) (codes " held, ") 64 7 (number-short held) (omega arith) in
     let to2 = appended (decimal held ++ codes " held, ") (decimal there) 71 64 to1 (number-short there) in
     omega (arith, appended (decimal held ++ codes " held, " ++ decimal there) (codes " there") 135 6 to2 (omega arith))
+recording-short recording.NoColumn = omega arith
+recording-short (recording.ShortRow row fields) =
+    let to1 = appended (codes "row ") (decimal row) 4 64 (omega arith) (number-short row) in
+    let to2 = appended (codes "row " ++ decimal row) (codes " has ") 68 5 to1 (omega arith) in
+    let to3 = appended (codes "row " ++ decimal row ++ codes " has ") (decimal fields) 73 64 to2 (number-short fields) in
+    omega (arith, appended (codes "row " ++ decimal row ++ codes " has " ++ decimal fields) (codes " fields") 137 7 to3 (omega arith))
+recording-short (recording.Cell row) =
+    let to1 = appended (codes "row ") (decimal row) 4 64 (omega arith) (number-short row) in
+    omega (arith, appended (codes "row " ++ decimal row) (codes " is no number") 68 13 to1 (omega arith))
 
 what-short : (w : What) → length (what_text w) ≤ 134
 what-short what.Used = omega arith

@@ -63,6 +63,9 @@ recording_text recording.NotZero = codes "not zero"
 recording_text (recording.Id kept found) = codes "id was " ++ id_digits kept ++ codes ", is " ++ id_digits found
 recording_text (recording.Period kept found) = codes "period was " ++ decimal kept ++ codes ", is " ++ decimal found
 recording_text (recording.Fewer held there) = decimal held ++ codes " held, " ++ decimal there ++ codes " there"
+recording_text recording.NoColumn = codes "no column"
+recording_text (recording.ShortRow row fields) = codes "row " ++ decimal row ++ codes " has " ++ decimal fields ++ codes " fields"
+recording_text (recording.Cell row) = codes "row " ++ decimal row ++ codes " is no number"
 
 abbrev pub what_text : What → List ℕ
 what_text what.Used = codes "used"
@@ -83,7 +86,7 @@ differs_text what held found = what_text what ++ codes " held " ++ decimal held 
 -- Of `Done` nothing is told. The name is that of the gauge, or of a single file.
 abbrev pub fault_line : Status → List ℕ → List ℕ
 fault_line Done name = []
-fault_line Usage name = codes "usage: monitor table FILE | init | count [--workers N] | report | audit | demo [--seed N] [--samples N] [--workers N] | repeat\n"
+fault_line Usage name = codes "usage: monitor table FILE | init | count [--workers N] | report | audit | demo [--seed N] [--samples N] [--workers N] | repeat | column FILE NAME ID PERIOD | sheet\n"
 fault_line (Config fault) name = codes "config: " ++ config_fault_text fault ++ codes "\n"
 fault_line (Store fault) name = codes "store: " ++ store_text fault ++ codes "\n"
 fault_line (Recording gauge fault) name = recording_line name (recording_text fault)

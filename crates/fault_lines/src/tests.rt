@@ -169,6 +169,18 @@ fn recordings(rt: HostRuntime) -> Result<(), Fail> {
             "recording G1: 9 held, 4 there",
         ),
         (
+            recording(RecordingFault::NoColumn),
+            "recording G1: no column",
+        ),
+        (
+            recording(RecordingFault::ShortRow { row: 3, fields: 2 }),
+            "recording G1: row 3 has 2 fields",
+        ),
+        (
+            recording(RecordingFault::Cell { row: u64::MAX }),
+            "recording G1: row 18446744073709551615 is no number",
+        ),
+        (
             Status::Torn { gauge: 3, bytes: 2 },
             "recording G1: ends in 2 odd bytes",
         ),
@@ -191,7 +203,8 @@ fn faults_of_the_outside(rt: HostRuntime) -> Result<(), Fail> {
         (
             Status::Usage,
             "usage: monitor table FILE | init | count [--workers N] | report | audit | \
-             demo [--seed N] [--samples N] [--workers N] | repeat",
+             demo [--seed N] [--samples N] [--workers N] | repeat | \
+             column FILE NAME ID PERIOD | sheet",
         ),
         (Status::ReadFault, "read fault"),
         (Status::WriteFault, "write fault"),

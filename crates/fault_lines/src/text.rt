@@ -1,8 +1,9 @@
 ghost use Rattle.std.specs.Prelude.{◌≡◌, ◌++◌, codes};
+ghost use Rattle.std.specs.Fmt.{decimal};
 ghost use Rattle.line_room.specs.Room.{Fits, with_text, shown};
 ghost use Rattle.site_config.specs.FaultText.{config_fault_text, place_behind};
 ghost use Rattle.site_config.specs.Keys.{key_text};
-ghost use Rattle.status.specs.declared.status.RecordingFault.TheVariants.{Id};
+ghost use Rattle.status.specs.declared.status.RecordingFault.TheVariants.{Id, ShortRow, Cell};
 ghost use Rattle.fault_lines.specs.FaultLine.{
   fault_line,
   id_digits,
@@ -20,7 +21,7 @@ use site_config::{ConfigFault, Key, KeyName};
 use status::{RecordingFault, Status};
 
 const USAGE: &[u8] =
-    b"usage: monitor table FILE | init | count [--workers N] | report | audit | demo [--seed N] [--samples N] [--workers N] | repeat\n";
+    b"usage: monitor table FILE | init | count [--workers N] | report | audit | demo [--seed N] [--samples N] [--workers N] | repeat | column FILE NAME ID PERIOD | sheet\n";
 
 /// Writes the line of a status.
 pub(crate) fn push_status(line: &mut LineRoom, status: Status, name: &[u8])
@@ -151,7 +152,36 @@ fn push_recording_fault(line: &mut LineRoom, fault: RecordingFault)
             line.push_number(there);
             line.push(b" there");
         }
+        RecordingFault::NoColumn => line.push(b"no column"),
+        RecordingFault::ShortRow { row, fields } => push_short_row(line, row, fields),
+        RecordingFault::Cell { row } => push_no_number(line, row),
     }
+}
+
+fn push_short_row(line: &mut LineRoom, row: u64, fields: u64)
+    requires { Fits line.old (recording_text (ShortRow row fields)) }
+    ensures { line.new ≡ with_text line.old (recording_text (ShortRow row fields)) }
+{
+    push_row(line, row);
+    line.push(b" has ");
+    line.push_number(fields);
+    line.push(b" fields");
+}
+
+fn push_no_number(line: &mut LineRoom, row: u64)
+    requires { Fits line.old (recording_text (Cell row)) }
+    ensures { line.new ≡ with_text line.old (recording_text (Cell row)) }
+{
+    push_row(line, row);
+    line.push(b" is no number");
+}
+
+fn push_row(line: &mut LineRoom, row: u64)
+    requires { Fits line.old (codes "row " ++ decimal row) }
+    ensures { line.new ≡ with_text line.old (codes "row " ++ decimal row) }
+{
+    line.push(b"row ");
+    line.push_number(row);
 }
 
 fn push_other_id(line: &mut LineRoom, kept: &[u8; 16], found: &[u8; 16])

@@ -19,7 +19,7 @@ use Rattle.config_reading.specs.Reading.{IsRefusal}
 use Rattle.fault_lines.specs.FaultLine.{fault_line, name_for, name_by}
 use Rattle.fault_lines.specs.Telling.{EndsIn}
 use Rattle.init_command.specs.Heads.{HasHeadIn, HasFaultIn, AreHeads, AreSound}
-use Rattle.init_command.specs.Init.{AnswersBy}
+use Rattle.init_command.specs.Init.{AnswersBy, InitAnswers}
 use Rattle.init_command.specs.Making.{MakesBy, IsMaking}
 use Rattle.init_command.proofs.Reading.{heads_sound}
 
@@ -122,3 +122,19 @@ pub init_complete : (read : Result Config ConfigFault) (c c2 : Config) (files : 
 init_complete read c c2 files image site site2 disk disk2 s is is2 by rose rose2 sound none no_read no_disk =
     let same : c2 ≡ c = cc in
     complete c files image site site2 disk disk2 (subst (λ (x : Config). AreSound x files (length x.gauges)) same sound) none no_read no_disk s by rose rose2
+
+-- by a configuration that was read
+pub answers_read : (read : Result Config ConfigFault) (c : Config) (files : Files) (image : Image) (s : Status) → read ≡ Ok c → AnswersBy c files image s
+    → InitAnswers read files image s
+answers_read read c files image Done is by = (c, is, by)
+answers_read read c files image (Store fault) is by = (c, is, by)
+answers_read read c files image (Recording g fault) is by = (c, is, by)
+answers_read read c files image DiskFault is by = (c, is, by)
+answers_read read c files image ReadFault is by = tt
+answers_read read c files image OutOfMemory is by = tt
+answers_read read c files image Usage is by = absurd by
+answers_read read c files image (BadConfig fault) is by = absurd by
+answers_read read c files image (Torn g bytes) is by = absurd by
+answers_read read c files image WriteFault is by = absurd by
+answers_read read c files image (TooLong g) is by = absurd by
+answers_read read c files image (Differs g what held found) is by = absurd by

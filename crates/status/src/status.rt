@@ -23,6 +23,12 @@ pub enum RecordingFault {
     Period { kept: u32, found: u32 },
     /// The store holds more samples than there are.
     Fewer { held: u64, there: u64 },
+    /// The first record of a CSV file has no field with the column's name, or there is none.
+    NoColumn,
+    /// A row of a CSV file, numbered from 0 behind the first record, ends before the column.
+    ShortRow { row: u64, fields: u64 },
+    /// The field of the column in this row is no sample.
+    Cell { row: u64 },
 }
 
 /// What is wrong with a store.

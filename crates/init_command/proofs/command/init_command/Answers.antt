@@ -1,6 +1,6 @@
 use Rattle.std.proofs.Common.{inl, inr, ⊎_elim}
 use Rattle.site_config.specs.Configuration.{config_of_bytes}
-use Rattle.init_command.proofs.StoreMade.{refused_line, init_complete}
+use Rattle.init_command.proofs.StoreMade.{refused_line, init_complete, answers_read}
 use Rattle.init_command.proofs.command.init_command.Goals as goal
 
 pub returns-in-Ok-read_config-clause-complete : goal.returns-in-Ok-read_config-clause-complete
@@ -16,3 +16,8 @@ returns-clause-last g c = λ tells gives some.
     (λ is. inr (refused_line (config_of_bytes (g.C.Source.left c.args.config.now)) c.in-Err.status (g.K.Station.told c.args.station.now)
     (g.K.Station.told c.tell_fault.new.station) (c.in-Err.ensures.refusal) is))
     (c.tell_fault.ensures.last tells some)
+
+pub returns-in-Ok-read_config-clause-answer : goal.returns-in-Ok-read_config-clause-answer
+returns-in-Ok-read_config-clause-answer g c = λ tells shows gives.
+    answers_read (config_of_bytes (g.C.Source.left c.args.config.now)) c.in-Ok-read_config.conf (g.T.Site.files c.args.site.now)
+    (g.K.Station.seen c.args.station.now) c.init_by.result (c.in-Ok-read_config.ensures.meaning gives) (c.init_by.ensures.answer tells shows)
