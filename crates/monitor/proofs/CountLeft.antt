@@ -1,7 +1,6 @@
 -- `count`, where memory ran out before its configuration was read.
-use Rattle.std.proofs.Common.{◌≡◌, ◌≢◌, ◌⊎◌, inl, inr, ℕ, List, [], ◌∷◌, ◌++◌, refl, sym, subst}
+use Rattle.std.proofs.Common.{◌≡◌, inr, ℕ, List, [], refl, sym, subst}
 use Rattle.station.specs.Station.{Image, Lines}
-use Rattle.site_config.specs.declared.config.Config.{Config}
 use Rattle.recorded.specs.Recorded.{recorded, Recorded}
 use Rattle.held_samples.specs.Going.{AllHold, IsKept}
 use Rattle.status.specs.declared.status.Status.{Status}

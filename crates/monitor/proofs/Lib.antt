@@ -1,5 +1,3 @@
-pub mod BodyState
-pub mod Refusals
 pub mod TableRun
 pub mod FiguresTaken
 pub mod RecordingRead
@@ -7,3 +5,4 @@ pub mod NoMemory
 pub mod CountLeft
 pub mod AuditLeft
 pub mod RepeatLeft
+pub mod SheetLeft

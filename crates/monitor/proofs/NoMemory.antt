@@ -3,7 +3,7 @@ use Rattle.std.proofs.Common.{◌≡◌, ◌⊎◌, inl, inr, ℕ, List, [], ◌
 use Rattle.std.specs.Prelude.{Option, Some}
 use Rattle.station.specs.Station.{Image, Lines, Since}
 use Rattle.station.proofs.Moments.{entails}
-use Rattle.command_words.specs.Line.{Command, Table, Demo}
+use Rattle.command_words.specs.Line.{Command, Table, Demo, Column}
 use Rattle.site_config.specs.declared.config.Config.{Config}
 use Rattle.status.specs.declared.status.Status.{Status}
 use Rattle.status.specs.declared.status.Status.TheVariants.{Usage, OutOfMemory}
@@ -13,8 +13,8 @@ use Rattle.init_command.specs.Init.{InMaking}
 use Rattle.report_command.specs.Printing.{PrintsKept}
 use Rattle.report_command.proofs.HeldFigures.{kept_unprinted}
 use Rattle.outside.specs.Fault.{Rose}
-use Rattle.monitor.specs.Line.{built, IsToldOf}
-use Rattle.monitor.specs.Run.{Outside, Runs, no_memory_task}
+use Rattle.monitor.specs.Line.{IsToldOf}
+use Rattle.file_tasks.specs.Run.{Outside, Runs, no_memory_task}
 use Rattle.monitor.specs.Shown.{Shown, Tells, Ends}
 use Rattle.monitor.specs.InitRun.{InitRuns}
 use Rattle.monitor.specs.ReportRun.{ReportRuns}
@@ -99,17 +99,24 @@ ends_at before after line (inl rose) = inl rose
 ends_at before after line (inr is) = inr (before.told, is)
 
 -- the name in what `table` tells is the file's
-pub table_last : (w : Option Command) (file name : List ℕ) (s : Status) (before after : Shown) → w ≡ Some (Table file) → IsToldOf (built w) name
+pub table_last : (w : Option Command) (file name : List ℕ) (s : Status) (before after : Shown) → w ≡ Some (Table file) → IsToldOf w name
     → Ends (fault_line s file) before after → Ends (fault_line s name) before after
 table_last w file name s before after is told last =
-    let same : name ≡ file = subst (λ (x : Option Command). IsToldOf (built x) name) is told in
+    let same : name ≡ file = subst (λ (x : Option Command). IsToldOf x name) is told in
+    subst (λ (n : List ℕ). Ends (fault_line s n) before after) (sym same) last
+
+-- and so is that in what `column` tells
+pub column_last : (w : Option Command) (file column id : List ℕ) (period : ℕ) (name : List ℕ) (s : Status) (before after : Shown)
+    → w ≡ Some (Column file column id period) → IsToldOf w name → Ends (fault_line s file) before after → Ends (fault_line s name) before after
+column_last w file column id period name s before after is told last =
+    let same : name ≡ file = subst (λ (x : Option Command). IsToldOf x name) is told in
     subst (λ (n : List ℕ). Ends (fault_line s n) before after) (sym same) last
 
 -- none is in what `demo` tells
 pub demo_last : (w : Option Command) (seed samples workers : ℕ) (name : List ℕ) (s : Status) (before after : Shown) → w ≡ Some (Demo seed samples workers)
-    → IsToldOf (built w) name → Ends (fault_line s []) before after → Ends (fault_line s name) before after
+    → IsToldOf w name → Ends (fault_line s []) before after → Ends (fault_line s name) before after
 demo_last w seed samples workers name s before after is told last =
-    let same : name ≡ [] = subst (λ (x : Option Command). IsToldOf (built x) name) is told in
+    let same : name ≡ [] = subst (λ (x : Option Command). IsToldOf x name) is told in
     subst (λ (n : List ℕ). Ends (fault_line s n) before after) (sym same) last
 
 -- no name is in what wrong words tell

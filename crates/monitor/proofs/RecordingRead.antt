@@ -8,10 +8,10 @@ use Rattle.recording.specs.declared.ends.FillEnd.TheVariants.{More, Ended, Torn}
 use Rattle.recording.proofs.Reading.{Splits, splits_more, last_ended, last_torn, read_at_most}
 use Rattle.calibration.specs.Gain.{GainValue}
 use Rattle.calibration.specs.Grid.{GridValue}
-use Rattle.monitor.specs.FileState.{Sound, TornEnd, TooManySamples, body_state}
+use Rattle.file_tasks.specs.FileState.{Sound, TornEnd, TooManySamples, body_state}
 use Rattle.monitor.specs.Figures.{AreFigures}
 use Rattle.monitor.specs.declared.figures.Figures.{Figures}
-use Rattle.monitor.proofs.BodyState.{sound_body, torn_body, long_body}
+use Rattle.file_tasks.proofs.BodyState.{sound_body, torn_body, long_body}
 
 -- by the gain and the grid of a classifier
 pub by_classifier : (grid table_grid : GridValue) (gain table_gain : GainValue) (old new : Figures) (raws : List ℤ) → grid ≡ table_grid → gain ≡ table_gain → ((w : List ℤ) → AreFigures grid gain old w → AreFigures grid gain new (w ++ raws)) → (w : List ℤ) → AreFigures table_grid table_gain old w → AreFigures table_grid table_gain new (w ++ raws)

@@ -1,5 +1,5 @@
 -- `repeat`, where memory ran out before its configuration was read.
-use Rattle.std.proofs.Common.{◌≡◌, ◌⊎◌, inr, List, [], refl, sym, subst}
+use Rattle.std.proofs.Common.{◌≡◌, inr, [], refl, sym, subst}
 use Rattle.status.specs.declared.status.Status.{Status}
 use Rattle.status.specs.declared.status.Status.TheVariants.{OutOfMemory}
 use Rattle.fault_lines.specs.FaultLine.{fault_line}

@@ -1,13 +1,12 @@
 pub mod Line
-pub mod FileState
-pub mod Answer
 pub mod Figures
 pub mod Printed
-pub mod Run
+pub mod Task
 pub mod Shown
 pub mod InitRun
 pub mod ReportRun
 pub mod RepeatRun
+pub mod SheetRun
 pub mod CountRun
 pub mod AuditRun
 pub mod DemoRun

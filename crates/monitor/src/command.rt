@@ -4,8 +4,9 @@ ghost use Rattle.outside.specs.Sink.{AppendsPrefix};
 ghost use Rattle.recording.specs.declared.TheConstants.{MAX_SAMPLES};
 ghost use Rattle.monitor.specs.Figures.{AreFigures};
 ghost use Rattle.monitor.specs.Printed.{table_grid, table_gain, text_of_samples};
-ghost use Rattle.monitor.specs.Run.{Runs, table_task, outside};
-ghost use Rattle.monitor.specs.Answer.{IsPrinting};
+ghost use Rattle.file_tasks.specs.Run.{Runs, outside};
+ghost use Rattle.monitor.specs.Task.{table_task};
+ghost use Rattle.file_tasks.specs.Answer.{IsPrinting};
 
 use crate::counting::table_page;
 use crate::figures::Figures;

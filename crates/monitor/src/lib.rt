@@ -13,13 +13,13 @@
 //! class, all before the first sample, and each sample takes constant time.
 #![tactic(auto)]
 
+mod column;
 mod command;
 mod counting;
 mod demo;
 mod figures;
 mod grid;
 mod read;
-mod refusal;
 mod refused;
 mod table;
 mod top;

@@ -1,17 +1,17 @@
-ghost use Rattle.std.specs.Prelude.{◌≡◌, ◌≤◌, ◌<◌, ℤ, List, IfOk, MatchResult, Err, drop, length};
+ghost use Rattle.std.specs.Prelude.{◌≡◌, ◌≤◌, ◌<◌, ℤ, List, IfOk, Err, drop, length};
 ghost use Rattle.outside.specs.Fault.{Rose};
 ghost use Rattle.recording.specs.Samples.{samples};
-ghost use Rattle.monitor.specs.FileState.{Sound, state_of};
-ghost use Rattle.monitor.specs.Answer.{MayAnswer, status_of};
+ghost use Rattle.file_tasks.specs.FileState.{state_of};
+ghost use Rattle.file_tasks.specs.Answer.{MayGive};
 ghost use Rattle.monitor.specs.Printed.{table_grid, table_gain};
 ghost use Rattle.recording.specs.declared.TheConstants.{MAX_SAMPLES};
 ghost use Rattle.monitor.specs.Figures.{AreFigures};
 ghost use Rattle.monitor.specs.declared.read.TheConstants.{PIECE};
-ghost use Rattle.monitor.specs.declared.refusal.Refusal.TheVariants.{ReadFault};
+ghost use Rattle.file_tasks.specs.declared.refusal.Refusal.TheVariants.{ReadFault};
 
 use crate::figures::Figures;
 use crate::grid::{CLASSES, table_classifier};
-use crate::refusal::Refusal;
+use file_tasks::Refusal;
 use outside::Source;
 use recording::{FillEnd, MAX_SAMPLES, fill, read_head};
 use std::alloc::{AllocError, Global};
@@ -45,9 +45,7 @@ pub fn read_recording<S: Source>(alloc: Global, src: &mut S) -> Result<Figures, 
         AreFigures table_grid table_gain figures w ×
         (S.tells → w ≡ samples (drop 32 (S.left src.old)))) }
     ensures few { IfOk result (λ figures. figures.counts.samples ≤ MAX_SAMPLES) }
-    ensures cause { S.tells → MatchResult result
-        (λ _. state_of (S.left src.old) ≡ Sound)
-        (λ refusal. MayAnswer (status_of 0 refusal) (state_of (S.left src.old))) }
+    ensures cause { S.tells → MayGive 0 result (state_of (S.left src.old)) }
     ensures fault { result ≡ Err ReadFault → Rose (S.faults src.old) (S.faults src.new) }
     ensures later { S.faults src.old ≤ S.faults src.new }
 {

@@ -2,7 +2,8 @@ ghost use Rattle.std.specs.Prelude.{◌≡◌, ◌≢◌, ◌⊎◌};
 ghost use Rattle.outside.specs.Fault.{Rose};
 ghost use Rattle.fault_lines.specs.FaultLine.{fault_line};
 ghost use Rattle.fault_lines.specs.Telling.{TellsAtMost, EndsIn};
-ghost use Rattle.monitor.specs.Run.{Runs, table_task, no_memory_task, outside};
+ghost use Rattle.file_tasks.specs.Run.{Runs, no_memory_task, outside};
+ghost use Rattle.monitor.specs.Task.{table_task};
 
 use crate::command::table_command;
 use crate::refused::no_memory;

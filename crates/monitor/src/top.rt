@@ -1,16 +1,20 @@
 ghost use Rattle.std.specs.Prelude.{◌≡◌, ◌≢◌, ◌⊎◌, ℕ, List, Option, None, Some, map, string_bytes};
-ghost use Rattle.command_words.specs.Line.{Table, Init, Count, Report, Audit, Demo, Repeat};
+ghost use Rattle.command_words.specs.Line.{Table, Init, Count, Report, Audit, Demo, Repeat, Column, Sheet, command_of};
 ghost use Rattle.fault_lines.specs.FaultLine.{fault_line};
-ghost use Rattle.monitor.specs.Line.{built_command_of, IsToldOf};
-ghost use Rattle.monitor.specs.Run.{Runs, table_task, usage_task, no_memory_task, outside};
+ghost use Rattle.column_command.specs.Task.{column_task};
+ghost use Rattle.monitor.specs.Line.{IsToldOf};
+ghost use Rattle.file_tasks.specs.Run.{Runs, usage_task, no_memory_task, outside};
+ghost use Rattle.monitor.specs.Task.{table_task};
 ghost use Rattle.monitor.specs.InitRun.{InitRuns};
 ghost use Rattle.monitor.specs.CountRun.{CountRuns};
 ghost use Rattle.monitor.specs.ReportRun.{ReportRuns};
 ghost use Rattle.monitor.specs.RepeatRun.{RepeatRuns};
 ghost use Rattle.monitor.specs.AuditRun.{AuditRuns};
 ghost use Rattle.monitor.specs.DemoRun.{DemoRuns};
+ghost use Rattle.monitor.specs.SheetRun.{SheetRuns};
 ghost use Rattle.monitor.specs.Shown.{shown, Tells, Ends};
 
+use crate::column::told_column;
 use crate::demo::told_demo;
 use crate::refused::{no_memory, usage};
 use crate::table::told_table;
@@ -19,8 +23,10 @@ use command_words::{Command, read_words};
 use count_command::count_command;
 use init_command::init_command;
 use outside::{Gate, Sink, Site, Source};
+use recording::Head;
 use repeat_command::repeat_command;
 use report_command::report_command;
+use sheet_command::sheet_command;
 use station::Station;
 use status::Status;
 use std::sync::Wait;
@@ -32,7 +38,8 @@ use std::thread::Threads;
 /// 5.4.4, over its whole level history. `init` makes the store of a site, `count` counts what is
 /// new of its recordings and stores it, and `report` prints the report of what is held. `audit`
 /// counts the held samples again, and compares. `demo` counts recordings that are made from a seed.
-/// `repeat` prints what is held of each gauge as a history that repeats (5.4.5).
+/// `repeat` prints what is held of each gauge as a history that repeats (5.4.5). `column` writes a
+/// column of a CSV file as a recording, and `sheet` the recordings of a site as a CSV text.
 /// `count` and `demo` wait for the workers that they start; a worker passes the gate before each
 /// block. Each answer but `Done` is told to the station, by its line. Where memory runs out while
 /// the words are read, nothing is asked for and nothing printed.
@@ -55,7 +62,7 @@ pub fn monitor<
     requires home { T.out site.old ≡ 0 }
     // `table FILE`
     ensures table { (file : List ℕ) →
-        built_command_of (map string_bytes words.now) ≡ Some (Table file) →
+        command_of (map string_bytes words.now) ≡ Some (Table file) →
         Runs (table_task file (T.files site.old))
         (outside ⟦<T as Site>⟧ ⟦<O as Sink>⟧ site.old out.old)
         (outside ⟦<T as Site>⟧ ⟦<O as Sink>⟧ site.new out.new) result ⊎
@@ -63,62 +70,77 @@ pub fn monitor<
         (outside ⟦<T as Site>⟧ ⟦<O as Sink>⟧ site.old out.old)
         (outside ⟦<T as Site>⟧ ⟦<O as Sink>⟧ site.new out.new) result }
     // `init`
-    ensures init { built_command_of (map string_bytes words.now) ≡ Some Init → InitRuns
+    ensures init { command_of (map string_bytes words.now) ≡ Some Init → InitRuns
         (shown ⟦<C as Source>⟧ ⟦<T as Site>⟧ ⟦<K as Station>⟧ ⟦<O as Sink>⟧
         config.old site.old station.old out.old)
         (shown ⟦<C as Source>⟧ ⟦<T as Site>⟧ ⟦<K as Station>⟧ ⟦<O as Sink>⟧
         config.new site.new station.new out.new) result }
     // `count`
     ensures count { (workers : Option ℕ) →
-        built_command_of (map string_bytes words.now) ≡ Some (Count workers) → CountRuns
+        command_of (map string_bytes words.now) ≡ Some (Count workers) → CountRuns
         (shown ⟦<C as Source>⟧ ⟦<T as Site>⟧ ⟦<K as Station>⟧ ⟦<O as Sink>⟧
         config.old site.old station.old out.old)
         (shown ⟦<C as Source>⟧ ⟦<T as Site>⟧ ⟦<K as Station>⟧ ⟦<O as Sink>⟧
         config.new site.new station.new out.new) result }
     // `report`
-    ensures report { built_command_of (map string_bytes words.now) ≡ Some Report → ReportRuns
+    ensures report { command_of (map string_bytes words.now) ≡ Some Report → ReportRuns
         (shown ⟦<C as Source>⟧ ⟦<T as Site>⟧ ⟦<K as Station>⟧ ⟦<O as Sink>⟧
         config.old site.old station.old out.old)
         (shown ⟦<C as Source>⟧ ⟦<T as Site>⟧ ⟦<K as Station>⟧ ⟦<O as Sink>⟧
         config.new site.new station.new out.new) result }
     // `audit`
-    ensures audit { built_command_of (map string_bytes words.now) ≡ Some Audit → AuditRuns
+    ensures audit { command_of (map string_bytes words.now) ≡ Some Audit → AuditRuns
         (shown ⟦<C as Source>⟧ ⟦<T as Site>⟧ ⟦<K as Station>⟧ ⟦<O as Sink>⟧
         config.old site.old station.old out.old)
         (shown ⟦<C as Source>⟧ ⟦<T as Site>⟧ ⟦<K as Station>⟧ ⟦<O as Sink>⟧
         config.new site.new station.new out.new) result }
     // `demo`
     ensures demo { (seed samples workers : ℕ) →
-        built_command_of (map string_bytes words.now) ≡ Some (Demo seed samples workers) →
+        command_of (map string_bytes words.now) ≡ Some (Demo seed samples workers) →
         DemoRuns seed samples O.tells (O.written out.old) (O.written out.new)
         (O.faults out.old) (O.faults out.new) result }
     // `repeat`
-    ensures repeat { built_command_of (map string_bytes words.now) ≡ Some Repeat → RepeatRuns
+    ensures repeat { command_of (map string_bytes words.now) ≡ Some Repeat → RepeatRuns
+        (shown ⟦<C as Source>⟧ ⟦<T as Site>⟧ ⟦<K as Station>⟧ ⟦<O as Sink>⟧
+        config.old site.old station.old out.old)
+        (shown ⟦<C as Source>⟧ ⟦<T as Site>⟧ ⟦<K as Station>⟧ ⟦<O as Sink>⟧
+        config.new site.new station.new out.new) result }
+    // `column FILE NAME ID PERIOD`
+    ensures column { (file name id : List ℕ) (period : ℕ) →
+        command_of (map string_bytes words.now) ≡ Some (Column file name id period) →
+        Runs (column_task file name (record { id = id; period_us = period }) (T.files site.old))
+        (outside ⟦<T as Site>⟧ ⟦<O as Sink>⟧ site.old out.old)
+        (outside ⟦<T as Site>⟧ ⟦<O as Sink>⟧ site.new out.new) result ⊎
+        Runs no_memory_task
+        (outside ⟦<T as Site>⟧ ⟦<O as Sink>⟧ site.old out.old)
+        (outside ⟦<T as Site>⟧ ⟦<O as Sink>⟧ site.new out.new) result }
+    // `sheet`
+    ensures sheet { command_of (map string_bytes words.now) ≡ Some Sheet → SheetRuns
         (shown ⟦<C as Source>⟧ ⟦<T as Site>⟧ ⟦<K as Station>⟧ ⟦<O as Sink>⟧
         config.old site.old station.old out.old)
         (shown ⟦<C as Source>⟧ ⟦<T as Site>⟧ ⟦<K as Station>⟧ ⟦<O as Sink>⟧
         config.new site.new station.new out.new) result }
     // Words that are no command.
-    ensures no_command { built_command_of (map string_bytes words.now) ≡ None →
+    ensures no_command { command_of (map string_bytes words.now) ≡ None →
         Runs usage_task
         (outside ⟦<T as Site>⟧ ⟦<O as Sink>⟧ site.old out.old)
         (outside ⟦<T as Site>⟧ ⟦<O as Sink>⟧ site.new out.new) result ⊎
         Runs no_memory_task
         (outside ⟦<T as Site>⟧ ⟦<O as Sink>⟧ site.old out.old)
         (outside ⟦<T as Site>⟧ ⟦<O as Sink>⟧ site.new out.new) result }
-    ensures usage { result ≡ Status.Usage → built_command_of (map string_bytes words.now) ≡ None }
-    ensures refused { built_command_of (map string_bytes words.now) ≡ None →
+    ensures usage { result ≡ Status.Usage → command_of (map string_bytes words.now) ≡ None }
+    ensures refused { command_of (map string_bytes words.now) ≡ None →
         (result ≡ Status.Usage) ⊎ (result ≡ Status.OutOfMemory) }
-    // What `table`, `demo` and wrong words tell: the line of the answer, and nothing else changes.
+    // What `table`, `demo`, `column` and wrong words tell: the line of the answer, and nothing else changes.
     ensures told { (name : List ℕ) →
-        IsToldOf (built_command_of (map string_bytes words.now)) name → K.tells →
+        IsToldOf (command_of (map string_bytes words.now)) name → K.tells →
         Tells (fault_line result name)
         (shown ⟦<C as Source>⟧ ⟦<T as Site>⟧ ⟦<K as Station>⟧ ⟦<O as Sink>⟧
         config.old site.old station.old out.old)
         (shown ⟦<C as Source>⟧ ⟦<T as Site>⟧ ⟦<K as Station>⟧ ⟦<O as Sink>⟧
         config.new site.new station.new out.new) }
     ensures last { (name : List ℕ) →
-        IsToldOf (built_command_of (map string_bytes words.now)) name → K.tells →
+        IsToldOf (command_of (map string_bytes words.now)) name → K.tells →
         result ≢ Status.Done → Ends (fault_line result name)
         (shown ⟦<C as Source>⟧ ⟦<T as Site>⟧ ⟦<K as Station>⟧ ⟦<O as Sink>⟧
         config.old site.old station.old out.old)
@@ -145,7 +167,21 @@ pub fn monitor<
             ),
         ) => told_demo(rt, seed, samples, workers, station, out, gate),
         Ok(Some(Command::Repeat)) => repeat_command(rt.alloc(), config, station, out),
-        Ok(_) => usage(rt.alloc(), station),
+        Ok(
+            Some(
+                Command::Column {
+                    file,
+                    name,
+                    id,
+                    period_us,
+                },
+            ),
+        ) => {
+            let head = Head { id, period_us };
+            told_column(rt.alloc(), file, name, &head, site, station, out)
+        }
+        Ok(Some(Command::Sheet)) => sheet_command(rt.alloc(), config, site, station, out),
+        Ok(None) => usage(rt.alloc(), station),
         Err(_) => no_memory(station),
     }
 }

@@ -1,16 +1,16 @@
 use Rattle.std.proofs.Common.{◌≡◌, ◌++◌, [], Err, length, take, drop, length-take, sym, ◌∙◌, ap, arith, rules}
 use Rattle.recording.specs.Samples.{samples, torn_bytes}
 use Rattle.monitor.specs.Printed.{table_grid, table_gain}
-use Rattle.monitor.specs.Answer.{answer_for}
-use Rattle.monitor.specs.FileState.{state_of}
+use Rattle.file_tasks.specs.Answer.{answer_for}
+use Rattle.file_tasks.specs.FileState.{state_of}
 use Rattle.status.specs.declared.status.Status.TheVariants.{Torn}
 use Rattle.monitor.proofs.RecordingRead.{more_read, all_read, sound_end, torn_end, too_many, by_classifier, of_classifier}
-use Rattle.monitor.proofs.Refusals.{head_cause, head_fault, memory_cause, memory_fault, state_with_head, err_is}
+use Rattle.file_tasks.proofs.Refusals.{head_cause, head_fault, memory_cause, memory_fault, state_with_head, err_is}
 use Rattle.monitor.proofs.read.read_recording.Goals as goal
 
 pub returns-in_err-read_head-clause-cause : goal.returns-in_err-read_head-clause-cause
 returns-in_err-read_head-clause-cause g c = λ tells.
-    head_cause _ c.in_err-read_head.field-0.0 (g.S.Source.left c.args.src.now) c.from_residual.ensures.1 (λ other. c.in_err-read_head.ensures.head tells (λ is. other (err_is is)))
+    head_cause 0 _ c.in_err-read_head.field-0.0 (g.S.Source.left c.args.src.now) c.from_residual.ensures.1 (λ other. c.in_err-read_head.ensures.head tells (λ is. other (err_is is)))
 
 pub returns-in_err-read_head-clause-fault : goal.returns-in_err-read_head-clause-fault
 returns-in_err-read_head-clause-fault g c = λ is.
@@ -20,7 +20,7 @@ pub returns-in_err-read_head-clause-later : goal.returns-in_err-read_head-clause
 returns-in_err-read_head-clause-later g c = c.read_head.ensures.later
 
 pub returns-in_err-figures-clause-cause : goal.returns-in_err-figures-clause-cause
-returns-in_err-figures-clause-cause g c = λ tells. memory_cause _ (g.S.Source.left c.args.src.now) c.from_residual-in_err-figures.ensures.1
+returns-in_err-figures-clause-cause g c = λ tells. memory_cause 0 _ (g.S.Source.left c.args.src.now) c.from_residual-in_err-figures.ensures.1
 
 pub returns-in_err-figures-clause-fault : goal.returns-in_err-figures-clause-fault
 returns-in_err-figures-clause-fault g c = λ is. absurd (memory_fault _ c.from_residual-in_err-figures.ensures.1 is)
@@ -29,7 +29,7 @@ pub returns-in_err-figures-clause-later : goal.returns-in_err-figures-clause-lat
 returns-in_err-figures-clause-later g c = c.read_head.ensures.later
 
 pub returns-in_err-piece-clause-cause : goal.returns-in_err-piece-clause-cause
-returns-in_err-piece-clause-cause g c = λ tells. memory_cause _ (g.S.Source.left c.args.src.now) c.from_residual-in_err-piece.ensures.1
+returns-in_err-piece-clause-cause g c = λ tells. memory_cause 0 _ (g.S.Source.left c.args.src.now) c.from_residual-in_err-piece.ensures.1
 
 pub returns-in_err-piece-clause-fault : goal.returns-in_err-piece-clause-fault
 returns-in_err-piece-clause-fault g c = λ is. absurd (memory_fault _ c.from_residual-in_err-piece.ensures.1 is)
@@ -84,7 +84,7 @@ returns-then-figures-gt-MAX_SAMPLES g c =
     record {
       figures = tt;
       few = tt;
-      cause = λ tells. sym (ap answer_for (state_with_head file c.in_ok-read_head.field-0 (c.in_ok-read_head.ensures.head tells (λ is. cc)) ∙ too_many table_grid table_gain c.take.new.self read.0 (drop 32 file) (g.S.Source.left c.loop.src) (g.S.Source.left c.fill-filled.new.src) (length c.loop.raws) c.fill-filled.result.n c.fill-filled.result.end c.fill-filled.new.buf (read.2 tells) (fill.samples tells) (fill.taken tells) taken c.if-figures-gt-MAX_SAMPLES.true));
+      cause = λ tells. sym (ap (answer_for 0) (state_with_head file c.in_ok-read_head.field-0 (c.in_ok-read_head.ensures.head tells (λ is. cc)) ∙ too_many table_grid table_gain c.take.new.self read.0 (drop 32 file) (g.S.Source.left c.loop.src) (g.S.Source.left c.fill-filled.new.src) (length c.loop.raws) c.fill-filled.result.n c.fill-filled.result.end c.fill-filled.new.buf (read.2 tells) (fill.samples tells) (fill.taken tells) taken c.if-figures-gt-MAX_SAMPLES.true));
       fault = λ is. absurd (cc);
       later = omega (arith, c.loop.invariant.later, fill.later);
     }
@@ -112,7 +112,7 @@ returns-in-Torn-clause-cause g c =
     let table = c.table_classifier-classifier.ensures in
     let taken = by_classifier _ table_grid _ table_gain c.loop.figures c.take.new.self _ table.grid table.gain c.take.ensures.figures read.0 read.1 in
     λ tells.
-    let answer : Torn 0 c.in-Torn.bytes ≡ answer_for (state_of file) = sym (ap answer_for (state_with_head file c.in_ok-read_head.field-0 (c.in_ok-read_head.ensures.head tells (λ is. cc)) ∙ torn_end table_grid table_gain c.take.new.self read.0 (drop 32 file) (g.S.Source.left c.loop.src) (g.S.Source.left c.fill-filled.new.src) (length c.loop.raws) c.fill-filled.result.n c.fill-filled.result.end c.fill-filled.new.buf (read.2 tells) (fill.samples tells) (fill.taken tells) taken _ c.in-Torn.is c.if-figures-gt-MAX_SAMPLES.false)) in
+    let answer : Torn 0 c.in-Torn.bytes ≡ answer_for 0 (state_of file) = sym (ap (answer_for 0) (state_with_head file c.in_ok-read_head.field-0 (c.in_ok-read_head.ensures.head tells (λ is. cc)) ∙ torn_end table_grid table_gain c.take.new.self read.0 (drop 32 file) (g.S.Source.left c.loop.src) (g.S.Source.left c.fill-filled.new.src) (length c.loop.raws) c.fill-filled.result.n c.fill-filled.result.end c.fill-filled.new.buf (read.2 tells) (fill.samples tells) (fill.taken tells) taken _ c.in-Torn.is c.if-figures-gt-MAX_SAMPLES.false)) in
     search rules
 
 pub returns-in-Torn-clause-fault : goal.returns-in-Torn-clause-fault

@@ -1,13 +1,14 @@
 use Rattle.std.proofs.Common.{◌≡◌, inr, refl, ◌∙◌, ap, sym, map, string_bytes}
 use Rattle.std.specs.Prelude.{Some}
-use Rattle.command_words.specs.Line.{Table, Demo, command_of}
+use Rattle.command_words.specs.Line.{Table, Demo, Column, command_of}
 use Rattle.command_words.specs.Commands.{meaning_of}
-use Rattle.monitor.specs.Run.{outside}
+use Rattle.file_tasks.specs.Run.{outside}
 use Rattle.monitor.specs.Shown.{shown}
-use Rattle.monitor.proofs.NoMemory.{nothing_done, init_without_memory, report_without_memory, demo_without_memory, ends_at, table_last, demo_last, usage_last}
+use Rattle.monitor.proofs.NoMemory.{nothing_done, init_without_memory, report_without_memory, demo_without_memory, ends_at, table_last, column_last, demo_last, usage_last}
 use Rattle.monitor.proofs.CountLeft.{count_without_memory}
 use Rattle.monitor.proofs.AuditLeft.{audit_without_memory}
 use Rattle.monitor.proofs.RepeatLeft.{repeat_without_memory}
+use Rattle.monitor.proofs.SheetLeft.{sheet_without_memory}
 use Rattle.monitor.proofs.top.monitor.Goals as goal
 
 pub returns-in-Ok-Some-Table-clause-last : goal.returns-in-Ok-Some-Table-clause-last
@@ -40,8 +41,8 @@ returns-in-Ok-Some-Init-clause-init g c = λ is.
       files = run.files;
     }
 
-pub returns-in-Ok-clause-last : goal.returns-in-Ok-clause-last
-returns-in-Ok-clause-last g c = λ name told tells some.
+pub returns-in-Ok-None-clause-last : goal.returns-in-Ok-None-clause-last
+returns-in-Ok-None-clause-last g c = λ name told tells some.
     usage_last c.usage.result name
     (shown g.C.Source g.T.Site g.K.Station g.O.Sink c.args.config.now c.args.site.now c.args.station.now c.args.out.now)
     (shown g.C.Source g.T.Site g.K.Station g.O.Sink c.args.config.now c.args.site.now c.usage.new.station c.args.out.now)
@@ -172,5 +173,40 @@ returns-in-Ok-Some-Repeat-clause-repeat g c = λ is.
 pub returns-in-Err-clause-repeat : goal.returns-in-Err-clause-repeat
 returns-in-Err-clause-repeat g c = λ is.
     repeat_without_memory (shown g.C.Source g.T.Site g.K.Station g.O.Sink c.args.config.now c.args.site.now c.args.station.now c.args.out.now)
+    (shown g.C.Source g.T.Site g.K.Station g.O.Sink c.args.config.now c.args.site.now c.no_memory.new.station c.args.out.now)
+    c.no_memory.result c.no_memory.ensures.status c.no_memory.ensures.told c.no_memory.ensures.last refl
+
+pub returns-in-Ok-Some-Column-clause-last : goal.returns-in-Ok-Some-Column-clause-last
+returns-in-Ok-Some-Column-clause-last g c = λ name told tells some.
+    let here = c.in-Ok-Some-Column in
+    let words = command_of (map string_bytes c.args.words.now) in
+    let is : words ≡ Some (Column here.file.now here.name.now here.id here.period_us) = sym here.ensures.line ∙ ap meaning_of here.field-0-is ∙ ap (λ x. meaning_of (Some x)) here.field-0-0-is in
+    column_last words here.file.now here.name.now here.id here.period_us name c.told_column.result
+    (shown g.C.Source g.T.Site g.K.Station g.O.Sink c.args.config.now c.args.site.now c.args.station.now c.args.out.now)
+    (shown g.C.Source g.T.Site g.K.Station g.O.Sink c.args.config.now c.told_column.new.site c.told_column.new.station c.told_column.new.out)
+    is told (c.told_column.ensures.last tells some)
+
+pub returns-in-Err-clause-column : goal.returns-in-Err-clause-column
+returns-in-Err-clause-column g c = λ file name id period is.
+    inr (nothing_done (outside g.T.Site g.O.Sink c.args.site.now c.args.out.now) c.no_memory.result c.no_memory.ensures.status c.requires.home)
+
+pub returns-in-Ok-Some-Sheet-clause-sheet : goal.returns-in-Ok-Some-Sheet-clause-sheet
+returns-in-Ok-Some-Sheet-clause-sheet g c = λ is.
+    let run = c.sheet_command.ensures in
+    record {
+      prints = run.prints;
+      nothing = run.nothing;
+      quiet = run.quiet;
+      last = run.last;
+      answer_is = run.answer;
+      complete = run.complete;
+      named = run.named;
+      read = run.read;
+      write = run.write;
+    }
+
+pub returns-in-Err-clause-sheet : goal.returns-in-Err-clause-sheet
+returns-in-Err-clause-sheet g c = λ is.
+    sheet_without_memory (shown g.C.Source g.T.Site g.K.Station g.O.Sink c.args.config.now c.args.site.now c.args.station.now c.args.out.now)
     (shown g.C.Source g.T.Site g.K.Station g.O.Sink c.args.config.now c.args.site.now c.no_memory.new.station c.args.out.now)
     c.no_memory.result c.no_memory.ensures.status c.no_memory.ensures.told c.no_memory.ensures.last refl

@@ -2,17 +2,14 @@
 --   Outside    what they show at one moment
 --   Task       what a command has to do
 --   Runs       that a run did it
---   table_task, usage_task    the tasks of `table` and of words that are no command
---   no_memory_task                     what is left where memory ran out while the words were read
-use Rattle.std.specs.Prelude.{◌≡◌, ◌≢◌, ℕ, List, [], ◌∷◌, ◌++◌, Option, None, option_map, IsSomeAnd}
+--   usage_task    the task of words that are no command
+--   no_memory_task    what is left where memory ran out while the words were read
+use Rattle.std.specs.Prelude.{◌≡◌, ◌≢◌, ℕ, List, [], ◌++◌, Option, None, IsSomeAnd}
 use Rattle.outside.specs.Fault.{Rose}
 use Rattle.outside.specs.Sink.{AppendsPrefix}
 use Rattle.outside.specs.Site.{Files, Asked, Asks}
 use Rattle.outside.specs.declared.site.Site as site
 use Rattle.outside.specs.declared.sink.Sink as sink
-use Rattle.monitor.specs.Answer.{MayAnswer, IsAnswer}
-use Rattle.monitor.specs.FileState.{file_state}
-use Rattle.monitor.specs.Printed.{text_of}
 use Rattle.status.specs.declared.status.Status.{Status}
 use Rattle.status.specs.declared.status.Status.TheVariants.{Done, Usage, ReadFault, WriteFault, OutOfMemory}
 
@@ -68,15 +65,6 @@ pub record Runs (task : Task) (before after : Outside) (answer : Status) : Type 
   pub asked : Asks before.names_asked after.names_asked task.names
   pub back : after.out ≡ 0
   pub files : before.site_tells → after.files ≡ before.files
-
--- of the file of this name
-abbrev pub table_task : List ℕ → Files → Task
-table_task name files = record {
-  text = option_map text_of (files name);
-  MayAnswer = λ answer. MayAnswer answer (file_state (files name));
-  IsAnswer = λ answer. IsAnswer answer (file_state (files name));
-  names = name ∷ [];
-}
 
 -- of words that are no command
 abbrev pub usage_task : Task

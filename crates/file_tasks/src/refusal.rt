@@ -1,5 +1,5 @@
 ghost use Rattle.std.specs.Prelude.{◌≡◌};
-ghost use Rattle.monitor.specs.declared.refusal.Refusal.TheVariants.{OutOfMemory};
+ghost use Rattle.file_tasks.specs.declared.refusal.Refusal.TheVariants.{OutOfMemory};
 
 use recording::HeadFault;
 use status::{RecordingFault, Status};
@@ -20,7 +20,7 @@ pub enum Refusal {
 }
 
 impl Refusal {
-    ghost use Rattle.monitor.specs.Answer.{status_of};
+    ghost use Rattle.file_tasks.specs.Answer.{status_of};
 
     /// What is answered, where the recording is that of this gauge.
     pub fn status(self, gauge: u16) -> Status
@@ -37,7 +37,7 @@ impl Refusal {
 }
 
 impl From<HeadFault> for Refusal {
-    ghost use Rattle.monitor.specs.Answer.{refusal_of};
+    ghost use Rattle.file_tasks.specs.Answer.{refusal_of};
 
     ghost from_gives = { λ fault refusal. refusal ≡ refusal_of fault };
 

@@ -7,7 +7,7 @@ use Rattle.recording.specs.Head.{recording_head}
 use Rattle.recording.specs.declared.head.Head.{Head}
 use Rattle.recording.specs.declared.head.HeadFault.{HeadFault}
 use Rattle.recording.specs.declared.TheConstants.{MAX_SAMPLES}
-use Rattle.monitor.specs.FileState.{NoFile, Sound, TornEnd, TooManySamples, body_state, state_behind, state_of}
+use Rattle.file_tasks.specs.FileState.{NoFile, Sound, TornEnd, TooManySamples, body_state, state_behind, state_of}
 
 pub sound_body : (body : List ℕ) (count : ℕ) → count ≡ length (samples body) → count ≤ MAX_SAMPLES → torn_bytes body ≡ 0 → body_state body ≡ Sound
 sound_body body count is few none = grind (arith, nat_tests, is, few, none)

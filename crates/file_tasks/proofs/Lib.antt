@@ -1,0 +1,3 @@
+pub mod BodyState
+pub mod Refusals
+pub mod Answering

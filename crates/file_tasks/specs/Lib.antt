@@ -1,0 +1,3 @@
+pub mod FileState
+pub mod Answer
+pub mod Run

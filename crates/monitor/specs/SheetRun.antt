@@ -1,0 +1,28 @@
+-- What a run of `sheet` did.
+use Rattle.std.specs.Prelude.{◌≡◌, ◌≢◌, ◌⊎◌, Ok}
+use Rattle.outside.specs.Fault.{Rose}
+use Rattle.site_config.specs.Configuration.{config_of_bytes}
+use Rattle.site_config.specs.declared.config.Config.{Config}
+use Rattle.status.specs.declared.status.Status.{Status}
+use Rattle.status.specs.declared.status.Status.TheVariants.{Done, Usage, ReadFault, WriteFault, OutOfMemory}
+use Rattle.sheet_command.specs.Sheet.{sheet_of, sheet_answer, MayAnswer, Prints}
+use Rattle.monitor.specs.InitRun.{line_for}
+use Rattle.monitor.specs.Shown.{Shown, Tells, Ends}
+
+pub record SheetRuns (before after : Shown) (answer : Status) : Type 0 where
+  -- The samples of the recordings under the names of their gauges, a front of that text, or nothing.
+  pub prints : before.output_tells → before.site_tells → before.config_tells → (c : Config) →
+      config_of_bytes before.config ≡ Ok c → Prints answer (sheet_of c before.files) before.written after.written
+  pub nothing : before.output_tells → answer ≢ Done → answer ≢ WriteFault → after.written ≡ before.written
+  -- At most the line of the answer is told, and the store stays.
+  pub quiet : before.station_tells → before.config_tells → Tells (line_for before answer) before after
+  pub last : before.station_tells → before.config_tells → answer ≢ Done → Ends (line_for before answer) before after
+  -- Which answer it is, and when it is the configuration's and the files' own.
+  pub answer_is : before.site_tells → before.config_tells →
+      MayAnswer (sheet_answer (config_of_bytes before.config) before.files) answer
+  pub complete : before.site_tells → before.config_tells → ¬ Rose before.config_faults after.config_faults →
+      ¬ Rose before.site_faults after.site_faults → ¬ Rose before.output_faults after.output_faults →
+      (answer ≡ sheet_answer (config_of_bytes before.config) before.files) ⊎ (answer ≡ OutOfMemory)
+  pub named : answer ≢ Usage
+  pub read : answer ≡ ReadFault → Rose before.config_faults after.config_faults ⊎ Rose before.site_faults after.site_faults
+  pub write : answer ≡ WriteFault → Rose before.output_faults after.output_faults

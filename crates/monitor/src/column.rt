@@ -1,0 +1,52 @@
+ghost use Rattle.std.specs.Prelude.{◌≡◌, ◌≢◌, ◌⊎◌};
+ghost use Rattle.outside.specs.Fault.{Rose};
+ghost use Rattle.fault_lines.specs.FaultLine.{fault_line};
+ghost use Rattle.fault_lines.specs.Telling.{TellsAtMost, EndsIn};
+ghost use Rattle.file_tasks.specs.Run.{Runs, no_memory_task, outside};
+ghost use Rattle.column_command.specs.Task.{column_task};
+
+use crate::refused::no_memory;
+use column_command::column_command;
+use fault_lines::{FaultLine, tell_fault};
+use outside::{Sink, Site};
+use recording::Head;
+use station::Station;
+use status::Status;
+use std::alloc::Global;
+
+/// Writes a column of a CSV file as a recording, and tells whatever else is answered, with the
+/// file's name. Where there is no room for that line nothing is asked for.
+pub(crate) fn told_column<T: Site, K: Station, O: Sink>(
+    alloc: Global,
+    file: &str,
+    name: &str,
+    head: &Head,
+    site: &mut T,
+    station: &mut K,
+    out: &mut O,
+) -> Status
+    requires home { T.out site.old ≡ 0 }
+    ensures run { Runs (column_task file.now name.now head.now (T.files site.old))
+        (outside ⟦<T as Site>⟧ ⟦<O as Sink>⟧ site.old out.old)
+        (outside ⟦<T as Site>⟧ ⟦<O as Sink>⟧ site.new out.new) result ⊎
+        Runs no_memory_task
+        (outside ⟦<T as Site>⟧ ⟦<O as Sink>⟧ site.old out.old)
+        (outside ⟦<T as Site>⟧ ⟦<O as Sink>⟧ site.new out.new) result }
+    ensures named { result ≢ Status.Usage }
+    ensures told { K.tells → TellsAtMost (fault_line result file.now)
+        (K.clock station.old) (K.moments station.old) (K.clock station.new) (K.moments station.new)
+        (K.told station.old) (K.told station.new) (K.seen station.old) (K.seen station.new)
+        (K.leaves station.old) (K.leaves station.new) }
+    ensures last { K.tells → result ≢ Status.Done →
+        Rose (K.faults station.old) (K.faults station.new) ⊎
+        EndsIn (fault_line result file.now) (K.told station.new) }
+    ensures back { T.out site.new ≡ 0 }
+    ensures files { T.tells → T.files site.new ≡ T.files site.old }
+{
+    let Ok(mut line) = FaultLine::new(alloc, file.len()) else {
+        return no_memory(station);
+    };
+    let status = column_command(alloc, file, name, head, site, out);
+    tell_fault(station, &mut line, status, file);
+    status
+}

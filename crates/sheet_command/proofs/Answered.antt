@@ -1,0 +1,70 @@
+-- What is answered after the recordings were read, and what is told of it.
+use Rattle.std.proofs.Common.{◌≡◌, ◌≢◌, ◌⊎◌, inl, inr, ℕ, List, [], ◌∷◌, ◌++◌, refl, sym, ◌∙◌, ap}
+use Rattle.std.specs.Prelude.{Result, Ok, Err}
+use Rattle.station.specs.Station.{Lines}
+use Rattle.site_config.specs.declared.config.Config.{Config}
+use Rattle.site_config.specs.declared.fault.ConfigFault.{ConfigFault}
+use Rattle.fault_lines.specs.FaultLine.{fault_line, name_for, name_by}
+use Rattle.fault_lines.specs.Telling.{EndsIn}
+use Rattle.file_tasks.specs.Answer.{IsPrinting}
+use Rattle.config_reading.specs.Reading.{IsRefusal}
+use Rattle.status.specs.declared.status.Status.{Status}
+use Rattle.status.specs.declared.status.Status.TheVariants.{Done, Usage, Config as BadConfig, Store, Recording, Torn, ReadFault, WriteFault, DiskFault, OutOfMemory, TooLong, Differs}
+use Rattle.sheet_command.specs.Sheet.{MayAnswer}
+
+pub printing_may : (asked s : Status) → asked ≡ Done → IsPrinting s → MayAnswer asked s
+printing_may asked Done is p = sym is
+printing_may asked WriteFault is p = is
+printing_may asked OutOfMemory is p = tt
+printing_may asked Usage is p = absurd p
+printing_may asked ReadFault is p = absurd p
+printing_may asked (Recording gauge fault) is p = absurd p
+printing_may asked (Torn gauge bytes) is p = absurd p
+printing_may asked (TooLong gauge) is p = absurd p
+printing_may asked (BadConfig fault) is p = absurd p
+printing_may asked (Store fault) is p = absurd p
+printing_may asked DiskFault is p = absurd p
+printing_may asked (Differs gauge what held found) is p = absurd p
+
+pub printing_named : (s : Status) → IsPrinting s → s ≢ Usage
+printing_named Done p = λ no. absurd (cc)
+printing_named WriteFault p = λ no. absurd (cc)
+printing_named OutOfMemory p = λ no. absurd (cc)
+printing_named Usage p = absurd p
+printing_named ReadFault p = absurd p
+printing_named (Recording gauge fault) p = absurd p
+printing_named (Torn gauge bytes) p = absurd p
+printing_named (TooLong gauge) p = absurd p
+printing_named (BadConfig fault) p = absurd p
+printing_named (Store fault) p = absurd p
+printing_named DiskFault p = absurd p
+printing_named (Differs gauge what held found) p = absurd p
+
+-- the last line has the name of the status's gauge
+pub line_told : {P : Type 0} (read : Result Config ConfigFault) (c : Config) (s : Status) (name : List ℕ) (told told2 : Lines) → read ≡ Ok c → name ≡ name_for c s
+    → P ⊎ (told2 ≡ told ++ fault_line s name ∷ []) → P ⊎ EndsIn (fault_line s (name_by read s)) told2
+line_told read c s name told told2 is named (inl p) = inl p
+line_told read c s name told told2 is named (inr last) =
+    let same : name ≡ name_by read s = named ∙ sym (ap (λ (r : Result Config ConfigFault). name_by r s) is) in
+    inr (told, last ∙ ap (λ (n : List ℕ). told ++ fault_line s n ∷ []) same)
+
+-- a refused configuration has no gauge
+no_name : (c : Config) (s : Status) → IsRefusal s → name_for c s ≡ []
+no_name c (BadConfig fault) k = refl
+no_name c ReadFault k = refl
+no_name c OutOfMemory k = refl
+no_name c Done k = absurd k
+no_name c Usage k = absurd k
+no_name c (Store fault) k = absurd k
+no_name c (Recording gauge fault) k = absurd k
+no_name c (Torn gauge bytes) k = absurd k
+no_name c WriteFault k = absurd k
+no_name c DiskFault k = absurd k
+no_name c (TooLong gauge) k = absurd k
+no_name c (Differs gauge what held found) k = absurd k
+
+pub refused_told : {P : Type 0} (read : Result Config ConfigFault) (s : Status) (told told2 : Lines) → IsRefusal s → P ⊎ (told2 ≡ told ++ fault_line s [] ∷ [])
+    → P ⊎ EndsIn (fault_line s (name_by read s)) told2
+refused_told read s told told2 k (inl p) = inl p
+refused_told (Ok c) s told told2 k (inr last) = inr (told, last ∙ ap (λ (n : List ℕ). told ++ fault_line s n ∷ []) (sym (no_name c s k)))
+refused_told (Err fault) s told told2 k (inr last) = inr (told, last)

@@ -1,0 +1,101 @@
+ghost use Rattle.std.specs.Prelude.{◌≡◌, ◌≢◌, ◌≤◌, ◌⊎◌, ◌++◌, [], ◌∷◌, Ok, length};
+ghost use Rattle.outside.specs.Fault.{Rose};
+ghost use Rattle.site_config.specs.Configuration.{config_of_bytes};
+ghost use Rattle.site_config.specs.Valid.{IsConfig};
+ghost use Rattle.site_config.specs.declared.config.Config.{Config};
+ghost use Rattle.status.specs.declared.status.Status.TheVariants.{Done, Usage, ReadFault, WriteFault, OutOfMemory};
+ghost use Rattle.fault_lines.specs.FaultLine.{fault_line, name_by};
+ghost use Rattle.fault_lines.specs.Telling.{TellsAtMost, EndsIn};
+ghost use Rattle.sheet_command.specs.Sheet.{sheet_of, answer_over, sheet_answer, MayAnswer, Prints};
+
+use crate::reading::read_recordings;
+use crate::writing::write_sheet;
+use config_reading::read_config;
+use fault_lines::{FaultLine, name_in, tell_fault, tell_no_memory};
+use outside::{Sink, Site, Source};
+use site_config::{Config, MAX_NAME_BYTES};
+use station::Station;
+use status::Status;
+use std::alloc::Global;
+
+/// Prints the recordings of a site as a CSV text, under the names of their gauges.
+///
+/// Whatever else than `Done` is answered is told by its line. Nothing is printed before all
+/// recordings were read.
+pub fn sheet_command<C: Source, T: Site, K: Station, O: Sink>(
+    alloc: Global,
+    config: &mut C,
+    site: &mut T,
+    station: &mut K,
+    out: &mut O,
+) -> Status
+    requires home { T.out site.old ≡ 0 }
+    ensures prints { O.tells → T.tells → C.tells → (conf : Config) →
+        config_of_bytes (C.left config.old) ≡ Ok conf →
+        Prints result (sheet_of conf (T.files site.old)) (O.written out.old) (O.written out.new) }
+    ensures nothing { O.tells → result ≢ Done → result ≢ WriteFault →
+        O.written out.new ≡ O.written out.old }
+    // At most the line of the answer is told, and the store stays.
+    ensures quiet { K.tells → C.tells → TellsAtMost
+        (fault_line result (name_by (config_of_bytes (C.left config.old)) result))
+        (K.clock station.old) (K.moments station.old) (K.clock station.new) (K.moments station.new)
+        (K.told station.old) (K.told station.new) (K.seen station.old) (K.seen station.new)
+        (K.leaves station.old) (K.leaves station.new) }
+    ensures silent { K.tells → result ≡ Done → K.told station.new ≡ K.told station.old }
+    ensures last { K.tells → C.tells → result ≢ Done →
+        Rose (K.faults station.old) (K.faults station.new) ⊎ EndsIn
+        (fault_line result (name_by (config_of_bytes (C.left config.old)) result))
+        (K.told station.new) }
+    // Which answer it is, and when it is the configuration's and the files' own.
+    ensures answer { T.tells → C.tells → MayAnswer
+        (sheet_answer (config_of_bytes (C.left config.old)) (T.files site.old)) result }
+    ensures complete { T.tells → C.tells →
+        (Rose (C.faults config.old) (C.faults config.new) → ⊥) →
+        (Rose (T.faults site.old) (T.faults site.new) → ⊥) →
+        (Rose (O.faults out.old) (O.faults out.new) → ⊥) →
+        (result ≡ sheet_answer (config_of_bytes (C.left config.old)) (T.files site.old)) ⊎
+        (result ≡ OutOfMemory) }
+    ensures named { result ≢ Usage }
+    ensures read { result ≡ ReadFault → Rose (C.faults config.old) (C.faults config.new) ⊎
+        Rose (T.faults site.old) (T.faults site.new) }
+    ensures write { result ≡ WriteFault → Rose (O.faults out.old) (O.faults out.new) }
+    ensures back { T.out site.new ≡ 0 }
+    ensures files { T.tells → T.files site.new ≡ T.files site.old }
+{
+    let Ok(mut line) = FaultLine::new(alloc, MAX_NAME_BYTES) else {
+        tell_no_memory(station);
+        return Status::OutOfMemory;
+    };
+    match read_config(alloc, config) {
+        Ok(conf) => {
+            let status = sheet_by(alloc, &conf, site, out);
+            tell_fault(station, &mut line, status, name_in(&conf, status));
+            status
+        }
+        Err(status) => {
+            tell_fault(station, &mut line, status, "");
+            status
+        }
+    }
+}
+
+// The same by a configuration, and nothing is told.
+fn sheet_by<T: Site, O: Sink>(alloc: Global, conf: &Config, site: &mut T, out: &mut O) -> Status
+    requires conf { IsConfig conf.now }
+    requires home { T.out site.old ≡ 0 }
+    ensures prints { O.tells → T.tells →
+        Prints result (sheet_of conf.now (T.files site.old)) (O.written out.old) (O.written out.new) }
+    ensures nothing { O.tells → result ≢ Done → result ≢ WriteFault →
+        O.written out.new ≡ O.written out.old }
+    ensures answer { T.tells → MayAnswer (answer_over conf.now (T.files site.old)) result }
+    ensures named { result ≢ Usage }
+    ensures read { result ≡ ReadFault → Rose (T.faults site.old) (T.faults site.new) }
+    ensures write { result ≡ WriteFault → Rose (O.faults out.old) (O.faults out.new) }
+    ensures back { T.out site.new ≡ 0 }
+    ensures files { T.tells → T.files site.new ≡ T.files site.old }
+{
+    match read_recordings(alloc, conf, site) {
+        Ok(recordings) => write_sheet(alloc, conf, recordings.as_slice(), out),
+        Err(status) => status,
+    }
+}
