@@ -108,7 +108,8 @@ class Trial:
         """Status, text and lines of a run of which this request is refused, and whether it came so far."""
         reader, writer = os.pipe()
         env = dict(os.environ, LD_PRELOAD=self.library, REFUSED=str(number), REFUSED_FD=str(writer))
-        done = subprocess.run([self.program, *words], capture_output=True, text=True, env=env, pass_fds=[writer], timeout=60)
+        as_text = {"text": True, "errors": "surrogateescape"}
+        done = subprocess.run([self.program, *words], capture_output=True, env=env, pass_fds=[writer], timeout=60, **as_text)
         os.close(writer)
         was_refused = os.read(reader, 1) == b"x"
         os.close(reader)
@@ -190,6 +191,14 @@ def rows(trial):
     trial.each("report of no store", ["report"], no_store, after_reading(b""))
     trial.check("table", trial.run(["table", "t.sgrc"])[0], [(0, table_of([raw + 8 for raw in EXAMPLE]), "")])
     trial.each("table", ["table", "t.sgrc"], no_store, after_reading(b""))
+    sheet = "G1\n" + "".join("%d\n" % raw for raw in EXAMPLE)
+    trial.check("sheet", trial.run(["sheet"])[0], [(0, sheet, "")])
+    trial.each("sheet", ["sheet"], no_store, after_reading(b""))
+    write("d.csv", b"t,G1\n0,-2\n1,1\n2,\n")
+    column = ["column", "d.csv", "G1", "11" * 16, "10000"]
+    made = recording([-2, 1, -(2**31)]).decode("utf-8", "surrogateescape")
+    trial.check("column", trial.run(column)[0], [(0, made, "")])
+    trial.each("column", column, no_store, after_reading(b""))
     trial.each("demo", ["demo", "--samples", "100", "--workers", "2"], no_store, after_reading(b""))
 
 

@@ -62,7 +62,7 @@ check 'a sound recording' "0:$table" "$("$program" table sound >printed; echo "$
 check 'a head alone' '0:samples 0 used 0 missing 0 refused 0
 rainflow' "$("$program" table head >printed; echo "$?:$(cat printed)")"
 
-usage='usage: monitor table FILE | init | count [--workers N] | report | audit | demo [--seed N] [--samples N] [--workers N] | repeat'
+usage='usage: monitor table FILE | init | count [--workers N] | report | audit | demo [--seed N] [--samples N] [--workers N] | repeat | column FILE NAME ID PERIOD | sheet'
 status 'no words' 1 "$usage"
 status 'no such command' 1 "$usage" count-all sound
 status 'no file' 1 "$usage" table
