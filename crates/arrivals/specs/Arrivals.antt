@@ -98,8 +98,10 @@ abbrev pub ArrivalsAreReached : Type 0
 ArrivalsAreReached = (block workers gauges : ℕ) (r : Round) (l : List Name) → 0 < block → 0 < workers
     → IsRound block workers r gauges → AreArrivals block workers r gauges l
     → AllAllowed block workers (feeds block workers r gauges ++ counts block workers r l) (start block workers r)
-    × ((run block workers (feeds block workers r gauges ++ counts block workers r l) (start block workers r)).placed ≡ l)
-    × IsDone gauges workers (run block workers (feeds block workers r gauges ++ counts block workers r l) (start block workers r))
+    × ((run block workers (feeds block workers r gauges ++ counts block workers r l) (start block workers r)).placed ≡
+    l)
+    × IsDone gauges workers (run block workers (feeds block workers r gauges ++ counts block workers r l)
+    (start block workers r))
 
 abbrev pub ReachedAreArrivals : Type 0
 ReachedAreArrivals = (block workers gauges : ℕ) (r : Round) (es : List Event) → 0 < block → 0 < workers
@@ -109,5 +111,6 @@ ReachedAreArrivals = (block workers gauges : ℕ) (r : Round) (es : List Event) 
 
 -- the arrivals of one gauge through one worker, each behind the one before it
 abbrev pub ArrivalsAscend : Type 0
-ArrivalsAscend = (block workers gauges : ℕ) (r : Round) (l : List Name) → 0 < block → AreArrivals block workers r gauges l
+ArrivalsAscend =
+    (block workers gauges : ℕ) (r : Round) (l : List Name) → 0 < block → AreArrivals block workers r gauges l
     → (g v : ℕ) → g < gauges → v < workers → Ascends (through block workers r g v l)

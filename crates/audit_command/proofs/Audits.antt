@@ -26,7 +26,8 @@ use Rattle.status.specs.declared.status.Status.TheVariants as status
 use Rattle.audit_command.specs.Recounted.{IsRecountOf}
 use Rattle.audit_command.specs.Audited.{Meant, IsItem, AuditsGauge, AllSame, Finds}
 
-pub audited : (c : Config) (held : List SegmentValue) (w : ℕ → List ℤ) (g : ℕ) (seg : SegmentValue) (found : Recount) (other : Option Difference)
+pub audited : (c : Config) (held : List SegmentValue) (w : ℕ → List ℤ) (g : ℕ) (seg : SegmentValue) (found : Recount)
+    (other : Option Difference)
     → seg ≡ slice_index_or held g seg → IsSegment seg → seg.grid ≡ c.setup.grid → IsRecountOf c g found (w g)
     → ((gain : GainValue) (u : List ℤ) → IsRecount seg.grid gain found u
     → Compares seg (counts_of seg.grid gain u) (three_point (history seg.grid gain u)) other) → AuditsGauge c (IsItem held) w g other
@@ -34,7 +35,8 @@ audited c held w g seg found other is rules grid recount by = (
   seg,
   (is, rules),
   grid,
-  subst (λ (x : GridValue). Compares seg (counts_of x (gain_at c.setup g) (w g)) (three_point (history x (gain_at c.setup g) (w g))) other) grid
+  subst (λ (x : GridValue). Compares seg (counts_of x (gain_at c.setup g) (w g)) (three_point (history x (gain_at c.setup g) (w g))) other)
+      grid
       (by (gain_at c.setup g) (w g) (subst (λ (x : GridValue). IsRecount x (gain_at c.setup g) found (w g)) (sym grid) recount)),
 )
 
@@ -45,28 +47,34 @@ all_more_same c meant w k below here g lt = elim (cases_lt g k) [
   | inr past ↦ subst (λ (h : ℕ). AuditsGauge c meant w h None) (let e : k ≡ g = omega (arith, past, lt) in e) here
 ]
 
-module _ (c : Config) (from to : Meant) (w : ℕ → List ℤ) (leads : (g : ℕ) (v : SegmentValue) → g < length c.gauges → from g v → to g v) where
-  gauge_by : (g : ℕ) (other : Option Difference) → g < length c.gauges → AuditsGauge c from w g other → AuditsGauge c to w g other
-  gauge_by g other lt a = (a.0, leads g a.0 lt a.1, a.2, a.3)
+module _ (c : Config) (from to : Meant) (w : ℕ → List ℤ) (leads : (g : ℕ) (v : SegmentValue) → g < length c.gauges → from g v → to g v)
+  where
+    gauge_by : (g : ℕ) (other : Option Difference) → g < length c.gauges → AuditsGauge c from w g other → AuditsGauge c to w g other
+    gauge_by g other lt a = (a.0, leads g a.0 lt a.1, a.2, a.3)
 
-  pub same_by : (k : ℕ) → k ≤ length c.gauges → AllSame c from w k → AllSame c to w k
-  same_by k few all g lt = gauge_by g None (omega (arith, lt, few)) (all g lt)
+    pub same_by : (k : ℕ) → k ≤ length c.gauges → AllSame c from w k → AllSame c to w k
+    same_by k few all g lt = gauge_by g None (omega (arith, lt, few)) (all g lt)
 
-  pub finds_by : (s : Status) → Finds c from w s → Finds c to w s
-  finds_by status.Done f = same_by (length c.gauges) (omega arith) f
-  finds_by status.WriteFault f = same_by (length c.gauges) (omega arith) f
-  finds_by (status.Differs g what held found) f = (f.0, same_by g (omega (arith, f.0)) f.1, gauge_by g (Some (record { what = what; held = held; found = found })) f.0 f.2)
-  finds_by status.Usage f = tt
-  finds_by (status.Config x) f = tt
-  finds_by (status.Store x) f = tt
-  finds_by (status.Recording g x) f = tt
-  finds_by (status.Torn g x) f = tt
-  finds_by status.ReadFault f = tt
-  finds_by status.DiskFault f = tt
-  finds_by status.OutOfMemory f = tt
-  finds_by (status.TooLong g) f = tt
+    pub finds_by : (s : Status) → Finds c from w s → Finds c to w s
+    finds_by status.Done f = same_by (length c.gauges) (omega arith) f
+    finds_by status.WriteFault f = same_by (length c.gauges) (omega arith) f
+    finds_by (status.Differs g what held found) f = (
+      f.0,
+      same_by g (omega (arith, f.0)) f.1,
+      gauge_by g (Some (record { what = what; held = held; found = found })) f.0 f.2,
+    )
+    finds_by status.Usage f = tt
+    finds_by (status.Config x) f = tt
+    finds_by (status.Store x) f = tt
+    finds_by (status.Recording g x) f = tt
+    finds_by (status.Torn g x) f = tt
+    finds_by status.ReadFault f = tt
+    finds_by status.DiskFault f = tt
+    finds_by status.OutOfMemory f = tt
+    finds_by (status.TooLong g) f = tt
 
-pub differ_clash : (v u : SegmentValue) (bodies : List PartsValue) (grid : GridValue) (found : SampleCounts) (halves : ℕ → ℕ → ℕ) (d : Difference)
+pub differ_clash : (v u : SegmentValue) (bodies : List PartsValue) (grid : GridValue) (found : SampleCounts) (halves : ℕ → ℕ → ℕ)
+    (d : Difference)
     → Keeps v bodies → Keeps u bodies → v.grid ≡ grid → u.grid ≡ grid → Compares v found halves (Some d) → Compares u found halves None → ⊥
 differ_clash v u bodies grid found halves d kv ku gv gu (used_differ n) (all_same s a) = n (kv.used ∙ (sym ku.used ∙ s.0))
 differ_clash v u bodies grid found halves d kv ku gv gu (missing_differ e n) (all_same s a) = n (kv.missing ∙ (sym ku.missing ∙ s.1))

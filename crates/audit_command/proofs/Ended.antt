@@ -62,7 +62,8 @@ by_recounting P f r m DiskFault is = absurd is
 by_recounting P f r m (TooLong g) is = absurd is
 by_recounting P f r m (Differs g w x y) is = absurd is
 
-pub by_other : (P : Status → Type 0) → ((g : ℕ) (what : What) (held found : ℕ) → P (Differs g what held found)) → (s : Status) → IsOther s → P s
+pub by_other : (P : Status → Type 0) → ((g : ℕ) (what : What) (held found : ℕ) → P (Differs g what held found)) → (s : Status) →
+    IsOther s → P s
 by_other P d (Differs g w x y) is = d g w x y
 by_other P d Done is = absurd is
 by_other P d Usage is = absurd is
@@ -122,12 +123,14 @@ other_no_fault = by_other (λ s. (s ≢ ReadFault) × (s ≢ WriteFault)) (λ g 
 
 pub auditing_no_disk : (s : Status) → IsAuditing s → s ≢ DiskFault
 auditing_no_disk = by_auditing (λ s. s ≢ DiskFault) (λ e. absurd cc) (λ e. absurd cc)
-    (by_recounting (λ s. s ≢ DiskFault) (λ g f e. absurd cc) (λ e. absurd cc) (λ e. absurd cc)) (by_other (λ s. s ≢ DiskFault) (λ g w x y e. absurd cc))
+    (by_recounting (λ s. s ≢ DiskFault) (λ g f e. absurd cc) (λ e. absurd cc) (λ e. absurd cc))
+    (by_other (λ s. s ≢ DiskFault) (λ g w x y e. absurd cc))
 
 pub finds_of : (c : Config) (heads : List Head) (meant : Meant) (ends : List ℕ) (files : Files) (s : Status) → IsAuditing s
     → HeldAnswers c heads meant ends files s → Finds c meant (first_samples (recorded c files).samples ends) s
 finds_of c heads meant ends files s is a =
-    let P : Status → Type 0 = λ x. HeldAnswers c heads meant ends files x → Finds c meant (first_samples (recorded c files).samples ends) x in
+    let P : Status → Type 0 = λ x. HeldAnswers c heads meant ends files x →
+    Finds c meant (first_samples (recorded c files).samples ends) x in
     by_auditing P (λ b. b.1) (λ b. b.1) (by_recounting P (λ g f b. tt) (λ b. tt) (λ b. tt)) (by_other P (λ g w x y b. b.1)) s is a
 
 -- over a store that was read, by the setup of the configuration
@@ -135,7 +138,8 @@ pub answers_over : (c : Config) (image : Image) (files : Files) (r : ReadsAs c.s
     → HeldAnswers c r.head.heads (HasKept r.bodies) r.ends files s → AnswersOver c image files s
 answers_over c image files r s is a =
     let P : Status → Type 0 = λ x. HeldAnswers c r.head.heads (HasKept r.bodies) r.ends files x → AnswersOver c image files x in
-    by_auditing P (λ b. (r, b)) (λ b. (r, b)) (by_recounting P (λ g f b. (r, b)) (λ b. (r, b)) (λ b. tt)) (by_other P (λ g w x y b. (r, b))) s is a
+    by_auditing P (λ b. (r, b)) (λ b. (r, b)) (by_recounting P (λ g f b. (r, b)) (λ b. (r, b)) (λ b. tt))
+    (by_other P (λ g w x y b. (r, b))) s is a
 
 module _ (c : Config) (heads : List Head) (from to : Meant) (ends : List ℕ) (files : Files)
     (leads : (g : ℕ) (v : SegmentValue) → g < length c.gauges → from g v → to g v) where
@@ -222,7 +226,8 @@ held_complete c heads bodies ends files (Recording g f) a opened same r w =
 held_complete c heads bodies ends files (Differs g x y z) a opened same r w =
     let other = a.1.2 in
     let none = same g a.1.0 in
-    absurd (differ_clash other.0 none.0 (bodies_of g bodies) c.setup.grid (counts_of c.setup.grid (gain_at c.setup g) (first_samples (recorded c files).samples ends g))
+    absurd (differ_clash other.0 none.0 (bodies_of g bodies) c.setup.grid
+    (counts_of c.setup.grid (gain_at c.setup g) (first_samples (recorded c files).samples ends g))
     (three_point (history c.setup.grid (gain_at c.setup g) (first_samples (recorded c files).samples ends g)))
     (record { what = x; held = y; found = z }) other.1 none.1 other.2 none.2 other.3 none.3)
 held_complete c heads bodies ends files Usage a opened same r w = absurd a
@@ -274,7 +279,8 @@ unread_unprinted s is c old = by_refusal (λ (x : Status). Prints x c old old) (
 name_of_short : (conf : Config) → IsConfig conf → (g : ℕ) → length (name_of conf g) ≤ MAX_NAME_BYTES
 name_of_short conf is g = elim (cases_lt g (length conf.gauges)) [
   | inl lt ↦ short_name (name_of conf g) (is.names g lt)
-  | inr past ↦ let e : length (name_of conf g) ≡ 0 = ap (λ (x : Gauge). length x.name) (get_or_past conf.gauges g no_gauge past) in omega (arith, e)
+  | inr past ↦ let e : length (name_of conf g) ≡ 0 = ap (λ (x : Gauge). length x.name) (get_or_past conf.gauges g no_gauge past) in
+      omega (arith, e)
 ]
 
 pub name_short : (conf : Config) → IsConfig conf → (s : Status) → length (name_for conf s) ≤ MAX_NAME_BYTES

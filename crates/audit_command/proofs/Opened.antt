@@ -63,7 +63,14 @@ module _ (kept : Head) (held : ℕ) (file left : List ℕ) (g : ℕ) where
       → w ≡ take held (samples left) → fault_of kept held file ≡ None
   has_enough w opened behind long is = enough_there (head_fault (recording_head file) kept) held (length (samples (body_in (Some file))))
       (none_held (head_fault (recording_head file) kept) (length (samples (body_in (Some file)))) opened)
-      (omega (arith, long, ap (λ (l : List ℤ). length l) is, length-take held (samples left), ap (λ (l : List ℤ). length l) behind.samples_left))
+      (omega (
+        arith,
+        long,
+        ap (λ (l : List ℤ). length l) is,
+        length-take held (samples left),
+        ap (λ (l : List ℤ). length l)
+            behind.samples_left,
+      ))
 
 -- one that was opened, and not counted again
 pub not_recounted : (X : Type 0) (kept : Head) (held : ℕ) (file left : List ℕ) (g : ℕ) (fault : RecountFault) (s : Status)
@@ -92,7 +99,8 @@ module _ (conf : Config) (heads : List Head) (n : ℕ → ℕ) (files : Files) (
   gauge_fault fault judged = (
     file,
     ap files same ∙ is,
-    λ d. ap (λ (h : Head). fault_of h (n g) file) (get_or_default heads g d here lt ∙ ap (λ (l : List Head). slice_index_or l g here) (sym kept))
+    λ d. ap (λ (h : Head). fault_of h (n g) file) (get_or_default heads g d here lt
+        ∙ ap (λ (l : List Head). slice_index_or l g here) (sym kept))
         ∙ ap (λ (m : ℕ). fault_of (slice_index_or heads2 g here) m file) (sym held) ∙ judged,
   )
 

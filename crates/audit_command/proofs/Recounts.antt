@@ -18,14 +18,16 @@ use Rattle.status.specs.declared.status.Status.{Status}
 use Rattle.audit_command.specs.Recounted.{AreOf, AreOver, AreRecounts, IsOfFirst, IsRecountOf}
 
 each_more : {A : Type 0} (P : ℕ → A → Type 0) (xs ys : List A) (x : A) (k : ℕ) → ys ≡ xs ++ x ∷ [] → k ≡ length xs
-    → ((g : ℕ) (d : A) → g < length xs → P g (slice_index_or xs g d)) → P k x → (g : ℕ) (d : A) → g < length ys → P g (slice_index_or ys g d)
-each_more {A} P xs ys x k is long all here g d lt = subst (λ (l : List A). P g (slice_index_or l g d)) (sym is) (elim (cases_lt g (length xs)) [
-  | inl within ↦ subst (P g) (sym (get_or-append xs (x ∷ []) d g within)) (all g d within)
-  | inr past ↦
-      let at : g ≡ length xs = omega (arith, past, lt, ap length is, length-append xs (x ∷ [])) in
-      subst (λ (n : ℕ). P n (slice_index_or (xs ++ x ∷ []) n d)) (sym at)
-      (subst (P (length xs)) (sym (get_or-append_seam xs x [] d)) (subst (λ (n : ℕ). P n x) long here))
-])
+    → ((g : ℕ) (d : A) → g < length xs → P g (slice_index_or xs g d)) → P k x → (g : ℕ) (d : A) → g < length ys →
+    P g (slice_index_or ys g d)
+each_more {A} P xs ys x k is long all here g d lt =
+    subst (λ (l : List A). P g (slice_index_or l g d)) (sym is) (elim (cases_lt g (length xs)) [
+      | inl within ↦ subst (P g) (sym (get_or-append xs (x ∷ []) d g within)) (all g d within)
+      | inr past ↦
+          let at : g ≡ length xs = omega (arith, past, lt, ap length is, length-append xs (x ∷ [])) in
+          subst (λ (n : ℕ). P n (slice_index_or (xs ++ x ∷ []) n d)) (sym at)
+          (subst (P (length xs)) (sym (get_or-append_seam xs x [] d)) (subst (λ (n : ℕ). P n x) long here))
+    ])
 
 pub recounts_more : (c : Config) (tells : Type 0) (w : ℕ → List ℤ) (held : ℕ → ℕ) (xs ys : List Recount) (x : Recount) (k : ℕ)
     → ys ≡ xs ++ x ∷ [] → k ≡ length xs → AreRecounts c tells w held xs → IsOfFirst c tells w held k x → AreRecounts c tells w held ys
@@ -41,7 +43,8 @@ pub are_over : (c : Config) (tells : Type 0) (w : ℕ → List ℤ) (held : ℕ 
 are_over c tells w held recounts all g d lt = (all g d lt).1.0.classes
 
 -- a recount under the gain of the gauge, of the first samples of a file
-pub recounted_first : (c : Config) (tells shows : Type 0) (w : ℕ → List ℤ) (held : ℕ → ℕ) (g : ℕ) (gain : GainValue) (whole : List ℤ) (k : ℕ)
+pub recounted_first : (c : Config) (tells shows : Type 0) (w : ℕ → List ℤ) (held : ℕ → ℕ) (g : ℕ) (gain : GainValue)
+    (whole : List ℤ) (k : ℕ)
     (r : Result Recount Status) → gain ≡ gain_at c.setup g → k ≡ held g → (tells → shows) → (tells → whole ≡ w g)
     → IfOk r (λ found. (u : List ℤ) × (IsRecount c.setup.grid gain found u × (shows → u ≡ take k whole)))
     → IfOk r (IsOfFirst c tells w held g)

@@ -1,9 +1,10 @@
--- Which answer `audit` has. Each has its cause in the configuration, the store and the recordings; a fault of the outside has a clause of
--- its own, and want of memory none.
+-- Which answer `audit` has. Each has its cause in the configuration, the store and the recordings; a fault of the
+-- outside has a clause of its own, and want of memory none.
 --   HeldAnswers    over a store that holds so many samples of each gauge
 --   AnswersOver    over what a read of the store gives
 --   AuditAnswers   by the configuration
---   IsSound        the configuration is sound, the store is one of its setup, and the recordings begin with what it holds
+--   IsSound        the configuration is sound, the store is one of its setup, and the recordings begin with what it
+--                  holds
 use Rattle.std.specs.Prelude.{◌≡◌, ◌<◌, ℕ, List, length, slice_index, Some, Result, Ok, Err}
 use Rattle.outside.specs.Site.{Files}
 use Rattle.station.specs.Station.{Image}
@@ -24,20 +25,24 @@ CountedAnswers c heads meant ends files status = AllOpened c heads (slice_index 
     × Finds c meant (first_samples (recorded c files).samples ends) status
 
 abbrev pub HeldAnswers : Config → List Head → Meant → List ℕ → Files → Status → Type 0
-HeldAnswers c heads meant ends files (Recording g fault) = (g < length c.gauges) × AllOpened c heads (slice_index ends) files g
+HeldAnswers c heads meant ends files (Recording g fault) =
+    (g < length c.gauges) × AllOpened c heads (slice_index ends) files g
     × FaultOf c heads (slice_index ends) files g (Some fault)
 HeldAnswers c heads meant ends files ReadFault = Unit {0}
 HeldAnswers c heads meant ends files OutOfMemory = Unit {0}
 HeldAnswers c heads meant ends files Done = CountedAnswers c heads meant ends files Done
 HeldAnswers c heads meant ends files WriteFault = CountedAnswers c heads meant ends files WriteFault
-HeldAnswers c heads meant ends files (Differs g what held found) = CountedAnswers c heads meant ends files (Differs g what held found)
+HeldAnswers c heads meant ends files (Differs g what held found) =
+    CountedAnswers c heads meant ends files (Differs g what held found)
 HeldAnswers c heads meant ends files status = ⊥
 
 abbrev pub AnswersOver : Config → Image → Files → Status → Type 0
-AnswersOver c image files (BadStore fault) = (f : ResumeFault) × (store_status f ≡ BadStore fault) × IsRefused c.setup image f
+AnswersOver c image files (BadStore fault) =
+    (f : ResumeFault) × (store_status f ≡ BadStore fault) × IsRefused c.setup image f
 AnswersOver c image files DiskFault = Unit {0}
 AnswersOver c image files OutOfMemory = Unit {0}
-AnswersOver c image files status = (r : ReadsAs c.setup image) × HeldAnswers c r.head.heads (HasKept r.bodies) r.ends files status
+AnswersOver c image files status =
+    (r : ReadsAs c.setup image) × HeldAnswers c r.head.heads (HasKept r.bodies) r.ends files status
 
 abbrev pub AuditAnswers : Result Config ConfigFault → Image → Files → Status → Type 0
 AuditAnswers conf image files (BadConfig fault) = conf ≡ Err fault
@@ -47,7 +52,8 @@ AuditAnswers conf image files status = (c : Config) × (conf ≡ Ok c) × Answer
 
 -- the recordings begin with samples that were counted as it holds
 abbrev pub IsAudited : Config → Image → Files → Type 0
-IsAudited c image files = (r : ReadsAs c.setup image) × AllOpened c r.head.heads (slice_index r.ends) files (length c.gauges)
+IsAudited c image files =
+    (r : ReadsAs c.setup image) × AllOpened c r.head.heads (slice_index r.ends) files (length c.gauges)
     × AllSame c (HasKept r.bodies) (first_samples (recorded c files).samples r.ends) (length c.gauges)
 
 abbrev pub IsSound : Result Config ConfigFault → Image → Files → Type 0

@@ -36,10 +36,12 @@ IsStanding c w g v = Stands v (gain_at c.setup g) (w g)
 abbrev pub first_samples : (ℕ → List ℤ) → List ℕ → ℕ → List ℤ
 first_samples w n g = take (slice_index n g) (w g)
 
--- used, missing and refused samples, and the half units of each pair, are compared with those of the samples w of the gauge
+-- used, missing and refused samples, and the half units of each pair, are compared with those of the samples w of the
+-- gauge
 abbrev pub AuditsGauge : Config → Meant → (ℕ → List ℤ) → ℕ → Option Difference → Type 0
 AuditsGauge c meant w g other = (v : SegmentValue) × meant g v × (v.grid ≡ c.setup.grid) × Compares v
-    (counts_of c.setup.grid (gain_at c.setup g) (w g)) (three_point (history c.setup.grid (gain_at c.setup g) (w g))) other
+    (counts_of c.setup.grid (gain_at c.setup g) (w g)) (three_point (history c.setup.grid (gain_at c.setup g) (w g)))
+    other
 
 abbrev pub AllSame : Config → Meant → (ℕ → List ℤ) → ℕ → Type 0
 AllSame c meant w k = (g : ℕ) → g < k → AuditsGauge c meant w g None

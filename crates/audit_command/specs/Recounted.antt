@@ -41,7 +41,8 @@ abbrev pub AreOf : Config → List Recount → (ℕ → List ℤ) → Type 0
 AreOf c recounts w = (g : ℕ) (d : Recount) → g < length recounts → IsRecountOf c g (slice_index_or recounts g d) (w g)
 
 abbrev pub AreOver : Config → List Recount → Type 0
-AreOver c recounts = (g : ℕ) (d : Recount) → g < length recounts → (slice_index_or recounts g d).pairs.classes ≡ c.setup.grid.classes
+AreOver c recounts =
+    (g : ℕ) (d : Recount) → g < length recounts → (slice_index_or recounts g d).pairs.classes ≡ c.setup.grid.classes
 
 -- the recordings have the samples w, where the site tells
 abbrev pub IsOfFirst : Config → Type 0 → (ℕ → List ℤ) → (ℕ → ℕ) → ℕ → Recount → Type 0

@@ -28,4 +28,5 @@ pub record Feeds (old new : List (Feeder Item)) (v : ℕ) (items : List Item) : 
 pub record MarksAll (old new : List (Feeder Item)) : Type 0 where
   pub long : length new ≡ length old
   pub same : (u : ℕ) (d : Feeder Item) → IsSameFeeder (slice_index_or old u d) (slice_index_or new u d)
-  pub marked : (u : ℕ) (d : Feeder Item) → u < length old → fed (slice_index_or new u d) ≡ fed (slice_index_or old u d) ++ Mark ∷ []
+  pub marked : (u : ℕ) (d : Feeder Item) → u < length old →
+      fed (slice_index_or new u d) ≡ fed (slice_index_or old u d) ++ Mark ∷ []

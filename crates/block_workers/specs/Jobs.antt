@@ -61,13 +61,15 @@ module _ {C : Type 0} where
     pub grid : new.desk.grid ≡ old.desk.grid
     pub blanks : new.desk.blanks ≡ old.desk.blanks
     pub feeders : vec_len new.desk.feeders ≡ vec_len old.desk.feeders
-    pub fed : (v : ℕ) (d : Feeder Item) → fed (slice_index_or new.desk.feeders.items v d) ≡ fed (slice_index_or old.desk.feeders.items v d)
+    pub fed : (v : ℕ) (d : Feeder Item) →
+        fed (slice_index_or new.desk.feeders.items v d) ≡ fed (slice_index_or old.desk.feeders.items v d)
     pub ends : (v : ℕ) (d : Feeder Item)
         → IsSameFeeder (slice_index_or old.desk.feeders.items v d) (slice_index_or new.desk.feeders.items v d)
 
   -- the two ends of the ring of a gauge and a worker
   pub record RingAt (w : Worker) (r : Reader C) (g v : ℕ) : Type 0 where
-    pub one : (d : Taker Item) (e : Feeder Item) → AreOneRing (slice_index_or r.desk.feeders.items v e) (slice_index_or w.takers.items g d)
+    pub one : (d : Taker Item) (e : Feeder Item) →
+        AreOneRing (slice_index_or r.desk.feeders.items v e) (slice_index_or w.takers.items g d)
 
   -- what was fed is what was taken and what is left
   pub record Fifo (w : Worker) (r : Reader C) (g v : ℕ) : Type 0 where
@@ -87,8 +89,10 @@ pub record SameWork (old new : Worker) : Type 0 where
   pub number : new.number ≡ old.number
   pub back : (fed new.back ≡ fed old.back) × IsSameFeeder old.back new.back
   pub takers : vec_len new.takers ≡ vec_len old.takers
-  pub taken : (g : ℕ) (d : Taker Item) → taken (slice_index_or new.takers.items g d) ≡ taken (slice_index_or old.takers.items g d)
-  pub ends : (g : ℕ) (d : Taker Item) → IsSameTaker (slice_index_or old.takers.items g d) (slice_index_or new.takers.items g d)
+  pub taken : (g : ℕ) (d : Taker Item) →
+      taken (slice_index_or new.takers.items g d) ≡ taken (slice_index_or old.takers.items g d)
+  pub ends : (g : ℕ) (d : Taker Item) →
+      IsSameTaker (slice_index_or old.takers.items g d) (slice_index_or new.takers.items g d)
 
 -- each reader's round, by gauge; each worker's, by number
 abbrev pub AllRead : {C : Type 0} → Type 0 → (C → List ℕ) → (C → ℕ) → List (Reader C) → List (Reader C) → Type 0

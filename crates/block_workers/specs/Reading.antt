@@ -27,7 +27,8 @@ pub record IsUnit (d : Desk) (from to : ℕ) (u : FilledValue) : Type 0 where
 pub data AreBlocks (d : Desk) : ℕ → List FilledValue → ℕ → Type 0 where
   none : {a : ℕ} → AreBlocks d a [] a
   last : {a b : ℕ} {u : FilledValue} → IsUnit d a b u → AreBlocks d a (u ∷ []) b
-  more : {a b : ℕ} {u : FilledValue} {us : List FilledValue} → IsUnit d a (a + d.block) u → AreBlocks d (a + d.block) us b
+  more : {a b : ℕ} {u : FilledValue} {us : List FilledValue} → IsUnit d a (a + d.block) u →
+      AreBlocks d (a + d.block) us b
       → AreBlocks d a (u ∷ us) b
 
 abbrev pub samples_of : List FilledValue → List ℤ
@@ -71,7 +72,8 @@ pub record OneBlock (tells : Type 0) (left_old : List ℕ) (old new : Desk) (num
 abbrev pub most : Desk → ℕ
 most d = MAX_SAMPLES - d.at
 
-pub record OneRead (tells : Type 0) (left_old left_new : List ℕ) (old new : Desk) (number : ℕ) (answer : Bool) : Type 0 where
+pub record OneRead (tells : Type 0) (left_old left_new : List ℕ) (old new : Desk) (number : ℕ)
+    (answer : Bool) : Type 0 where
   pub same : SameDesk old new
   pub limit : new.at ≤ MAX_SAMPLES
   pub gives : tells → Gives old.block (most old) left_old (new.at - old.at) new.end left_new
@@ -82,7 +84,8 @@ pub record OneRead (tells : Type 0) (left_old left_new : List ℕ) (old new : De
 -- whole blocks one after another
 pub data AreWhole (d : Desk) : ℕ → List FilledValue → ℕ → Type 0 where
   empty : {a : ℕ} → AreWhole d a [] a
-  whole : {a b : ℕ} {u : FilledValue} {us : List FilledValue} → IsUnit d a (a + d.block) u → AreWhole d (a + d.block) us b
+  whole : {a b : ℕ} {u : FilledValue} {us : List FilledValue} → IsUnit d a (a + d.block) u →
+      AreWhole d (a + d.block) us b
       → AreWhole d a (u ∷ us) b
 
 -- what was read and dealt so far, of so many samples that were wanted: blocks as P says

@@ -28,7 +28,8 @@ all_new (o ∷ os) (n ∷ ns) = new_blocks o n ++ all_new os ns
 -- the units, counted
 pub data AreCounts : List FilledValue → List CountedValue → Type 0 where
   nil : AreCounts [] []
-  one : {f : FilledValue} {c : CountedValue} {fs : List FilledValue} {cs : List CountedValue} → IsCountOf f c → AreCounts fs cs
+  one : {f : FilledValue} {c : CountedValue} {fs : List FilledValue} {cs : List CountedValue} → IsCountOf f c →
+      AreCounts fs cs
       → AreCounts (f ∷ fs) (c ∷ cs)
 
 abbrev pub back_of : CountedValue → Back

@@ -393,7 +393,8 @@ extend_less start block j k old seg r c upto full touch = elim
     (cases_lt j k) [
       | inl a ↦ a
       | inr a ↦ (let same : k ≡ j = omega (arith, a, upto) in let at =
-          (r.shape j seg (omega (arith, upto, c.place)) (full seg)).0 in let far : k * block ≡ j * block = ap (λ n. n * block) same in absurd
+          (r.shape j seg (omega (arith, upto, c.place)) (full seg)).0 in let far : k * block ≡ j * block = ap (λ n. n * block) same in
+          absurd
           (omega (arith, at, c.from, far, touch seg, full seg)))
     ]
 

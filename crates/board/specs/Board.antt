@@ -19,7 +19,8 @@ use Rattle.board.specs.declared.TheConstants.{MAX_GAUGES}
 use Rattle.flow.specs.Flow.{hits}
 use Rattle.flow.specs.Kept.{between, over}
 
--- the intervals of a gauge: the one that begins at the k-th block of the window stands at place k, and an empty segment where none does
+-- the intervals of a gauge: the one that begins at the k-th block of the window stands at place k, and an empty segment
+-- where none does
 pub record Row : Type 0 where
   pub start : ℕ
   pub slots : List SegmentValue
@@ -46,11 +47,15 @@ pub record IsRow (block : ℕ) (grid : GridValue) (gauge : ℕ) (r : Row) : Type
   pub each : (k : ℕ) (d : SegmentValue) → k < 16 → IsSlot block grid gauge (slice_index_or r.slots k d)
   pub first : (d : SegmentValue) → (slice_index_or r.slots 0 d).from ≡ r.start
   -- an interval begins with its block, within the window
-  pub shape : (k : ℕ) (d : SegmentValue) → k < 16 → (slice_index_or r.slots k d).from < (slice_index_or r.slots k d).to →
-      ((slice_index_or r.slots k d).from ≡ r.start + k * block) × ((slice_index_or r.slots k d).to ≤ r.start + 16 * block)
+  pub shape : (k : ℕ) (d : SegmentValue) → k < 16 →
+      (slice_index_or r.slots k d).from < (slice_index_or r.slots k d).to →
+      ((slice_index_or r.slots k d).from ≡ r.start + k * block)
+      × ((slice_index_or r.slots k d).to ≤ r.start + 16 * block)
   -- and two of them do not touch
-  pub apart : (j k : ℕ) (d : SegmentValue) → j < k → k < 16 → (slice_index_or r.slots j d).from < (slice_index_or r.slots j d).to →
-      (slice_index_or r.slots k d).from < (slice_index_or r.slots k d).to → (slice_index_or r.slots j d).to < (slice_index_or r.slots k d).from
+  pub apart : (j k : ℕ) (d : SegmentValue) → j < k → k < 16 →
+      (slice_index_or r.slots j d).from < (slice_index_or r.slots j d).to →
+      (slice_index_or r.slots k d).from < (slice_index_or r.slots k d).to →
+      (slice_index_or r.slots j d).to < (slice_index_or r.slots k d).from
 
 -- a block of a window of 16 blocks
 pub record IsBlockOf (block gauges : ℕ) (start : ℕ) (n : Name) : Type 0 where
@@ -92,7 +97,8 @@ pub record IsBoard (b : BoardValue) : Type 0 where
   pub gauges : length b.rows ≤ MAX_GAUGES
   pub starts : (g : ℕ) (d : Row) → g < length b.rows → (slice_index_or b.rows g d).start ≤ MAX_SAMPLES
   pub rows : (g : ℕ) (d : Row) → g < length b.rows → IsRow b.block b.grid g (slice_index_or b.rows g d)
-  pub intervals : (g i : ℕ) (d : Row) → g < length b.rows → spans i (slice_index_or b.rows g d).slots ≡ hits g i b.arrivals
+  pub intervals : (g i : ℕ) (d : Row) → g < length b.rows →
+      spans i (slice_index_or b.rows g d).slots ≡ hits g i b.arrivals
   pub count : length b.arrivals ≡ blocks_placed b
 
 -- nothing is placed, and each gauge has its window

@@ -12,7 +12,8 @@ emptied gauge start s = empty_at s.grid gauge start s.longest
 
 pub record AllEmptied (gauge start : ℕ) (old new : List SegmentValue) : Type 0 where
   pub long : length new ≡ length old
-  pub each : (k : ℕ) (d : SegmentValue) → k < length old → slice_index_or new k d ≡ emptied gauge start (slice_index_or old k d)
+  pub each : (k : ℕ) (d : SegmentValue) → k < length old →
+      slice_index_or new k d ≡ emptied gauge start (slice_index_or old k d)
 
 pub record RowBegun (gauge start : ℕ) (old new : Row) : Type 0 where
   pub from : new.start ≡ start
@@ -20,7 +21,8 @@ pub record RowBegun (gauge start : ℕ) (old new : Row) : Type 0 where
 
 pub record RowsBegun (starts : List ℕ) (old new : List Row) : Type 0 where
   pub long : length new ≡ length old
-  pub row : (g : ℕ) (d : Row) → g < length old → RowBegun g (slice_index_or starts g 0) (slice_index_or old g d) (slice_index_or new g d)
+  pub row : (g : ℕ) (d : Row) → g < length old →
+      RowBegun g (slice_index_or starts g 0) (slice_index_or old g d) (slice_index_or new g d)
 
 pub record IsFresh (block : ℕ) (grid : GridValue) (gauge start : ℕ) (r : Row) : Type 0 where
   pub from : r.start ≡ start

@@ -20,11 +20,14 @@ pub record HasSample (b : BoardValue) (g i : ℕ) (n : Name) : Type 0 where
 
 -- A block of the board's window is placed where nothing has its first sample.
 abbrev pub Answers : BoardValue → BoardValue → SegmentValue → Deposit → Type 0
-Answers old new s Placed = Fits old (name_of s) × (hits s.gauge s.from old.arrivals ≡ 0) × (new.arrivals ≡ old.arrivals ++ name_of s ∷ [])
+Answers old new s Placed =
+    Fits old (name_of s) × (hits s.gauge s.from old.arrivals ≡ 0) × (new.arrivals ≡ old.arrivals ++ name_of s ∷ [])
 Answers old new s (Stranger n) = (Fits old (name_of s) → ⊥) × (n ≡ name_of s) × (new ≡ old)
-Answers old new s (Double n) = Fits old (name_of s) × (1 ≤ hits s.gauge s.from old.arrivals) × HasSample old s.gauge s.from n × (new ≡ old)
+Answers old new s (Double n) =
+    Fits old (name_of s) × (1 ≤ hits s.gauge s.from old.arrivals) × HasSample old s.gauge s.from n × (new ≡ old)
 
 abbrev pub Numbered : ℕ → ℕ → ℕ → Name → Option ℕ → Type 0
 Numbered block gauges start n (Some k) =
-    (k < 16) × (n.gauge < gauges) × (n.from < n.to) × (n.to ≤ n.from + block) × (n.from ≡ start + k * block) × (n.to ≤ start + 16 * block)
+    (k < 16) × (n.gauge < gauges) × (n.from < n.to) × (n.to ≤ n.from + block) × (n.from ≡ start + k * block)
+    × (n.to ≤ start + 16 * block)
 Numbered block gauges start n None = IsBlockOf block gauges start n → ⊥

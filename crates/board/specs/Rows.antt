@@ -35,7 +35,8 @@ pub record IsJoin (old seg new : SegmentValue) : Type 0 where
   pub stands : (gain : GainValue) (u w : List ℤ) → Stands old gain u → Stands seg gain w → Stands new gain (u ++ w)
 
 abbrev pub Before : List SegmentValue → ℕ → Option ℕ → Type 0
-Before slots k (Some j) = (j ≤ k) × ((d : SegmentValue) → (slice_index_or slots j d).from < (slice_index_or slots j d).to)
+Before slots k (Some j) =
+    (j ≤ k) × ((d : SegmentValue) → (slice_index_or slots j d).from < (slice_index_or slots j d).to)
     × ((i : ℕ) (d : SegmentValue) → j < i → i ≤ k → IsEmpty (slice_index_or slots i d))
 Before slots k None = (i : ℕ) (d : SegmentValue) → i ≤ k → IsEmpty (slice_index_or slots i d)
 

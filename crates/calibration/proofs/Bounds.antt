@@ -56,22 +56,26 @@ positive (pos n) k f g e =
 positive (negsuc n) k f g e = absurd (omega (arith, ints))
 
 -- how far the stress of the least raw value lies below the lower end, as it is computed
-top : (x max : ℤ) (below : ℕ) → FitsSigned w64 x → max ≡ int_max x (pos 0) → below ≡ of_z w64 (to_z w64 (of_z w64 max)) → pos below ≡ int_max x (pos 0)
+top : (x max : ℤ) (below : ℕ) → FitsSigned w64 x → max ≡ int_max x (pos 0) → below ≡ of_z w64 (to_z w64 (of_z w64 max)) →
+    pos below ≡ int_max x (pos 0)
 top (pos n) max below f e b =
     let is : int_max (pos n) (pos 0) ≡ pos n = omega (arith, ints, clamps) in
     let small : n < 9223372036854775808 = f.sfits in
-    let same : below ≡ of_z w64 (pos n) = b ∙ ap (λ z. of_z w64 (to_z w64 (of_z w64 z))) (e ∙ is) ∙ ap (of_z w64) (to_z-of_z w64 (pos n) f) in
+    let same : below ≡ of_z w64 (pos n) = b ∙ ap (λ z. of_z w64 (to_z w64 (of_z w64 z))) (e ∙ is) ∙ ap (of_z w64)
+    (to_z-of_z w64 (pos n) f) in
     let value : below ≡ n = omega (arith, same) in ap pos value ∙ sym is
 top (negsuc n) max below f e b =
     let is : int_max (negsuc n) (pos 0) ≡ pos 0 = omega (arith, ints, clamps) in
     let value : below ≡ 0 = b ∙ ap (λ z. of_z w64 (to_z w64 (of_z w64 z))) (e ∙ is) in ap pos value ∙ sym is
 
 pub below_is : (num shift max : ℤ) (below : ℕ) → unsigned_abs num ≤ 1000000000 → unsigned_abs shift ≤ 2000000000000000 →
-    max ≡ int_max (to_z w64 (of_z w64 (to_z w64 (of_z w64 (to_z w64 (of_z w64 num) *ℤ pos 2147483648)) -ℤ to_z w64 (of_z w64 shift)))) (pos 0) →
+    max ≡ int_max (to_z w64 (of_z w64 (to_z w64 (of_z w64 (to_z w64 (of_z w64 num) *ℤ pos 2147483648)) -ℤ to_z w64 (of_z w64 shift))))
+    (pos 0) →
     below ≡ of_z w64 (to_z w64 (of_z w64 max)) → pos below ≡ int_max (num *ℤ pos 2147483648 -ℤ shift) (pos 0)
 below_is num shift max below g h e b =
     let product : unsigned_abs (num *ℤ pos 2147483648) ≤ 2147483648000000000 = omega (arith, unsigned_abs-mul num (pos 2147483648)) in
-    let apart : unsigned_abs (num *ℤ pos 2147483648 -ℤ shift) ≤ 2147483648000000000 + 2000000000000000 = abs-sub (num *ℤ pos 2147483648) shift 2147483648000000000 2000000000000000 product h in
+    let apart : unsigned_abs (num *ℤ pos 2147483648 -ℤ shift) ≤ 2147483648000000000 + 2000000000000000 = abs-sub (num *ℤ pos 2147483648)
+    shift 2147483648000000000 2000000000000000 product h in
     let fits : FitsSigned w64 (num *ℤ pos 2147483648 -ℤ shift) = fits_signed_from_abs w64 _ (omega arith) in
     let to : ℤ → ℤ = λ z. to_z w64 (of_z w64 z) in
     let same : to (to (to num *ℤ pos 2147483648) -ℤ to shift) ≡ num *ℤ pos 2147483648 -ℤ shift =
@@ -97,7 +101,8 @@ within_bounds raw num shift first last k below limit f e p b g h low high =
     let to : u ≤ (limit + below) / k = le-div u (limit + below) k p inside in
     (omega (arith, ints, at.is, at.few), omega (arith, ints, at.is, at.few))
 
-refused_outside : (grid : GridValue) (x : ℤ) (w : ℕ) → 1 ≤ w → (x <ℤ pos 0) ⊎ (pos (grid.classes * w) ≤ℤ x) → level_in (in_grid grid (floor_div x w)) ≡ None
+refused_outside : (grid : GridValue) (x : ℤ) (w : ℕ) → 1 ≤ w → (x <ℤ pos 0) ⊎ (pos (grid.classes * w) ≤ℤ x) →
+    level_in (in_grid grid (floor_div x w)) ≡ None
 refused_outside grid (pos n) w p (inl l) = absurd (omega (arith, ints))
 refused_outside grid (pos n) w p (inr l) =
     let far : grid.classes ≤ n / w = le-div grid.classes n w (omega arith) (omega (arith, ints)) in
@@ -111,7 +116,8 @@ unless_missing false r e = e
 
 module _ (gain : GainValue) (grid : GridValue) (raw shift : ℤ) (limit : ℕ) (g : IsGain gain) (h : IsGrid grid)
     (e : shift ≡ (gain.offset -ℤ grid.low_kpa) *ℤ pos gain.den) (b : limit ≡ grid.classes * width_of gain grid) where
-  none_outside : ((raw *ℤ gain.num +ℤ shift) <ℤ pos 0) ⊎ (pos limit ≤ℤ (raw *ℤ gain.num +ℤ shift)) → level_in (reading_of gain grid raw) ≡ None
+  none_outside : ((raw *ℤ gain.num +ℤ shift) <ℤ pos 0) ⊎ (pos limit ≤ℤ (raw *ℤ gain.num +ℤ shift)) →
+      level_in (reading_of gain grid raw) ≡ None
   none_outside o =
       unless_missing (is_missing raw) (in_grid grid (class_of grid (stress_of gain raw)))
       (ap (λ z. level_in (in_grid grid z)) (class_by_one_floor gain grid raw shift g.den_from e)
@@ -123,7 +129,8 @@ module _ (gain : GainValue) (grid : GridValue) (raw shift : ℤ) (limit : ℕ) (
       by (inr m) = inr (omega (arith, ints))
 
   -- a raw value outside has no level
-  pub outside_bounds : (first last : ℤ) → (pos 0 ≤ℤ (raw *ℤ gain.num +ℤ shift) → (raw *ℤ gain.num +ℤ shift) <ℤ pos limit → (first ≤ℤ raw) × (raw ≤ℤ last)) →
+  pub outside_bounds : (first last : ℤ) → (pos 0 ≤ℤ (raw *ℤ gain.num +ℤ shift) → (raw *ℤ gain.num +ℤ shift) <ℤ pos limit →
+      (first ≤ℤ raw) × (raw ≤ℤ last)) →
       (raw <ℤ first) ⊎ (last <ℤ raw) → level_in (reading_of gain grid raw) ≡ None
   outside_bounds first last within o =
       by_lt_z (raw *ℤ gain.num +ℤ shift) (pos 0) (λ low. none_outside (inl low)) (λ from.
@@ -162,7 +169,8 @@ put_behind : (used r : ℕ) (levels new before more : List ℕ) → used ≤ len
     take used levels ≡ before → take r new ≡ more → take (used + r) (put_mid used (length levels - used) levels new) ≡ before ++ more
 put_behind used r levels new before more inside few b m =
     let k : ℕ = length levels - used in
-    let whole : take (used + length new) (put_mid used k levels new) ≡ take used levels ++ new = take-put_mid used k levels new (used + length new) refl inside in
+    let whole : take (used + length new) (put_mid used k levels new) ≡ take used levels ++ new = take-put_mid used k levels new
+    (used + length new) refl inside in
     let count : used ≡ length (take used levels) = sym (length-take-le used levels inside) in
     sym (take-take (used + r) (used + length new) (put_mid used k levels new) (omega arith))
     ∙ ap (take (used + r)) whole
@@ -172,21 +180,30 @@ put_behind used r levels new before more inside few b m =
 
 -- a stretch behind those before it
 module _ (gain : GainValue) (grid : GridValue) (raws : List ℤ) (from to : ℕ) (h : from ≤ to) where
-  stretch_more : history grid gain (take from raws) ++ history grid gain (take (to - from) (drop from raws)) ≡ history grid gain (take to raws)
+  stretch_more : history grid gain (take from raws) ++ history grid gain (take (to - from) (drop from raws)) ≡ history grid
+      gain (take to raws)
   stretch_more =
       let n : from + (to - from) ≡ to = omega arith in
       sym (history-append grid gain (take from raws) (take (to - from) (drop from raws)))
       ∙ ap (history grid gain) (sym (take-add from (to - from) raws) ∙ ap (λ n. take n raws) n)
 
-  pub stretch_levels : (used r : ℕ) (levels new : List ℕ) → used ≤ length levels → r ≤ length new → take used levels ≡ history grid gain (take from raws) →
+  pub stretch_levels : (used r : ℕ) (levels new : List ℕ) → used ≤ length levels → r ≤ length new →
+      take used levels ≡ history grid gain (take from raws) →
       take r new ≡ history grid gain (take (to - from) (drop from raws)) →
       take (used + r) (put_mid used (length levels - used) levels new) ≡ history grid gain (take to raws)
   stretch_levels used r levels new inside few b m = put_behind used r levels new _ _ inside few b m ∙ stretch_more
 
-  pub stretch_used : (used r : ℕ) → used ≡ length (history grid gain (take from raws)) → r ≡ length (history grid gain (take (to - from) (drop from raws))) →
+  pub stretch_used : (used r : ℕ) → used ≡ length (history grid gain (take from raws)) →
+      r ≡ length (history grid gain (take (to - from) (drop from raws))) →
       used + r ≡ length (history grid gain (take to raws))
   stretch_used used r b m =
-      omega (arith, b, m, length-append (history grid gain (take from raws)) (history grid gain (take (to - from) (drop from raws))), ap length stretch_more)
+      omega (
+        arith,
+        b,
+        m,
+        length-append (history grid gain (take from raws)) (history grid gain (take (to - from) (drop from raws))),
+        ap length stretch_more,
+      )
 
 -- no more levels than values
 pub few_levels : (gain : GainValue) (grid : GridValue) (raws : List ℤ) → length (history grid gain raws) ≤ length raws

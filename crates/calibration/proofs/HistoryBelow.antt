@@ -13,18 +13,22 @@ use Rattle.calibration.specs.declared.reading.Reading.TheVariants.{Missing, Refu
 abbrev Below : ℕ → List ℕ → Type 0
 Below classes levels = All (λ l. l < classes) levels
 
-class_below : (classes n : ℕ) (b : Bool) (rest : List ℕ) → nat_lt n classes ≡ b → Below classes rest → Below classes (cons_option (level_in (if b then Level n else Refused)) rest)
+class_below : (classes n : ℕ) (b : Bool) (rest : List ℕ) → nat_lt n classes ≡ b → Below classes rest →
+    Below classes (cons_option (level_in (if b then Level n else Refused)) rest)
 class_below classes n true rest is below = All-cons (λ l. l < classes) n rest (grind (arith, nat_tests, is)) below
 class_below classes n false rest is below = below
 
-grid_below : (grid : GridValue) (z : ℤ) (rest : List ℕ) → Below grid.classes rest → Below grid.classes (cons_option (level_in (in_grid grid z)) rest)
+grid_below : (grid : GridValue) (z : ℤ) (rest : List ℕ) → Below grid.classes rest →
+    Below grid.classes (cons_option (level_in (in_grid grid z)) rest)
 grid_below grid (pos n) rest below = class_below grid.classes n _ rest refl below
 grid_below grid (negsuc n) rest below = below
 
-reading_below : (grid : GridValue) (missing : Bool) (z : ℤ) (rest : List ℕ) → Below grid.classes rest → Below grid.classes (cons_option (level_in (if missing then Missing else in_grid grid z)) rest)
+reading_below : (grid : GridValue) (missing : Bool) (z : ℤ) (rest : List ℕ) → Below grid.classes rest →
+    Below grid.classes (cons_option (level_in (if missing then Missing else in_grid grid z)) rest)
 reading_below grid true z rest below = below
 reading_below grid false z rest below = grid_below grid z rest below
 
 pub history_below : (grid : GridValue) (gain : GainValue) (w : List ℤ) → All (λ l. l < grid.classes) (history grid gain w)
 history_below grid gain [] = All-nil (λ l. l < grid.classes)
-history_below grid gain (raw ∷ w) = reading_below grid (is_missing raw) (class_of grid (stress_of gain raw)) (history grid gain w) (history_below grid gain w)
+history_below grid gain (raw ∷ w) =
+    reading_below grid (is_missing raw) (class_of grid (stress_of gain raw)) (history grid gain w) (history_below grid gain w)

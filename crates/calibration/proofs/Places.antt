@@ -41,7 +41,8 @@ pub place_is : (gain : GainValue) (grid : GridValue) (raw shift n x : ℤ) (u li
     shift ≡ (gain.offset -ℤ grid.low_kpa) *ℤ pos gain.den → limit ≡ grid.classes * width_of gain grid →
     s ≡ 2 ^ 49 / width_of gain grid → m ≡ 2 ^ 112 / (width_of gain grid * s) + 1 →
     n ≡ gain.num →
-    x ≡ to_z w32 (of_z w32 raw) *ℤ to_z w64 (of_z w64 n) +ℤ to_z w64 (of_z w64 shift) → FitsSigned w64 x → u ≡ of_z w64 (to_z w64 (of_z w64 x)) →
+    x ≡ to_z w32 (of_z w32 raw) *ℤ to_z w64 (of_z w64 n) +ℤ to_z w64 (of_z w64 shift) → FitsSigned w64 x →
+    u ≡ of_z w64 (to_z w64 (of_z w64 x)) →
     l ≡ u * s % 2 ^ 64 * m / 2 ^ 112 →
     level_in (reading_of gain grid raw) ≡ (if nat_lt u limit && not missing then Some (l % 65536) else None)
 place_is gain grid raw shift n x u limit s m l missing g h f k z b r t o j e a d =
@@ -55,7 +56,8 @@ place_is gain grid raw shift n x u limit s m l missing g h f k z b r t o j e a d
     let same : l ≡ quotient = d ∙ ap (λ y. y * m / 2 ^ 112) whole in
     let (_, inside) = class_is gain grid u limit s m quotient g h b r t refl less in
     let small : l % 65536 ≡ quotient = omega (arith, same, inside, h.classes_to) in
-    sym (level_is gain grid raw shift n x u limit s m quotient g h f (is_present raw f (sym k ∙ there)) z b r t o j e a refl less) ∙ ap Level (sym small))
+    sym (level_is gain grid raw shift n x u limit s m quotient g h f (is_present raw f (sym k ∙ there)) z b r t o j e a refl less)
+    ∙ ap Level (sym small))
     (λ there above.
     let past : limit ≤ u = grind (arith, nat_tests, above) in
     sym (refused_is gain grid raw shift n x u limit g h f (is_present raw f (sym k ∙ there)) z b o j e a past))
@@ -64,12 +66,14 @@ place_is gain grid raw shift n x u limit s m l missing g h f k z b r t o j e a d
 pub put_more : (b : Bool) (v used : ℕ) (levels before : List ℕ) → used < length levels → take used levels ≡ before →
     take (used + bool_byte b) (set levels used v) ≡ before ++ cons_option (if b then Some v else None) []
 put_more true v used levels before inside is = take_more_set levels used v inside ∙ ap (λ l. l ++ v ∷ []) is
-put_more false v used levels before inside is = ap (λ n. take n (set levels used v)) (none used) ∙ take-set levels used v ∙ is ∙ sym (append-nil before)
+put_more false v used levels before inside is =
+    ap (λ n. take n (set levels used v)) (none used) ∙ take-set levels used v ∙ is ∙ sym (append-nil before)
   where
     none : (used : ℕ) → used + 0 ≡ used
     none used = omega arith
 
-count_more : (b : Bool) (v used : ℕ) (before : List ℕ) → used ≡ length before → used + bool_byte b ≡ length (before ++ cons_option (if b then Some v else None) [])
+count_more : (b : Bool) (v used : ℕ) (before : List ℕ) → used ≡ length before →
+    used + bool_byte b ≡ length (before ++ cons_option (if b then Some v else None) [])
 count_more true v used before is = omega (arith, is, length-append before (v ∷ []))
 count_more false v used before is = omega (arith, is, ap length (append-nil before))
 
@@ -99,17 +103,20 @@ module _ (gain : GainValue) (grid : GridValue) where
   used_more raws i d raw b v used inside here is count =
       count_more b v used (history grid gain (take i raws)) count ∙ ap length (history_more raws i d raw b v inside here is)
 
-  pub levels_more : (raws : List ℤ) (i : ℕ) (d raw : ℤ) (b : Bool) (v used : ℕ) (levels : List ℕ) → i < length raws → raw ≡ get_or raws i d → used < length levels →
+  pub levels_more : (raws : List ℤ) (i : ℕ) (d raw : ℤ) (b : Bool) (v used : ℕ) (levels : List ℕ) → i < length raws →
+      raw ≡ get_or raws i d → used < length levels →
       level_in (reading_of gain grid raw) ≡ (if b then Some v else None) → take used levels ≡ history grid gain (take i raws) →
       take (used + bool_byte b) (set levels used v) ≡ history grid gain (take (i + 1) raws)
   levels_more raws i d raw b v used levels inside here room is before =
       put_more b v used levels (history grid gain (take i raws)) room before ∙ history_more raws i d raw b v inside here is
 
-  pub missing_more : (raws : List ℤ) (i : ℕ) (d raw : ℤ) (missing : ℕ) → i < length raws → raw ≡ get_or raws i d → missing ≡ missing_count grid gain (take i raws) →
+  pub missing_more : (raws : List ℤ) (i : ℕ) (d raw : ℤ) (missing : ℕ) → i < length raws → raw ≡ get_or raws i d →
+      missing ≡ missing_count grid gain (take i raws) →
       missing + bool_byte (is_missing raw) ≡ missing_count grid gain (take (i + 1) raws)
   missing_more raws i d raw missing inside here is =
       let one : missing_count grid gain (raw ∷ []) ≡ bool_byte (is_missing raw) =
-      ap (λ b. 0 + (if b then 1 else 0)) (missing_reading (is_missing raw) grid (class_of grid (stress_of gain raw))) ∙ zero_or_one (is_missing raw) in
+      ap (λ b. 0 + (if b then 1 else 0)) (missing_reading (is_missing raw) grid (class_of grid (stress_of gain raw))) ∙ zero_or_one
+      (is_missing raw) in
       ap (λ n. n + bool_byte (is_missing raw)) is ∙ ap (λ n. missing_count grid gain (take i raws) + n) (sym one)
       ∙ ap (λ r. missing_count grid gain (take i raws) + missing_count grid gain (r ∷ [])) here
       ∙ sym (missing_count-append grid gain (take i raws) (get_or raws i d ∷ []))
@@ -120,15 +127,18 @@ module _ (gain : GainValue) (grid : GridValue) where
       zero_or_one false = refl
 
   -- each value has a level, is missing or is refused
-  one_each : (r : Reading) → length (cons_option (level_in r) []) + (0 + (if is_missing_reading r then 1 else 0)) + (0 + (if is_refused_reading r then 1 else 0)) ≡ 1
+  one_each : (r : Reading) → length (cons_option (level_in r) []) + (0 + (if is_missing_reading r then 1 else 0)) +
+      (0 + (if is_refused_reading r then 1 else 0)) ≡ 1
   one_each Missing = refl
   one_each Refused = refl
   one_each (Level l) = refl
 
-  pub counts_add : (raws : List ℤ) → length (history grid gain raws) + missing_count grid gain raws + refused_count grid gain raws ≡ length raws
+  pub counts_add : (raws : List ℤ) → length (history grid gain raws) + missing_count grid gain raws + refused_count grid gain
+      raws ≡ length raws
   counts_add [] = refl
   counts_add (raw ∷ raws) =
-      let first : length (history grid gain (raw ∷ [])) + missing_count grid gain (raw ∷ []) + refused_count grid gain (raw ∷ []) ≡ 1 = one_each (reading_of gain grid raw) in
+      let first : length (history grid gain (raw ∷ [])) + missing_count grid gain (raw ∷ []) + refused_count grid gain (raw ∷ []) ≡ 1 =
+      one_each (reading_of gain grid raw) in
       let others = counts_add raws in
       let levels : length (history grid gain (raw ∷ raws)) ≡ length (history grid gain (raw ∷ [])) + length (history grid gain raws) =
       ap length (history-append grid gain (raw ∷ []) raws) ∙ length-append (history grid gain (raw ∷ [])) (history grid gain raws) in

@@ -55,7 +55,8 @@ pub record Collected (b c : BoardValue) (p q : PoolValue) (old new : List Return
   pub lists : ℕ → List CountedValue
   pub taken : (v : ℕ) (d : Return) → v < length old
       → taken (slice_index_or new v d).taker ≡ taken (slice_index_or old v d).taker ++ returned (lists v)
-  pub same : (v : ℕ) (d : Return) → v < length old → IsSameTaker (slice_index_or old v d).taker (slice_index_or new v d).taker
+  pub same : (v : ℕ) (d : Return) → v < length old →
+      IsSameTaker (slice_index_or old v d).taker (slice_index_or new v d).taker
   pub units : List CountedValue
   pub mixed : Mixed (length old) lists units
   pub deposited : Deposited b c p q units

@@ -37,7 +37,8 @@ abbrev pub column_answer : List ℕ → Option (List ℕ) → Status
 column_answer name None = ReadFault
 column_answer name (Some text) = text_answer name text
 
--- A fault of the outside may come at any time, memory may run out over each file, and only a column without a fault is written.
+-- A fault of the outside may come at any time, memory may run out over each file, and only a column without a fault is
+-- written.
 abbrev pub MayAnswer : Status → List ℕ → Option (List ℕ) → Type 0
 MayAnswer Usage name file = ⊥
 MayAnswer ReadFault name file = ⊤

@@ -47,21 +47,25 @@ pub table_refused : (a : App) (words : List Text) → a ≡ table_app → HasRea
 table_refused a words is h = line_by-refused table_app table_in words (has_read-as a table_app words None is h)
 
 -- what each gives where clap takes the words
-pub table_taken : (a : App) (words : List Text) (m : ArgMatches) → a ≡ table_app → HasRead a words (Some m) → table_line words ≡ option_map Table (first_value (found_of m) (codes "file"))
+pub table_taken : (a : App) (words : List Text) (m : ArgMatches) → a ≡ table_app → HasRead a words (Some m) →
+    table_line words ≡ option_map Table (first_value (found_of m) (codes "file"))
 table_taken a words m is h =
     let read = has_read-as a table_app words (Some m) is h in
     line_by-taken table_app table_in words m read ∙ ap (option_map Table) (sym (read.1 (codes "file")))
 
-pub without_arguments_refused : (a b : App) (command : Command) (words : List Text) → a ≡ b → HasRead a words None → line_without_arguments b command words ≡ None
+pub without_arguments_refused : (a b : App) (command : Command) (words : List Text) → a ≡ b → HasRead a words None →
+    line_without_arguments b command words ≡ None
 without_arguments_refused a b command words is h = line_by-refused b (λ rows. Some command) words (has_read-as a b words None is h)
 
-pub without_arguments_taken : (a b : App) (command : Command) (words : List Text) (m : ArgMatches) → a ≡ b → HasRead a words (Some m) → line_without_arguments b command words ≡ Some command
+pub without_arguments_taken : (a b : App) (command : Command) (words : List Text) (m : ArgMatches) → a ≡ b → HasRead a words (Some m) →
+    line_without_arguments b command words ≡ Some command
 without_arguments_taken a b command words m is h = line_by-taken b (λ rows. Some command) words m (has_read-as a b words (Some m) is h)
 
 pub count_refused : (a : App) (words : List Text) → a ≡ count_app → HasRead a words None → count_line words ≡ None
 count_refused a words is h = line_by-refused count_app count_in words (has_read-as a count_app words None is h)
 
-pub count_taken : (a : App) (words : List Text) (m : ArgMatches) → a ≡ count_app → HasRead a words (Some m) → count_line words ≡ count_with (first_value (found_of m) (codes "workers"))
+pub count_taken : (a : App) (words : List Text) (m : ArgMatches) → a ≡ count_app → HasRead a words (Some m) →
+    count_line words ≡ count_with (first_value (found_of m) (codes "workers"))
 count_taken a words m is h =
     let read = has_read-as a count_app words (Some m) is h in
     line_by-taken count_app count_in words m read ∙ ap count_with (sym (read.1 (codes "workers")))
@@ -72,10 +76,13 @@ demo_refused a words is h = line_by-refused demo_app demo_in words (has_read-as 
 pub same_demo : (a b c d e f : Option Text) → a ≡ b → c ≡ d → e ≡ f → demo_with a c e ≡ demo_with b d f
 same_demo a b c d e f x y z = rw (x, y, z) refl
 
-pub demo_taken : (a : App) (words : List Text) (m : ArgMatches) → a ≡ demo_app → HasRead a words (Some m) → demo_line words ≡ demo_with (first_value (found_of m) (codes "seed")) (first_value (found_of m) (codes "samples")) (first_value (found_of m) (codes "workers"))
+pub demo_taken : (a : App) (words : List Text) (m : ArgMatches) → a ≡ demo_app → HasRead a words (Some m) →
+    demo_line words ≡ demo_with (first_value (found_of m) (codes "seed")) (first_value (found_of m) (codes "samples"))
+    (first_value (found_of m) (codes "workers"))
 demo_taken a words m is h =
     let read = has_read-as a demo_app words (Some m) is h in
-    line_by-taken demo_app demo_in words m read ∙ sym (same_demo _ _ _ _ _ _ (read.1 (codes "seed")) (read.1 (codes "samples")) (read.1 (codes "workers")))
+    line_by-taken demo_app demo_in words m read ∙ sym (same_demo _ _ _ _ _ _ (read.1 (codes "seed")) (read.1 (codes "samples"))
+    (read.1 (codes "workers")))
 
 pub column_refused : (a : App) (words : List Text) → a ≡ column_app → HasRead a words None → column_line words ≡ None
 column_refused a words is h = line_by-refused column_app column_in words (has_read-as a column_app words None is h)
@@ -84,7 +91,9 @@ pub same_column : (a b c d e f g h : Option Text) → a ≡ b → c ≡ d → e 
 same_column a b c d e f g h w x y z = rw (w, x, y, z) refl
 
 pub column_taken : (a : App) (words : List Text) (m : ArgMatches) → a ≡ column_app → HasRead a words (Some m)
-    → column_line words ≡ column_with (first_value (found_of m) (codes "file")) (first_value (found_of m) (codes "name")) (first_value (found_of m) (codes "id")) (first_value (found_of m) (codes "period"))
+    → column_line words ≡ column_with (first_value (found_of m) (codes "file")) (first_value (found_of m) (codes "name"))
+    (first_value (found_of m) (codes "id")) (first_value (found_of m) (codes "period"))
 column_taken a words m is h =
     let read = has_read-as a column_app words (Some m) is h in
-    line_by-taken column_app column_in words m read ∙ sym (same_column _ _ _ _ _ _ _ _ (read.1 (codes "file")) (read.1 (codes "name")) (read.1 (codes "id")) (read.1 (codes "period")))
+    line_by-taken column_app column_in words m read ∙ sym (same_column _ _ _ _ _ _ _ _ (read.1 (codes "file")) (read.1 (codes "name"))
+    (read.1 (codes "id")) (read.1 (codes "period")))

@@ -26,7 +26,8 @@ numeral_of ds e = let (some, all) = and_parts _ _ e in (ltb-true _ _ some, digit
 abbrev pub Spells : List ℕ → Type 0
 Spells text = IsNumeral 10 (without_leading_plus text) × (digits_value 10 (without_leading_plus text) < 2 ^ 64)
 
-pub number_in-parsed : (low high n : ℕ) (text : List ℕ) → Spells text × (n ≡ digits_value 10 (without_leading_plus text)) → number_in low high text ≡ within_limits low high n
+pub number_in-parsed : (low high n : ℕ) (text : List ℕ) → Spells text × (n ≡ digits_value 10 (without_leading_plus text)) →
+    number_in low high text ≡ within_limits low high n
 number_in-parsed low high n text h = rw (numeral (without_leading_plus text) h.0.0, h.1) refl
 
 pub within_limits-inside : (low high n : ℕ) → low ≤ n → n ≤ high → within_limits low high n ≡ Some n
@@ -40,9 +41,12 @@ within_limits-above low high n a = grind (arith, nat_tests)
 
 -- a word that is refused spells no such number
 pub number_in-refused : (low high : ℕ) (text : List ℕ) → high < 2 ^ 64 → (Spells text → ⊥) → number_in low high text ≡ None
-number_in-refused low high text fits h = go (is_numeral (without_leading_plus text)) refl (cases_lt (digits_value 10 (without_leading_plus text)) (2 ^ 64))
+number_in-refused low high text fits h =
+    go (is_numeral (without_leading_plus text)) refl (cases_lt (digits_value 10 (without_leading_plus text)) (2 ^ 64))
   where
-    go : (b : Bool) → is_numeral (without_leading_plus text) ≡ b → (digits_value 10 (without_leading_plus text) < 2 ^ 64) ⊎ (2 ^ 64 ≤ digits_value 10 (without_leading_plus text)) → number_in low high text ≡ None
+    go : (b : Bool) → is_numeral (without_leading_plus text) ≡ b →
+        (digits_value 10 (without_leading_plus text) < 2 ^ 64) ⊎ (2 ^ 64 ≤ digits_value 10 (without_leading_plus text)) →
+        number_in low high text ≡ None
     go false t size = rw t refl
     go true t (inl few) = absurd (h (numeral_of _ t, few))
     go true t (inr many) = rw t (within_limits-above low high (digits_value 10 (without_leading_plus text)) (omega (arith, fits, many)))

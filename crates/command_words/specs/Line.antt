@@ -1,4 +1,5 @@
--- What the words of a command line mean. The first word names the command. The words behind it are read by clap's own definition of a
+-- What the words of a command line mean. The first word names the command. The words behind it are read by clap's own
+-- definition of a
 -- simple command: an option comes once, a request for help is refused, and numbers are those of Rust's `parse`.
 --   Command                    a command, with the values of its words
 --   is_accepted_by             clap takes the words
@@ -50,7 +51,8 @@ abbrev pub within_limits : ℕ → ℕ → ℕ → Option ℕ
 within_limits low high n = if nat_le low n && nat_le n high then Some n else None
 
 abbrev pub number_in : ℕ → ℕ → Text → Option ℕ
-number_in low high text = if is_numeral (without_leading_plus text) then within_limits low high (digits_value 10 (without_leading_plus text)) else None
+number_in low high text = if is_numeral (without_leading_plus text) then within_limits low high
+    (digits_value 10 (without_leading_plus text)) else None
 
 abbrev pub number_at : ℕ → ℕ → Option Text → Option ℕ
 number_at low high None = None
@@ -116,7 +118,10 @@ abbrev pub seed_rule : Rule
 seed_rule = record (option_rule (codes "seed")) { defaults = codes "0" ∷ []; parser = Some (Unsigned 0 MAX_SEED) }
 
 abbrev pub samples_rule : Rule
-samples_rule = record (option_rule (codes "samples")) { defaults = codes "100000" ∷ []; parser = Some (Signed (pos 1) (pos MAX_DEMO_SAMPLES)) }
+samples_rule = record (option_rule (codes "samples")) {
+  defaults = codes "100000" ∷ [];
+  parser = Some (Signed (pos 1) (pos MAX_DEMO_SAMPLES));
+}
 
 abbrev pub demo_workers_rule : Rule
 demo_workers_rule = record workers_rule { defaults = codes "4" ∷ [] }
@@ -132,7 +137,8 @@ demo_with seed samples workers = do
   Some (Demo seed samples workers)
 
 abbrev pub demo_in : List Row → Option Command
-demo_in rows = demo_with (first_of (codes "seed") rows) (first_of (codes "samples") rows) (first_of (codes "workers") rows)
+demo_in rows =
+    demo_with (first_of (codes "seed") rows) (first_of (codes "samples") rows) (first_of (codes "workers") rows)
 
 abbrev pub demo_line : List Text → Option Command
 demo_line = line_by demo_app demo_in
@@ -155,7 +161,8 @@ id_at (Some text) = id_in text
 -- column FILE NAME ID PERIOD
 abbrev pub column_app : App
 column_app =
-    with_rule (with_rule (with_rule (with_rule (new_app (codes "column")) (place_rule (codes "file"))) (place_rule (codes "name"))) (place_rule (codes "id"))) (place_rule (codes "period"))
+    with_rule (with_rule (with_rule (with_rule (new_app (codes "column")) (place_rule (codes "file")))
+    (place_rule (codes "name"))) (place_rule (codes "id"))) (place_rule (codes "period"))
 
 abbrev pub column_with : Option Text → Option Text → Option Text → Option Text → Option Command
 column_with file name id period = do
@@ -166,7 +173,8 @@ column_with file name id period = do
   Some (Column file name id period)
 
 abbrev pub column_in : List Row → Option Command
-column_in rows = column_with (first_of (codes "file") rows) (first_of (codes "name") rows) (first_of (codes "id") rows) (first_of (codes "period") rows)
+column_in rows = column_with (first_of (codes "file") rows) (first_of (codes "name") rows) (first_of (codes "id") rows)
+    (first_of (codes "period") rows)
 
 abbrev pub column_line : List Text → Option Command
 column_line = line_by column_app column_in

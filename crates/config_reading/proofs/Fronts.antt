@@ -36,7 +36,8 @@ front_of n room bytes left rest long within is end =
     by more all (inl full) = grind (arith, all, full)
     by more all (inr none) = grind (arith, all, none, within)
 
-pub meaning_front : (n : ℕ) (bytes left : List ℕ) → IsFront n bytes (MAX_BYTES + 1) left → config_of_bytes (take n bytes) ≡ config_of_bytes left
+pub meaning_front : (n : ℕ) (bytes left : List ℕ) → IsFront n bytes (MAX_BYTES + 1) left →
+    config_of_bytes (take n bytes) ≡ config_of_bytes left
 meaning_front n bytes left f = go (cases_lt MAX_BYTES (length left))
   where
     go : (MAX_BYTES < length left) ⊎ (length left ≤ MAX_BYTES) → config_of_bytes (take n bytes) ≡ config_of_bytes left

@@ -53,10 +53,12 @@ sound_lane g (end.Torn b) other is = absurd cc
 sound_lane g end.ReadFault other is = absurd cc
 sound_lane g end.TooLong other is = absurd cc
 
-ended_at : (w : List ℤ) (rest : ℕ) (left : List ℕ) (at : ℕ) (e : End) → e ≡ end.Ended → Stood w rest left at e → (at ≡ length w) × (rest ≡ 0)
+ended_at : (w : List ℤ) (rest : ℕ) (left : List ℕ) (at : ℕ) (e : End) → e ≡ end.Ended → Stood w rest left at e →
+    (at ≡ length w) × (rest ≡ 0)
 ended_at w rest left at e is s = subst (λ (x : End). Stood w rest left at x) is s
 
-cut_at : (w : List ℤ) (rest : ℕ) (left : List ℕ) (at : ℕ) (e : End) → at ≤ MAX_SAMPLES → e ≢ end.More → e ≢ end.ReadFault → Stood w rest left at e → at ≡ min (length w) (MAX_SAMPLES)
+cut_at : (w : List ℤ) (rest : ℕ) (left : List ℕ) (at : ℕ) (e : End) → at ≤ MAX_SAMPLES → e ≢ end.More → e ≢ end.ReadFault →
+    Stood w rest left at e → at ≡ min (length w) (MAX_SAMPLES)
 cut_at w rest left at end.More le other read s = absurd (other refl)
 cut_at w rest left at end.Ended le other read s = grind (arith, le, s.0)
 cut_at w rest left at (end.Torn b) le other read s = grind (arith, le, s.0)
@@ -64,13 +66,16 @@ cut_at w rest left at end.ReadFault le other read s = absurd (read refl)
 cut_at w rest left at end.TooLong le other read s = grind (arith, s.0, s.1)
 
 -- how a recording ends, over plain numbers
-sound_end : (g len part : ℕ) → len ≤ MAX_SAMPLES → part ≡ 0 → (if nat_lt MAX_SAMPLES len then Some (TooLong g) else (if part == 0 then None else Some (Torn g part))) ≡ None
+sound_end : (g len part : ℕ) → len ≤ MAX_SAMPLES → part ≡ 0 →
+    (if nat_lt MAX_SAMPLES len then Some (TooLong g) else (if part == 0 then None else Some (Torn g part))) ≡ None
 sound_end g len part le is = grind (arith, nat_tests, le, is)
 
-torn_end : (g len part b : ℕ) → len ≤ MAX_SAMPLES → part ≡ b → 0 < b → (if nat_lt MAX_SAMPLES len then Some (TooLong g) else (if part == 0 then None else Some (Torn g part))) ≡ Some (Torn g b)
+torn_end : (g len part b : ℕ) → len ≤ MAX_SAMPLES → part ≡ b → 0 < b →
+    (if nat_lt MAX_SAMPLES len then Some (TooLong g) else (if part == 0 then None else Some (Torn g part))) ≡ Some (Torn g b)
 torn_end g len part b le is some = grind (arith, nat_tests, le, is, some)
 
-long_end : (g len part : ℕ) → MAX_SAMPLES < len → (if nat_lt MAX_SAMPLES len then Some (TooLong g) else (if part == 0 then None else Some (Torn g part))) ≡ Some (TooLong g)
+long_end : (g len part : ℕ) → MAX_SAMPLES < len →
+    (if nat_lt MAX_SAMPLES len then Some (TooLong g) else (if part == 0 then None else Some (Torn g part))) ≡ Some (TooLong g)
 long_end g len part le = grind (arith, nat_tests, le)
 
 abbrev value_or : {A : Type 0} → A → Option A → A
@@ -93,7 +98,8 @@ stand_for r s seen leaves stored all =
     let bodies = subst (λ (x : Setup). AllStand x r.samples stored.bodies) (sym stored.setup) stored.stand in
     subst (λ (x : Setup). AllStandFor x r.samples s.held) stored.setup (λ g d lt. (
       (held_is s.head.setup.grid g stored.bodies (slice_index_or s.held g d) (stored.on.held g d lt)).grid_is,
-      subst (λ (l : List ℤ). Stands (slice_index_or s.held g d) (gain_at s.head.setup g) l) (take_all (slice_index (ends_of s.held) g) (r.samples g) (all g lt))
+      subst (λ (l : List ℤ). Stands (slice_index_or s.held g d) (gain_at s.head.setup g) l)
+          (take_all (slice_index (ends_of s.held) g) (r.samples g) (all g lt))
           (held_stand s stored.bodies seen leaves stored.on r.samples bodies g d lt),
     ))
 
@@ -102,7 +108,8 @@ pub agrees : (c : Config) (w : ℕ → List ℤ) (held : List SegmentValue) → 
 agrees c w held stand g d lt rules =
     let here = stand g d lt in
     let v = slice_index_or held g d in
-    subst (λ (x : GridValue). Agree x (figures_of v) (figures x (gain_at c.setup g) (w g))) here.0 (figures_stand v (gain_at c.setup g) (w g) here.1 rules)
+    subst (λ (x : GridValue). Agree x (figures_of v) (figures x (gain_at c.setup g) (w g))) here.0
+    (figures_stand v (gain_at c.setup g) (w g) here.1 rules)
 
 by_printing : (P : Status → Type 0) → P Done → P WriteFault → (s : Status) → IsPrinting s → P s
 by_printing P d w Done is = d
@@ -119,7 +126,8 @@ by_printing P d w (TooLong g) is = absurd is
 by_printing P d w (Differs g x y z) is = absurd is
 
 -- the answer of a lane is one of three
-pub by_fault : (P : Status → Type 0) (g : ℕ) → ((b : ℕ) → P (Torn g b)) → P ReadFault → P (TooLong g) → (e : End) (s : Status) → lane_fault g e ≡ Some s → P s
+pub by_fault : (P : Status → Type 0) (g : ℕ) → ((b : ℕ) → P (Torn g b)) → P ReadFault → P (TooLong g) → (e : End) (s : Status) →
+    lane_fault g e ≡ Some s → P s
 by_fault P g torn read long end.More s is = absurd cc
 by_fault P g torn read long end.Ended s is = absurd cc
 by_fault P g torn read long (end.Torn b) s is = subst P (some_is is) (torn b)
@@ -142,7 +150,8 @@ read_lane g (end.Torn b) s is read = absurd cc
 read_lane g end.ReadFault s is read = refl
 read_lane g end.TooLong s is read = absurd cc
 
-pub same_nothing : (s : Status) (c : Config) (w : ℕ → List ℤ) (old : List ℕ) (g : ℕ) (e : End) → lane_fault g e ≡ Some s → Prints s c w old old
+pub same_nothing : (s : Status) (c : Config) (w : ℕ → List ℤ) (old : List ℕ) (g : ℕ) (e : End) → lane_fault g e ≡ Some s →
+    Prints s c w old old
 same_nothing s c w old g e is = by_fault (λ (x : Status). Prints x c w old old) g (λ b. refl) refl refl e s is
 
 pub ending : (s : Status) → IsPrinting s → IsEnding s
@@ -158,15 +167,21 @@ cut_printing r leaves = by_printing (λ s. HeldCut s r leaves) tt tt
 pub printing_stored : (s : Status) → IsPrinting s → LeavesStore s → ⊥
 printing_stored = by_printing (λ s. LeavesStore s → ⊥) (λ is. is) (λ is. is)
 
-module _ {C : Type 0} {tells : Type 0} {left : C → List ℕ} (c : Config) (files : Files) (lanes : List (Lane C)) (t : tells) (are : AreLanes tells left (recorded c files) lanes) (ends : List ℕ) (held : AreHeldTo ends lanes) (ended : All HasEnded lanes) (many : length lanes ≡ length c.gauges) where
+module _ {C : Type 0} {tells : Type 0} {left : C → List ℕ} (c : Config) (files : Files) (lanes : List (Lane C)) (t : tells)
+    (are : AreLanes tells left (recorded c files) lanes) (ends : List ℕ) (held : AreHeldTo ends lanes) (ended : All HasEnded lanes)
+    (many : length lanes ≡ length c.gauges) where
   r : Recorded
   r = recorded c files
 
-  stood : (g : ℕ) (d : Lane C) (lt : g < length lanes) → Stood (samples (body_in (files (file_of c g)))) (torn_bytes (body_in (files (file_of c g)))) (left (held g d lt).0.src) (slice_index_or lanes g d).at (slice_index_or lanes g d).end
+  stood : (g : ℕ) (d : Lane C) (lt : g < length lanes) →
+      Stood (samples (body_in (files (file_of c g)))) (torn_bytes (body_in (files (file_of c g)))) (left (held g d lt).0.src)
+      (slice_index_or lanes g d).at (slice_index_or lanes g d).end
   stood g d lt = (are g d lt).stood t (held g d lt).0.src (held g d lt).0.has
 
   -- below the lowest fault
-  all_at : (k : ℕ) → k ≤ length lanes → NoFaultBelow lanes k → (g : ℕ) → g < k → (slice_index ends g ≡ length (samples (body_in (files (file_of c g))))) × (torn_bytes (body_in (files (file_of c g))) ≡ 0) × (slice_index ends g ≤ MAX_SAMPLES)
+  all_at : (k : ℕ) → k ≤ length lanes → NoFaultBelow lanes k → (g : ℕ) → g < k →
+      (slice_index ends g ≡ length (samples (body_in (files (file_of c g))))) × (torn_bytes (body_in (files (file_of c g))) ≡ 0)
+      × (slice_index ends g ≤ MAX_SAMPLES)
   all_at k le none g lt =
       let within : g < length lanes = omega (arith, lt, le) in
       let d = any_of lanes g within in
@@ -181,28 +196,41 @@ module _ {C : Type 0} {tells : Type 0} {left : C → List ℕ} (c : Config) (fil
       let all = subst (λ (n : ℕ). AllSound c files n) many (sound_below (length lanes) (omega arith) none) in
       by_printing (EndAnswers c files) all all
 
-  pub end_fault : (s : Status) (g : ℕ) → g < length lanes → ((d : Lane C) → lane_fault g (slice_index_or lanes g d).end ≡ Some s) → NoFaultBelow lanes g → EndAnswers c files s
+  pub end_fault : (s : Status) (g : ℕ) → g < length lanes → ((d : Lane C) → lane_fault g (slice_index_or lanes g d).end ≡ Some s) →
+      NoFaultBelow lanes g → EndAnswers c files s
   end_fault s g lt is none =
-      let d = any_of lanes g lt in by_end (slice_index_or lanes g d).at (left (held g d lt).0.src) (slice_index_or lanes g d).end (held g d lt).0.at (is d) (stood g d lt)
+      let d = any_of lanes g lt in by_end (slice_index_or lanes g d).at (left (held g d lt).0.src) (slice_index_or lanes g d).end
+      (held g d lt).0.at (is d) (stood g d lt)
     where
-      by_end : (at : ℕ) (l : List ℕ) (e : End) → at ≤ MAX_SAMPLES → lane_fault g e ≡ Some s → Stood (samples (body_in (files (file_of c g)))) (torn_bytes (body_in (files (file_of c g)))) l at e → EndAnswers c files s
+      by_end : (at : ℕ) (l : List ℕ) (e : End) → at ≤ MAX_SAMPLES → lane_fault g e ≡ Some s →
+          Stood (samples (body_in (files (file_of c g)))) (torn_bytes (body_in (files (file_of c g)))) l at e → EndAnswers c files s
       by_end at l end.More le is st = absurd cc
       by_end at l end.Ended le is st = absurd cc
-      by_end at l (end.Torn b) le is st = subst (EndAnswers c files) (some_is is) (omega (arith, lt, many), sound_below g (omega (arith, lt)) none, torn_end g _ _ b (omega (arith, st.0, le)) st.1 st.2)
+      by_end at l (end.Torn b) le is st = subst (EndAnswers c files) (some_is is)
+          (omega (arith, lt, many), sound_below g (omega (arith, lt)) none, torn_end g _ _ b (omega (arith, st.0, le)) st.1 st.2)
       by_end at l end.ReadFault le is st = subst (EndAnswers c files) (some_is is) tt
-      by_end at l end.TooLong le is st = subst (EndAnswers c files) (some_is is) (omega (arith, lt, many), sound_below g (omega (arith, lt)) none, long_end g _ _ st.1)
+      by_end at l end.TooLong le is st = subst (EndAnswers c files) (some_is is)
+          (omega (arith, lt, many), sound_below g (omega (arith, lt)) none, long_end g _ _ st.1)
 
   -- every image holds all
-  module _ (s : StoreValue) (seen : Image) (leaves : Image → Type 0) (stored : IsStored (recorded c files) s seen leaves) (same : ends_of s.held ≡ ends) where
+  module _ (s : StoreValue) (seen : Image) (leaves : Image → Type 0) (stored : IsStored (recorded c files) s seen leaves)
+      (same : ends_of s.held ≡ ends) where
     pub held_printing : NoFaultBelow lanes (length lanes) → (status : Status) → IsPrinting status → HeldAt status (recorded c files) leaves
     held_printing none =
-        let all : ((f : Image) → leaves f → HoldsBy (recorded c files) (whole (recorded c files)) f) × ((g : ℕ) → g < length c.gauges → torn_bytes (body_in (files (file_of c g))) ≡ 0) = (
-          (λ f has. record { held = ends_of s.held; holds = stored_holds (recorded c files) s seen leaves stored f has; all = λ g lt. ap (λ (e : List ℕ). slice_index e g) same ∙ (all_at (length lanes) (omega arith) none g (omega (arith, lt, many))).0 }),
+        let all : ((f : Image) → leaves f → HoldsBy (recorded c files) (whole (recorded c files)) f)
+        × ((g : ℕ) → g < length c.gauges → torn_bytes (body_in (files (file_of c g))) ≡ 0) = (
+          (λ f has. record {
+            held = ends_of s.held;
+            holds = stored_holds (recorded c files) s seen leaves stored f has;
+            all = λ g lt.
+                ap (λ (e : List ℕ). slice_index e g) same ∙ (all_at (length lanes) (omega arith) none g (omega (arith, lt, many))).0;
+          }),
           (λ g lt. (all_at (length lanes) (omega arith) none g (omega (arith, lt, many))).1),
         ) in
         by_printing (λ (x : Status). HeldAt x (recorded c files) leaves) all all
 
-    pub held_fault : All HasNotFailed lanes → (status : Status) (g : ℕ) (e : End) → lane_fault g e ≡ Some status → HeldCut status (recorded c files) leaves
+    pub held_fault : All HasNotFailed lanes → (status : Status) (g : ℕ) (e : End) → lane_fault g e ≡ Some status →
+        HeldCut status (recorded c files) leaves
     held_fault none status g e is =
         let all : (f : Image) → leaves f → HoldsBy (recorded c files) (cut (recorded c files)) f =
         λ f has. record {
@@ -211,11 +239,13 @@ module _ {C : Type 0} {tells : Type 0} {left : C → List ℕ} (c : Config) (fil
           all = λ h lt.
               let within : h < length lanes = omega (arith, lt, many) in
               let d = any_of lanes h within in
-              ap (λ (e : List ℕ). slice_index e h) same ∙ (held h d within).1 ∙ cut_at _ _ _ _ (slice_index_or lanes h d).end (held h d within).0.at (ended h d within) (none h d within) (stood h d within);
+              ap (λ (e : List ℕ). slice_index e h) same ∙ (held h d within).1 ∙ cut_at _ _ _ _ (slice_index_or lanes h d).end
+              (held h d within).0.at (ended h d within) (none h d within) (stood h d within);
         } in
         by_fault (λ (x : Status). HeldCut x (recorded c files) leaves) g (λ b. all) tt all e status is
 
-  pub all_held : NoFaultBelow lanes (length lanes) → (g : ℕ) → g < length c.gauges → slice_index ends g ≡ length (samples (body_in (files (file_of c g))))
+  pub all_held : NoFaultBelow lanes (length lanes) → (g : ℕ) → g < length c.gauges →
+      slice_index ends g ≡ length (samples (body_in (files (file_of c g))))
   all_held none g lt = (all_at (length lanes) (omega arith) none g (omega (arith, lt, many))).0
 
   pub are_whole : NoFaultBelow lanes (length lanes) → All IsWhole lanes
@@ -229,7 +259,8 @@ module _ {C : Type 0} {tells : Type 0} {left : C → List ℕ} (c : Config) (fil
       not_long : end.Ended ≡ end.TooLong → ⊥
       not_long e = cc
 
-  pub acknowledges : {block : ℕ} {n : List ℕ} {told told2 : Lines} → NoFaultBelow lanes (length lanes) → HasTold block (recorded c files) n told told2 lanes → Acknowledges block (recorded c files) n told told2
+  pub acknowledges : {block : ℕ} {n : List ℕ} {told told2 : Lines} → NoFaultBelow lanes (length lanes) →
+      HasTold block (recorded c files) n told told2 lanes → Acknowledges block (recorded c files) n told told2
   acknowledges {block} {n} {told} {told2} none h = record {
     lines = _;
     grew = h.are;
@@ -246,7 +277,8 @@ module _ {C : Type 0} {tells : Type 0} {left : C → List ℕ} (c : Config) (fil
     reached a len is = grind (arith, is)
 
 -- before the first round
-pub told_starts : {C : Type 0} {tells : Type 0} {left : C → List ℕ} (block : ℕ) (r : Recorded) (n : List ℕ) (told : Lines) (lanes : List (Lane C)) → tells → AreLanes tells left r lanes → AreHeldTo n lanes → HasTold block r n told told lanes
+pub told_starts : {C : Type 0} {tells : Type 0} {left : C → List ℕ} (block : ℕ) (r : Recorded) (n : List ℕ) (told : Lines)
+    (lanes : List (Lane C)) → tells → AreLanes tells left r lanes → AreHeldTo n lanes → HasTold block r n told told lanes
 told_starts block r n told lanes t are held = record {
   rounds = 0;
   are = same_lines told;
@@ -288,7 +320,8 @@ written_back {A} xs ys n long same =
     append_none (x ∷ l) = ap (λ (k : List A). x ∷ k) (append_none l)
 
 -- over a store that was found
-pub answers_over : (c : Config) (image : Image) (files : Files) (h : HeadValue) (n : List ℕ) → ReadsAs c.setup h n image → (s : Status) → IsRunning s → RunAnswers c h.heads (slice_index n) files s → AnswersOver c image files s
+pub answers_over : (c : Config) (image : Image) (files : Files) (h : HeadValue) (n : List ℕ) → ReadsAs c.setup h n image → (s : Status) →
+    IsRunning s → RunAnswers c h.heads (slice_index n) files s → AnswersOver c image files s
 answers_over c image files h n found Done is a = (h, (n, found, a))
 answers_over c image files h n found WriteFault is a = (h, (n, found, a))
 answers_over c image files h n found (Torn g b) is a = (h, (n, found, a))
@@ -303,7 +336,8 @@ answers_over c image files h n found (BadStore f) is a = absurd is
 answers_over c image files h n found (Differs g w x y) is a = absurd is
 
 -- and over one that is refused
-pub refused : {X : Type 0} (setup : Setup) (image : Image) (see : X → ℕ × List ℕ) (f : ResumeFault) → Resumes {X = X} setup image see (Err f)
+pub refused : {X : Type 0} (setup : Setup) (image : Image) (see : X → ℕ × List ℕ) (f : ResumeFault) →
+    Resumes {X = X} setup image see (Err f)
     → IsRefused setup image f
 refused setup image see fault.NotAStore h = h
 refused setup image see (fault.Version v) h = h
@@ -312,7 +346,8 @@ refused setup image see (fault.Damaged index damage) h = h
 refused setup image see fault.DiskFault h = tt
 refused setup image see fault.OutOfMemory h = tt
 
-pub over_refused : (c : Config) (image : Image) (files : Files) (f : ResumeFault) → IsRefused c.setup image f → AnswersOver c image files (store_fault f)
+pub over_refused : (c : Config) (image : Image) (files : Files) (f : ResumeFault) → IsRefused c.setup image f →
+    AnswersOver c image files (store_fault f)
 over_refused c image files fault.NotAStore h = (fault.NotAStore, refl, h)
 over_refused c image files (fault.Version v) h = (fault.Version v, refl, h)
 over_refused c image files (fault.Differs field kept found) h = (fault.Differs field kept found, refl, h)
@@ -321,7 +356,8 @@ over_refused c image files fault.DiskFault h = tt
 over_refused c image files fault.OutOfMemory h = tt
 
 -- and over a configuration that was read
-pub count_answers : (conf : Result Config ConfigFault) (c : Config) (image : Image) (files : Files) → conf ≡ Ok c → (s : Status) → IsCounting s → AnswersOver c image files s → CountAnswers conf image files s
+pub count_answers : (conf : Result Config ConfigFault) (c : Config) (image : Image) (files : Files) → conf ≡ Ok c → (s : Status) →
+    IsCounting s → AnswersOver c image files s → CountAnswers conf image files s
 count_answers conf c image files is Done k a = (c, is, a)
 count_answers conf c image files is WriteFault k a = (c, is, a)
 count_answers conf c image files is (Torn g b) k a = (c, is, a)

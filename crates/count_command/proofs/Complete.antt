@@ -49,7 +49,11 @@ module _ (setup : Setup) (w : ℕ → List ℤ) where
         body_within p.name.from p.name.to (w p.name.gauge) next.body.some stands.span,
         ap (λ (k : ℕ). length (w k)) same,
       )
-      | inr past ↦ omega (arith, get_or_past (set ends p.name.gauge p.name.to) g 0 (omega (arith, past, length-set ends p.name.gauge p.name.to)))
+      | inr past ↦ omega (
+        arith,
+        get_or_past (set ends p.name.gauge p.name.to) g 0
+            (omega (arith, past, length-set ends p.name.gauge p.name.to)),
+      )
     ]
   ]
 
@@ -62,21 +66,25 @@ none_held zero g = refl
 none_held (suc n) zero = refl
 none_held (suc n) (suc g) = none_held n g
 
-pub held_within : (setup : Setup) (w : ℕ → List ℤ) (n : List ℕ) (image : Image) → Holds setup w n image → (g : ℕ) → slice_index n g ≤ length (w g)
-held_within setup w n image h = all_within h.head.setup w h.reads.tiles (subst (λ (s : Setup). AllStand s w h.bodies) (sym h.of_setup) h.stand)
+pub held_within : (setup : Setup) (w : ℕ → List ℤ) (n : List ℕ) (image : Image) → Holds setup w n image → (g : ℕ) →
+    slice_index n g ≤ length (w g)
+held_within setup w n image h =
+    all_within h.head.setup w h.reads.tiles (subst (λ (s : Setup). AllStand s w h.bodies) (sym h.of_setup) h.stand)
     (λ g. omega (arith, none_held (length h.head.setup.gains) g))
 
 fits_none : (o : Option RecordingFault) (held there : ℕ) → o ≡ None → held ≤ there → fault_by o held there ≡ None
 fits_none (Some fault) held there is le = absurd cc
 fits_none None held there is le = grind (arith, nat_tests, le)
 
-pub all_opened : (c : Config) (files : Files) (n : List ℕ) (heads : List Head) → ((g : ℕ) → slice_index n g ≤ length (samples (body_in (files (file_of c g)))))
+pub all_opened : (c : Config) (files : Files) (n : List ℕ) (heads : List Head) →
+    ((g : ℕ) → slice_index n g ≤ length (samples (body_in (files (file_of c g)))))
     → HeadsFit c heads files → AllOpened c heads (slice_index n) files (length c.gauges)
 all_opened c files n heads within fit g lt =
     let f = fit g lt in (
       f.0,
       f.1,
-      λ d. fits_none (head_fault (recording_head f.0) (slice_index_or heads g d)) (slice_index n g) (length (samples (body_in (Some f.0)))) (f.2 d)
+      λ d. fits_none (head_fault (recording_head f.0) (slice_index_or heads g d)) (slice_index n g)
+          (length (samples (body_in (Some f.0)))) (f.2 d)
           (subst (λ (o : Option (List ℕ)). slice_index n g ≤ length (samples (body_in o))) f.1 (within g)),
     )
 
@@ -90,9 +98,11 @@ file_same {x} {y} {o} is also = ap (file_in x) (sym is ∙ also)
 no_head : Head
 no_head = record { id = []; period_us = 0 }
 
-not_both : (c : Config) (heads : List Head) (n : ℕ → ℕ) (files : Files) (g : ℕ) (f : RecordingFault) → FaultOf c heads n files g None → FaultOf c heads n files g (Some f) → ⊥
+not_both : (c : Config) (heads : List Head) (n : ℕ → ℕ) (files : Files) (g : ℕ) (f : RecordingFault) → FaultOf c heads n files g None →
+    FaultOf c heads n files g (Some f) → ⊥
 not_both c heads n files g f sound fault =
-    let e : None ≡ Some f = sym (sound.2 no_head) ∙ ap (λ (x : List ℕ). fault_of (slice_index_or heads g no_head) (n g) x) (file_same sound.1 fault.1) ∙ fault.2 no_head in cc
+    let e : None ≡ Some f = sym (sound.2 no_head) ∙ ap (λ (x : List ℕ). fault_of (slice_index_or heads g no_head) (n g) x)
+    (file_same sound.1 fault.1) ∙ fault.2 no_head in cc
 
 none_some : {o : Option Status} {s : Status} → o ≡ None → o ≡ Some s → ⊥
 none_some {o} {s} is also = let e : None ≡ Some s = sym is ∙ also in cc
@@ -120,7 +130,8 @@ complete_resume (resume.Damaged x y) is = is
 complete_resume resume.DiskFault is = tt
 complete_resume resume.OutOfMemory is = tt
 
-pub complete_read : (conf : Result Config ConfigFault) (c : Config) → conf ≡ Ok c → (s : Status) → IsRefusal s → MeansAs conf (Err s) → IsComplete s
+pub complete_read : (conf : Result Config ConfigFault) (c : Config) → conf ≡ Ok c → (s : Status) → IsRefusal s →
+    MeansAs conf (Err s) → IsComplete s
 complete_read conf c is Done k a = absurd k
 complete_read conf c is Usage k a = absurd k
 complete_read conf c is (BadConfig f) k a = (let e : Ok c ≡ Err f = sym is ∙ a in cc)
@@ -134,7 +145,8 @@ complete_read conf c is OutOfMemory k a = tt
 complete_read conf c is (TooLong g) k a = absurd k
 complete_read conf c is (Differs g w x y) k a = absurd k
 
-pub done_or_memory : (s : Status) → IsComplete s → (s ≡ ReadFault → ⊥) → (s ≡ WriteFault → ⊥) → (s ≡ DiskFault → ⊥) → (s ≡ Done) ⊎ (s ≡ OutOfMemory)
+pub done_or_memory : (s : Status) → IsComplete s → (s ≡ ReadFault → ⊥) → (s ≡ WriteFault → ⊥) → (s ≡ DiskFault → ⊥) →
+    (s ≡ Done) ⊎ (s ≡ OutOfMemory)
 done_or_memory Done is read write disk = inl refl
 done_or_memory Usage is read write disk = absurd is
 done_or_memory (BadConfig f) is read write disk = absurd is

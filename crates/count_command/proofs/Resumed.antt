@@ -23,16 +23,23 @@ pub record IsResumed (r : Recorded) (a : List ℕ) (s : StoreValue) (seen : Imag
   pub least : EachAtMost a (ends_of s.held)
 
 pub resumed : (r : Recorded) (a : List ℕ) (s : StoreValue) (seen seen2 : Image) (leaves : Image → Type 0) → HoldsAtLeast r a seen
-    → ((head : HeadValue) (bodies : List PartsValue) (ends : List ℕ) → head.setup ≡ r.setup → Reads head bodies ends seen → (s.head ≡ head) × (ends_of s.held ≡ ends) × IsOn s bodies seen2 leaves) → IsResumed r a s seen2 leaves
+    → ((head : HeadValue) (bodies : List PartsValue) (ends : List ℕ) → head.setup ≡ r.setup → Reads head bodies ends seen → (s.head ≡ head)
+    × (ends_of s.held ≡ ends) × IsOn s bodies seen2 leaves) → IsResumed r a s seen2 leaves
 resumed r a s seen seen2 leaves h reads =
     let found = reads h.holds.head h.holds.bodies h.held h.holds.of_setup h.holds.reads in
     record {
-      stored = record { setup = ap (λ (x : HeadValue). x.setup) found.0 ∙ h.holds.of_setup; bodies = h.holds.bodies; on = found.2; stand = h.holds.stand };
+      stored = record {
+        setup = ap (λ (x : HeadValue). x.setup) found.0 ∙ h.holds.of_setup;
+        bodies = h.holds.bodies;
+        on = found.2;
+        stand = h.holds.stand;
+      };
       least = subst (EachAtMost a) (sym found.1) h.least;
     }
 
 -- what a read at entry gave reads as the store that was resumed
-pub reads_as : (setup : Setup) (s : StoreValue) (seen seen2 : Image) (leaves : Image → Type 0) → s.head.setup ≡ setup → IsThere s seen2 leaves
+pub reads_as : (setup : Setup) (s : StoreValue) (seen seen2 : Image) (leaves : Image → Type 0) → s.head.setup ≡ setup →
+    IsThere s seen2 leaves
     → seen2 ≡ seen → ReadsAs setup s.head (ends_of s.held) seen
 reads_as setup s seen seen2 leaves of there same = record {
   of_setup = of;
@@ -41,9 +48,11 @@ reads_as setup s seen seen2 leaves of there same = record {
 }
 
 -- before the first call
-pub safe_starts : (r : Recorded) (a : List ℕ) (start : ℕ) (past : MomentsSince) (told : Lines) (seen : Image) (leaves : Image → Type 0) → ((c : Image) → leaves c → HoldsAtLeast r a c)
+pub safe_starts : (r : Recorded) (a : List ℕ) (start : ℕ) (past : MomentsSince) (told : Lines) (seen : Image) (leaves : Image → Type 0) →
+    ((c : Image) → leaves c → HoldsAtLeast r a c)
     → ((lines : Lines) (c : Image) → past start lines c → (lines ≡ told) × leaves c) → Safe r a start past told start past told leaves
-safe_starts r a start past told seen leaves holds only = safe_quiet r a start start past past told told seen seen leaves leaves holds (quiet_starts start past told seen leaves only)
+safe_starts r a start past told seen leaves holds only =
+    safe_quiet r a start start past past told told seen seen leaves leaves holds (quiet_starts start past told seen leaves only)
 
 ok_of : Config → Result Config ConfigFault → Config
 ok_of d (Ok c) = c

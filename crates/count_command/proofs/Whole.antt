@@ -37,8 +37,10 @@ cut_read r leaves = by_reading (λ (s : Status). HeldCut s r leaves) (λ f. tt) 
 pub prints_read : (c : Config) (w : ℕ → List ℤ) (old : List ℕ) (s : Status) → IsRefusal s → Prints s c w old old
 prints_read c w old = by_reading (λ (s : Status). Prints s c w old old) (λ f. refl) refl refl
 
-pub answers_read : (conf : Result Config ConfigFault) (image : Image) (files : Files) (s : Status) → IsRefusal s → MeansAs conf (Err s) → CountAnswers conf image files s
-answers_read conf image files = by_reading (λ (s : Status). MeansAs conf (Err s) → CountAnswers conf image files s) (λ f a. a) (λ a. tt) (λ a. tt)
+pub answers_read : (conf : Result Config ConfigFault) (image : Image) (files : Files) (s : Status) → IsRefusal s → MeansAs conf (Err s) →
+    CountAnswers conf image files s
+answers_read conf image files =
+    by_reading (λ (s : Status). MeansAs conf (Err s) → CountAnswers conf image files s) (λ f a. a) (λ a. tt) (λ a. tt)
 
 pub not_done_read : (s : Status) → IsRefusal s → s ≢ Done
 not_done_read = by_reading (λ s. s ≢ Done) (λ f is. absurd cc) (λ is. absurd cc) (λ is. absurd cc)
@@ -50,7 +52,8 @@ pub not_disk_read : (s : Status) → IsRefusal s → s ≢ DiskFault
 not_disk_read = by_reading (λ s. s ≢ DiskFault) (λ f is. absurd cc) (λ is. absurd cc) (λ is. absurd cc)
 
 -- where no image is new
-pub held_fewer : (r : Recorded) (leaves leaves2 : Image → Type 0) → NoNew leaves leaves2 → (s : Status) → HeldAt s r leaves → HeldAt s r leaves2
+pub held_fewer : (r : Recorded) (leaves leaves2 : Image → Type 0) → NoNew leaves leaves2 → (s : Status) → HeldAt s r leaves →
+    HeldAt s r leaves2
 held_fewer r leaves leaves2 none Done h = ((λ c has. h.0 c (none c has)), h.1)
 held_fewer r leaves leaves2 none Usage h = tt
 held_fewer r leaves leaves2 none (BadConfig f) h = tt
@@ -64,7 +67,8 @@ held_fewer r leaves leaves2 none OutOfMemory h = tt
 held_fewer r leaves leaves2 none (TooLong g) h = tt
 held_fewer r leaves leaves2 none (Differs g w x y) h = tt
 
-pub cut_fewer : (r : Recorded) (leaves leaves2 : Image → Type 0) → NoNew leaves leaves2 → (s : Status) → HeldCut s r leaves → HeldCut s r leaves2
+pub cut_fewer : (r : Recorded) (leaves leaves2 : Image → Type 0) → NoNew leaves leaves2 → (s : Status) → HeldCut s r leaves →
+    HeldCut s r leaves2
 cut_fewer r leaves leaves2 none Done h = tt
 cut_fewer r leaves leaves2 none Usage h = tt
 cut_fewer r leaves leaves2 none (BadConfig f) h = tt

@@ -1,5 +1,5 @@
--- Which answer a run of `count` has. Each has its cause in the configuration, the store and the recordings; a fault of the outside has a
--- clause of its own, and want of memory none.
+-- Which answer a run of `count` has. Each has its cause in the configuration, the store and the recordings; a fault of
+-- the outside has a clause of its own, and want of memory none.
 --   EndAnswers     after all recordings were opened
 --   RunAnswers     after the store was resumed
 --   store_fault    the answer for a store that is refused
@@ -29,7 +29,8 @@ use Rattle.site_lanes.specs.Answers.{FaultOf, AllOpened, AllSound, end_of}
 
 -- the recording of a gauge ends so, and those of the gauges below it end soundly
 abbrev pub EndsAs : Config → Files → ℕ → Status → Type 0
-EndsAs c files g status = (g < length c.gauges) × AllSound c files g × (end_of g (body_in (files (file_of c g))) ≡ Some status)
+EndsAs c files g status =
+    (g < length c.gauges) × AllSound c files g × (end_of g (body_in (files (file_of c g))) ≡ Some status)
 
 abbrev pub EndAnswers : Config → Files → Status → Type 0
 EndAnswers c files Done = AllSound c files (length c.gauges)
@@ -43,7 +44,8 @@ EndAnswers c files status = ⊥
 
 -- the store was made for recordings with these heads, and holds so many samples of each
 abbrev pub RunAnswers : Config → List Head → (ℕ → ℕ) → Files → Status → Type 0
-RunAnswers c heads n files (Recording g fault) = (g < length c.gauges) × AllOpened c heads n files g × FaultOf c heads n files g (Some fault)
+RunAnswers c heads n files (Recording g fault) =
+    (g < length c.gauges) × AllOpened c heads n files g × FaultOf c heads n files g (Some fault)
 RunAnswers c heads n files ReadFault = Unit {0}
 RunAnswers c heads n files DiskFault = Unit {0}
 RunAnswers c heads n files OutOfMemory = Unit {0}
@@ -68,11 +70,13 @@ pub record ReadsAs (setup : Setup) (head : HeadValue) (n : List ℕ) (image : Im
   pub reads : Reads head bodies n image
 
 abbrev pub AnswersOver : Config → Image → Files → Status → Type 0
-AnswersOver c image files (BadStore fault) = (f : ResumeFault) × (store_fault f ≡ BadStore fault) × IsRefused c.setup image f
+AnswersOver c image files (BadStore fault) =
+    (f : ResumeFault) × (store_fault f ≡ BadStore fault) × IsRefused c.setup image f
 AnswersOver c image files ReadFault = Unit {0}
 AnswersOver c image files DiskFault = Unit {0}
 AnswersOver c image files OutOfMemory = Unit {0}
-AnswersOver c image files status = (h : HeadValue) × ((n : List ℕ) × ReadsAs c.setup h n image × RunAnswers c h.heads (slice_index n) files status)
+AnswersOver c image files status =
+    (h : HeadValue) × ((n : List ℕ) × ReadsAs c.setup h n image × RunAnswers c h.heads (slice_index n) files status)
 
 abbrev pub CountAnswers : Result Config ConfigFault → Image → Files → Status → Type 0
 CountAnswers conf image files (BadConfig fault) = conf ≡ Err fault

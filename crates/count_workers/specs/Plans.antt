@@ -18,4 +18,5 @@ pub record IsNew (plan : Plan) (p : PreparedValue) : Type 0 where
   pub gauges : p.gauges ≡ plan.gauges
   pub block : p.block ≡ plan.block
   pub workers : p.workers ≡ plan.workers
-  pub board : (p.board.grid ≡ plan.grid) × (p.board.block ≡ plan.block) × (length p.board.rows ≡ plan.gauges) × (p.board.arrivals ≡ [])
+  pub board : (p.board.grid ≡ plan.grid) × (p.board.block ≡ plan.block) × (length p.board.rows ≡ plan.gauges)
+      × (p.board.arrivals ≡ [])

@@ -22,7 +22,8 @@ module _ {C : Type 0} where
     pub room : 16 ≤ vec_capacity r.desk.blanks
 
   abbrev pub NewReaders : Plan → ℕ → List (Reader C) → Type 0
-  NewReaders plan rings readers = (g : ℕ) (d : Reader C) → g < length readers → IsFreshReader plan g rings (slice_index_or readers g d)
+  NewReaders plan rings readers = (g : ℕ) (d : Reader C) → g < length readers →
+      IsFreshReader plan g rings (slice_index_or readers g d)
 
   -- a ring more, in which nothing is
   pub record Connected (old new : Reader C) (taker : Taker Item) : Type 0 where

@@ -68,7 +68,12 @@ torn_bytes-bytes (v ∷ w) = torn_bytes-group (bytes_of v) (sample_bytes w) (len
 
 -- a head
 length-head_bytes : (head : Head) → IsHead head → length (head_bytes head) ≡ 32
-length-head_bytes head is = omega (arith, is.id, length-append head.id (to_le_bytes w32 head.period_us), length-append (head.id ++ to_le_bytes w32 head.period_us) (0 ∷ 0 ∷ 0 ∷ 0 ∷ []))
+length-head_bytes head is = omega (
+  arith,
+  is.id,
+  length-append head.id (to_le_bytes w32 head.period_us),
+  length-append (head.id ++ to_le_bytes w32 head.period_us) (0 ∷ 0 ∷ 0 ∷ 0 ∷ []),
+)
 
 tail-head_bytes : (id word : List ℕ) → length id ≡ 16 → length word ≡ 4 → drop 20 (id ++ word ++ 0 ∷ 0 ∷ 0 ∷ 0 ∷ []) ≡ 0 ∷ 0 ∷ 0 ∷ 0 ∷ []
 tail-head_bytes id word long four = drop_at (id ++ word) (0 ∷ 0 ∷ 0 ∷ 0 ∷ []) 20 (length-append id word ∙ omega (arith, long, four))
@@ -77,11 +82,14 @@ head-head_bytes : (head : Head) → IsHead head → head_in (head_bytes head) �
 head-head_bytes head is =
     let word = to_le_bytes w32 head.period_us in
     let zeros : List ℕ = 0 ∷ 0 ∷ 0 ∷ 0 ∷ [] in
-    let id : take 16 (head.id ++ word ++ zeros) ≡ head.id = ap (take 16) (append_assoc head.id word zeros) ∙ take_at head.id (word ++ zeros) 16 is.id in
-    let period : take 4 (drop 16 (head.id ++ word ++ zeros)) ≡ word = ap (λ (l : List ℕ). take 4 (drop 16 l)) (append_assoc head.id word zeros) ∙ ap (take 4) (drop_at head.id (word ++ zeros) 16 is.id) in
+    let id : take 16 (head.id ++ word ++ zeros) ≡ head.id = ap (take 16) (append_assoc head.id word zeros) ∙ take_at head.id
+    (word ++ zeros) 16 is.id in
+    let period : take 4 (drop 16 (head.id ++ word ++ zeros)) ≡ word = ap (λ (l : List ℕ). take 4 (drop 16 l))
+    (append_assoc head.id word zeros) ∙ ap (take 4) (drop_at head.id (word ++ zeros) 16 is.id) in
     rw (tail-head_bytes head.id word is.id refl, id, period, from_le_bytes-to_le_bytes_4 head.period_us is.period) refl
 
-recording_head-front : (file front : List ℕ) (rest : List ℕ) → file ≡ front ++ rest → length front ≡ 32 → recording_head file ≡ head_in front
+recording_head-front : (file front : List ℕ) (rest : List ℕ) → file ≡ front ++ rest → length front ≡ 32 →
+    recording_head file ≡ head_in front
 recording_head-front file front rest is long =
     let all : 32 ≤ length file = omega (arith, ap length is, length-append front rest, long) in
     cond-false (nat_lt (length file) 32) (Err Short) (head_in (take 32 file)) (grind (arith, nat_tests, all))
@@ -108,7 +116,8 @@ neg-fits (suc n) few = fits_signed_from_abs w32 (negsuc n) (omega (arith, few))
 missing-fits : FitsSigned w32 missing
 missing-fits = search rules
 
-by_magnitude : (sign : ℕ → ℤ) (digits : List ℕ) (v : ℤ) → ((n : ℕ) → n ≤ 2147483647 → FitsSigned w32 (sign n)) → option_map sign (magnitude digits) ≡ Some v → FitsSigned w32 v
+by_magnitude : (sign : ℕ → ℤ) (digits : List ℕ) (v : ℤ) → ((n : ℕ) → n ≤ 2147483647 → FitsSigned w32 (sign n)) →
+    option_map sign (magnitude digits) ≡ Some v → FitsSigned w32 v
 by_magnitude sign digits v fits is = go (magnitude digits) refl is
   where
     go : (m : Option ℕ) → magnitude digits ≡ m → option_map sign m ≡ Some v → FitsSigned w32 v
@@ -120,7 +129,8 @@ unfolding reading_in
 reading-fits [] v is = absurd (cc)
 reading-fits (c ∷ digits) v is = go (c == 45) (c == 43) is
   where
-    go : (minus plus : Bool) → (if minus then option_map (λ n. neg_ℤ (pos n)) (magnitude digits) else if plus then option_map pos (magnitude digits) else option_map pos (magnitude (c ∷ digits))) ≡ Some v → FitsSigned w32 v
+    go : (minus plus : Bool) → (if minus then option_map (λ n. neg_ℤ (pos n)) (magnitude digits)
+        else if plus then option_map pos (magnitude digits) else option_map pos (magnitude (c ∷ digits))) ≡ Some v → FitsSigned w32 v
     go true plus is = by_magnitude (λ n. neg_ℤ (pos n)) digits v neg-fits is
     go false true is = by_magnitude pos digits v pos-fits is
     go false false is = by_magnitude pos (c ∷ digits) v pos-fits is
@@ -142,16 +152,19 @@ row-fits place row fields v is = go (field_at fields place) is
     by_cell cell None none is = absurd (cc)
     by_cell cell (Some x) some is = subst (λ (y : ℤ). FitsSigned w32 y) (same_ok x v is) (cell-fits cell x some)
 
-    go : (f : Option (List ℕ)) → (present f (ShortRow row (length fields)) >>= λ cell. present (cell_sample cell) (Cell row)) ≡ Ok v → FitsSigned w32 v
+    go : (f : Option (List ℕ)) → (present f (ShortRow row (length fields)) >>= λ cell. present (cell_sample cell) (Cell row)) ≡ Ok v →
+        FitsSigned w32 v
     go None is = absurd (cc)
     go (Some cell) is = by_cell cell (cell_sample cell) refl is
 
 rows-fit : (place row : ℕ) (rows : List (List (List ℕ))) (w : List ℤ) → samples_of_rows place row rows ≡ Ok w → AllFit w
 unfolding samples_of_rows AllFit
 rows-fit place row [] w is = subst AllFit (same_ok [] w is) tt
-rows-fit place row (fields ∷ rows) w is = go (sample_of_row place row fields) refl (samples_of_rows place (row + 1) rows) (rows-fit place (row + 1) rows) is
+rows-fit place row (fields ∷ rows) w is =
+    go (sample_of_row place row fields) refl (samples_of_rows place (row + 1) rows) (rows-fit place (row + 1) rows) is
   where
-    go : (a : Result ℤ ColumnFault) → sample_of_row place row fields ≡ a → (b : Result (List ℤ) ColumnFault) → ((xs : List ℤ) → b ≡ Ok xs → AllFit xs)
+    go : (a : Result ℤ ColumnFault) → sample_of_row place row fields ≡ a → (b : Result (List ℤ) ColumnFault) →
+        ((xs : List ℤ) → b ≡ Ok xs → AllFit xs)
         → (a >>= λ sample. b >>= λ samples. Ok (sample ∷ samples)) ≡ Ok w → AllFit w
     go (Err fault) first b more is = absurd (cc)
     go (Ok x) first (Err fault) more is = absurd (cc)

@@ -5,8 +5,8 @@ use Rattle.std.specs.List.{IsDistinct}
 use Rattle.csv_recording.specs.Column.{column_of}
 use Rattle.csv_recording.specs.Sheet.{sheet_text, padded, longest}
 
--- Names that are all different, in ASCII, and a recording of samples of 32 bits for each. A gauge's name in a configuration is of
--- letters, digits, dashes and underscores, so it is ASCII.
+-- Names that are all different, in ASCII, and a recording of samples of 32 bits for each. A gauge's name in a
+-- configuration is of letters, digits, dashes and underscores, so it is ASCII.
 pub record AreGauges (names : List (List ℕ)) (recordings : List (List ℤ)) : Type 0 where
   pub pairs : length names ≡ length recordings
   pub ascii : All IsAscii names

@@ -25,7 +25,8 @@ without_blanks_before (c ∷ text) = if is_blank c then without_blanks_before te
 -- how many bytes come before the blanks and tabs at the end
 unfoldable pub length_before_blanks : List ℕ → ℕ
 length_before_blanks [] = 0
-length_before_blanks (c ∷ text) = if (length_before_blanks text == 0) && is_blank c then 0 else length_before_blanks text + 1
+length_before_blanks (c ∷ text) =
+    if (length_before_blanks text == 0) && is_blank c then 0 else length_before_blanks text + 1
 
 abbrev pub without_blanks_behind : List ℕ → List ℕ
 without_blanks_behind text = take (length_before_blanks text) text
@@ -35,11 +36,13 @@ without_blanks text = without_blanks_behind (without_blanks_before text)
 
 -- 1 to 10 decimal digits
 abbrev pub is_short_numeral : List ℕ → Bool
-is_short_numeral digits = nat_lt 0 (length digits) && nat_le (length digits) 10 && list_all (λ d. nat_lt (digit_value d) 10) digits
+is_short_numeral digits =
+    nat_lt 0 (length digits) && nat_le (length digits) 10 && list_all (λ d. nat_lt (digit_value d) 10) digits
 
 -- the number that they spell, up to the greatest reading
 abbrev pub magnitude : List ℕ → Option ℕ
-magnitude digits = if is_short_numeral digits && nat_le (digits_value 10 digits) 2147483647 then Some (digits_value 10 digits) else None
+magnitude digits = if is_short_numeral digits && nat_le (digits_value 10 digits) 2147483647
+    then Some (digits_value 10 digits) else None
 
 -- a reading, with its sign or without one
 unfoldable pub reading_in : List ℕ → Option ℤ

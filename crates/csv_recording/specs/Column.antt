@@ -1,5 +1,6 @@
 -- A column of a CSV file as samples, or the first thing that is wrong with it.
---   records_of   every record of a text: `csv` reads commas and double quotes, blank lines are no records, and a byte order mark is no part of the first
+--   records_of   every record of a text: `csv` reads commas and double quotes, blank lines are no records, and a byte
+--                order mark is no part of the first
 --   place_of     where a record has a field of this name first
 --   column_of    the samples in the column of a name
 use Rattle.std.specs.Prelude.{ℕ, ℤ, ◌≡◌, ◌+◌, List, [], ◌∷◌, length, Option, Some, None, option_map, Result, Ok, Err, if◌then◌else◌, ⊤}

@@ -23,4 +23,5 @@ pub record IsHead (head : Head) : Type 0 where
   pub period : head.period_us < 2 ^ 32
 
 abbrev pub ReadsAsWritten : Type 0
-ReadsAsWritten = (head : Head) (name text : List ℕ) (w : List ℤ) → IsHead head → column_of name text ≡ Ok w → ReadsAs (recording_bytes head w) head w
+ReadsAsWritten = (head : Head) (name text : List ℕ) (w : List ℤ) → IsHead head → column_of name text ≡ Ok w →
+    ReadsAs (recording_bytes head w) head w

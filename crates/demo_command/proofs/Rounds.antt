@@ -37,8 +37,10 @@ pub record IsCounted (seed all rounds : ℕ) (p : PreparedValue) (lanes : List D
   pub ready : AreReady lanes
   pub are : AreLanes (Unit {0}) (λ (left : List ℕ). left) (made seed all) lanes
   pub whole : All IsWhole lanes
-  pub at : (g : ℕ) (d : DemoLane) → g < length lanes → (slice_index_or lanes g d).at ≡ min (16 * 1024 * rounds) (length (made_at seed all g))
-  pub counted : (g : ℕ) (d : DemoLane) (e : SegmentValue) → g < 4 → IsTotal seed all g (slice_index_or lanes g d).at (slice_index_or totals g e)
+  pub at : (g : ℕ) (d : DemoLane) → g < length lanes →
+      (slice_index_or lanes g d).at ≡ min (16 * 1024 * rounds) (length (made_at seed all g))
+  pub counted : (g : ℕ) (d : DemoLane) (e : SegmentValue) → g < 4 →
+      IsTotal seed all g (slice_index_or lanes g d).at (slice_index_or totals g e)
 
 -- a lane at the start
 module _ (seed all g : ℕ) (lt : g < 4) (lane : DemoLane) (start : IsStart seed all g lane) where
@@ -92,7 +94,8 @@ module _ (seed all g : ℕ) {block : ℕ} {old new : DemoLane}
   pub front_samples : IsLane (Unit {0}) (λ (left : List ℕ). left) (made seed all) g old
       → take (new.at - old.at) (samples done.before) ≡ take (new.at - old.at) (drop old.at (made_at seed all g))
   front_samples lane = ⊎_elim
-      (λ more. ap (take (new.at - old.at)) (stood_more (made_at seed all g) 0 done.before old.at more (lane.stood tt done.before done.was)).0)
+      (λ more. ap (take (new.at - old.at)) (stood_more (made_at seed all g) 0 done.before old.at more
+      (lane.stood tt done.before done.was)).0)
       (λ other. let none : new.at - old.at ≡ 0 = omega (arith, (done.ended other).0) in
       ap (λ (n : ℕ). take n (samples done.before)) none ∙ sym (ap (λ (n : ℕ). take n (drop old.at (made_at seed all g))) none))
       (more_or_not old.end)
@@ -129,7 +132,8 @@ module _ (seed all g : ℕ) (lt : g < 4) {block : ℕ} {old new : DemoLane}
       let rest = take (new.at - old.at) (drop old.at (made_at seed all g)) in
       let of_front : Stands joined.front demo_gain rest =
       subst (λ (l : List ℤ). Stands joined.front demo_gain l) (front_samples seed all g done lane)
-      (subst (λ (k : GainValue). Stands joined.front k (take (new.at - old.at) (samples done.before))) gain_is (f.stands done.before done.was tt)) in
+      (subst (λ (k : GainValue). Stands joined.front k (take (new.at - old.at) (samples done.before))) gain_is
+      (f.stands done.before done.was tt)) in
       let whole : take old.at (made_at seed all g) ++ rest ≡ take new.at (made_at seed all g) =
       sym (take-add old.at (new.at - old.at) (made_at seed all g))
       ∙ ap (λ (n : ℕ). take n (made_at seed all g)) (let e : old.at + (new.at - old.at) ≡ new.at = omega (arith, done.samples.0) in e) in
@@ -156,7 +160,8 @@ nothing_counted seed all g v is = subst (λ (x : SegmentValue). IsTotal seed all
 
 -- before the first round
 pub counted_starts : (seed all : ℕ) (p : PreparedValue) (lanes : List DemoLane) (totals : List SegmentValue) → p.gauges ≡ 4 → p.block ≡ 1024
-    → p.grid ≡ demo_grid → length lanes ≡ 4 → length totals ≡ 4 → ((g : ℕ) (d : DemoLane) → g < 4 → IsStart seed all g (slice_index_or lanes g d))
+    → p.grid ≡ demo_grid → length lanes ≡ 4 → length totals ≡ 4 →
+    ((g : ℕ) (d : DemoLane) → g < 4 → IsStart seed all g (slice_index_or lanes g d))
     → ((g : ℕ) (d : SegmentValue) → g < 4 → slice_index_or totals g d ≡ empty_at demo_grid g 0 all) → IsCounted seed all 0 p lanes totals
 counted_starts seed all p lanes totals gauges block grid lanes_long totals_long start nothing = record {
   gauges = gauges;
@@ -170,10 +175,13 @@ counted_starts seed all p lanes totals gauges block grid lanes_long totals_long 
     gauge = s.gauge;
     at = omega (arith, s.at);
   };
-  are = λ g d lt. let here : g < 4 = omega (arith, lt, lanes_long) in start_lane seed all g here (slice_index_or lanes g d) (start g d here);
-  whole = λ g d lt. let here : g < 4 = omega (arith, lt, lanes_long) in start_whole seed all g here (slice_index_or lanes g d) (start g d here);
+  are = λ g d lt. let here : g < 4 = omega (arith, lt, lanes_long) in start_lane seed all g here (slice_index_or lanes g d)
+      (start g d here);
+  whole = λ g d lt. let here : g < 4 = omega (arith, lt, lanes_long) in start_whole seed all g here (slice_index_or lanes g d)
+      (start g d here);
   at = λ g d lt. none_read _ _ (start g d (omega (arith, lt, lanes_long))).at;
-  counted = λ g d e lt. subst (λ (n : ℕ). IsTotal seed all g n (slice_index_or totals g e)) (sym (start g d lt).at) (nothing_counted seed all g (slice_index_or totals g e) (nothing g e lt));
+  counted = λ g d e lt. subst (λ (n : ℕ). IsTotal seed all g n (slice_index_or totals g e)) (sym (start g d lt).at)
+      (nothing_counted seed all g (slice_index_or totals g e) (nothing g e lt));
 } where
   none_read : (at len : ℕ) → at ≡ 0 → at ≡ min (16 * 1024 * 0) len
   none_read at len is = grind (arith, is)
@@ -223,7 +231,8 @@ module _ (seed all rounds : ℕ) (few : all ≤ 1000000) {p p2 : PreparedValue} 
     whole = all_whole;
     at = λ g d lt. all_reached done count was.ready (made seed all) (λ h. 16 * 1024 * rounds) tt was.are all_whole was.at g d lt
         ∙ ap (λ (n : ℕ). min n (length (made_at seed all g))) (further p.block was.block);
-    counted = λ g d e lt. joined_total seed all g lt (lane_done g d lt) (was.are g d (omega (arith, lt, was.lanes_long))) (slice_index_or totals g e)
+    counted = λ g d e lt. joined_total seed all g lt (lane_done g d lt) (was.are g d (omega (arith, lt, was.lanes_long)))
+        (slice_index_or totals g e)
         (was.counted g d e lt) p2.board (done.board.0 ∙ was.grid) (λ front is. done.front g d front (omega (arith, lt, was.gauges)) is)
         (slice_index_or totals2 g e) (joined g e lt);
   } where
@@ -241,7 +250,8 @@ pub counted_all : (seed all rounds : ℕ) (p : PreparedValue) (lanes : List Demo
 counted_all seed all rounds p lanes totals enough c g e lt =
     let there : g < length lanes = omega (arith, lt, c.lanes_long) in
     let d = any_of lanes g there in
-    subst (λ (n : ℕ). IsTotal seed all g n (slice_index_or totals g e)) (c.at g d there ∙ reached _ _ enough (length-made all (seed + g))) (c.counted g d e lt)
+    subst (λ (n : ℕ). IsTotal seed all g n (slice_index_or totals g e)) (c.at g d there ∙ reached _ _ enough (length-made all (seed + g)))
+    (c.counted g d e lt)
   where
     any_of : (xs : List DemoLane) (g : ℕ) → g < length xs → DemoLane
     any_of [] g lt = absurd (omega (arith, lt))

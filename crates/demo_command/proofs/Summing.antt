@@ -29,7 +29,8 @@ module _ (seed samples : ℕ) (totals : List SegmentValue) (long : length totals
   stands_at : (g : ℕ) (d : SegmentValue) → g < 4 → Stands (slice_index_or totals g d) demo_gain (made_at seed samples g)
   stands_at g d lt =
       let t = all g d lt in
-      subst (λ (l : List ℤ). Stands (slice_index_or totals g d) demo_gain l) (take_all samples (made_at seed samples g) (omega (arith, length-made samples (seed + g)))) t.stands
+      subst (λ (l : List ℤ). Stands (slice_index_or totals g d) demo_gain l)
+      (take_all samples (made_at seed samples g) (omega (arith, length-made samples (seed + g)))) t.stands
 
   residue_is : (g : ℕ) (d : SegmentValue) → g < 4 → residue_at totals g ≡ (slice_index_or totals g d).reducer.residue
   residue_is g d lt = map_at (λ (v : SegmentValue). v.reducer.residue) totals g [] d (omega (arith, lt, long))
@@ -41,7 +42,8 @@ module _ (seed samples : ℕ) (totals : List SegmentValue) (long : length totals
       → text ≡ head_line seed samples ++ gauge_lines (line_at seed samples totals) g
       → text2 ≡ head_line seed samples ++ gauge_lines (line_at seed samples totals) (g + 1)
   text_more g v text text2 lt is one was =
-      let stands : Stands v demo_gain (made_at seed samples g) = subst (λ (x : SegmentValue). Stands x demo_gain (made_at seed samples g)) (sym is) (stands_at g v lt) in
+      let stands : Stands v demo_gain (made_at seed samples g) = subst (λ (x : SegmentValue). Stands x demo_gain (made_at seed samples g))
+      (sym is) (stands_at g v lt) in
       let line = line_at seed samples totals g in
       one (made_at seed samples g) stands
       ∙ ap (λ (l : List ℕ). text ++ gauge_line g (table_halves (levels_at seed samples g)) (length l))
@@ -58,7 +60,8 @@ module _ (seed samples : ℕ) (totals : List SegmentValue) (long : length totals
         let t = all g d lt in
         subst (IsResidueOf (levels_at seed samples g)) (sym (residue_is g d lt)) (record {
           cycles = count_of (slice_index_or totals g d).tally.cells;
-          result = subst (λ (h : List ℕ). IsFourPointResult (points h) (count_of (slice_index_or totals g d).tally.cells) (slice_index_or totals g d).reducer.residue)
+          result = subst (λ (h : List ℕ). IsFourPointResult (points h) (count_of (slice_index_or totals g d).tally.cells)
+              (slice_index_or totals g d).reducer.residue)
               (ap (λ (x : GridValue). history x demo_gain (made_at seed samples g)) t.grid) s.history.result;
         });
     is = is ∙ ap (λ (n : ℕ). head_line seed samples ++ gauge_lines (line_at seed samples totals) n) four;

@@ -27,7 +27,8 @@ table_halves h = all_halves (half_units h) (CLASSES - 1)
 
 abbrev pub gauge_line : ℕ → ℕ → ℕ → List ℕ
 gauge_line g halves points =
-    codes "gauge " ++ decimal g ++ codes " cycles " ++ halved halves ++ codes " residue " ++ decimal points ++ codes "\n"
+    codes "gauge " ++ decimal g ++ codes " cycles " ++ halved halves ++ codes " residue " ++ decimal
+    points ++ codes "\n"
 
 abbrev pub head_line : ℕ → ℕ → List ℕ
 head_line seed samples = codes "demo seed " ++ decimal seed ++ codes " samples " ++ decimal samples ++ codes "\n"

@@ -47,12 +47,14 @@ UnitStands gain w u = StandsIn u.segment (gain u.segment.gauge) (w u.segment.gau
 pub record Came (b c : BoardValue) (p q : PoolValue) (us : List CountedValue) : Type 0 where
   pub arrivals : c.arrivals ≡ b.arrivals ++ unit_names us
   pub inside : q.inside ≡ p.inside + length us
-  pub carries : (gain : ℕ → GainValue) (w : ℕ → List ℤ) → Carries b gain w → Each (UnitStands gain w) us → Carries c gain w
+  pub carries : (gain : ℕ → GainValue) (w : ℕ → List ℤ) → Carries b gain w → Each (UnitStands gain w) us →
+      Carries c gain w
 
 pub record Stepped (b c : BoardValue) (p q : PoolValue) (u : CountedValue) : Type 0 where
   pub board : SameBoard b c
   pub pool : SamePool p q
-  pub came : Fits b (unit_name u) → hits u.segment.gauge u.segment.from b.arrivals ≡ 0 → IsOfPool p u → p.inside < p.units
+  pub came : Fits b (unit_name u) → hits u.segment.gauge u.segment.from b.arrivals ≡ 0 → IsOfPool p u →
+      p.inside < p.units
       → Came b c p q (u ∷ [])
 
 pub record Deposited (b c : BoardValue) (p q : PoolValue) (us : List CountedValue) : Type 0 where

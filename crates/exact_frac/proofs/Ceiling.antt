@@ -27,7 +27,8 @@ some_rest f b rest s g e = record {
       let less : f.whole * BILLION + b < p = lt_of_mul-lt-mul_right f.den below in omega arith;
 }
 
-ceiling : (f : Frac) (b rest up : ℕ) → rest < f.den → b * f.den + rest ≡ BILLION * f.num → ((rest ≡ 0) × (up ≡ 0)) ⊎ ((0 < rest) × (up ≡ 1)) →
+ceiling : (f : Frac) (b rest up : ℕ) → rest < f.den → b * f.den + rest ≡ BILLION * f.num →
+    ((rest ≡ 0) × (up ≡ 0)) ⊎ ((0 < rest) × (up ≡ 1)) →
     IsCeilingInBillionths f (f.whole * BILLION + (b + up))
 ceiling f b rest up g e (inl (none, same)) =
     subst (λ q. IsCeilingInBillionths f (f.whole * BILLION + q)) (omega arith) (no_rest f b (omega arith) (omega arith))

@@ -42,7 +42,8 @@ onto-short : (k n : ℕ) (acc : List ℕ) → length (digits_onto k 10 false n a
 onto-short zero n acc = omega arith
 onto-short (suc k) n acc =
     let glyph = digit_glyph false (n % 10) in
-    let rest : length (digits_onto k 10 false (n / 10) (glyph ∷ acc)) ≤ suc k + length acc = omega (arith, onto-short k (n / 10) (glyph ∷ acc)) in
+    let rest : length (digits_onto k 10 false (n / 10) (glyph ∷ acc)) ≤ suc k + length acc = omega
+    (arith, onto-short k (n / 10) (glyph ∷ acc)) in
     either _ (glyph ∷ acc) (digits_onto k 10 false (n / 10) (glyph ∷ acc)) (suc k + length acc) (omega arith) rest
 
 number-short : (n : ℕ) → length (decimal n) ≤ 64
@@ -89,7 +90,8 @@ name-short name.Gamma = omega arith
 
 key-short : (k : Key) → length (codes " " ++ key_text k) ≤ 82
 key-short k =
-    let front = appended (part_text k.part) (index_text (has_index k.part) k.index) 6 65 (part-short k.part) (index-short (has_index k.part) k.index) in
+    let front = appended (part_text k.part) (index_text (has_index k.part) k.index) 6 65 (part-short k.part)
+    (index-short (has_index k.part) k.index) in
     let all = appended (part_text k.part ++ index_text (has_index k.part) k.index) (name_behind k.name) 71 10 front (name-short k.name) in
     appended (codes " ") (key_text k) 1 81 (omega arith) all
 
@@ -151,7 +153,8 @@ store-short (store.Differs f kept found) =
     let to1 = appended (field_text f) (codes " was ") 71 5 (field-short f) (omega arith) in
     let to2 = appended (field_text f ++ codes " was ") (signed_decimal kept) 76 65 to1 (signed-short kept) in
     let to3 = appended (field_text f ++ codes " was " ++ signed_decimal kept) (codes ", is ") 141 5 to2 (omega arith) in
-    let to4 = appended (field_text f ++ codes " was " ++ signed_decimal kept ++ codes ", is ") (signed_decimal found) 146 65 to3 (signed-short found) in
+    let to4 = appended (field_text f ++ codes " was " ++ signed_decimal kept ++ codes ", is ") (signed_decimal found) 146 65 to3
+    (signed-short found) in
     omega (arith, to4)
 store-short (store.Damaged i d) =
     let to1 = appended (codes "damaged at ") (decimal i) 11 64 (omega arith) (number-short i) in
@@ -204,7 +207,8 @@ differs-short w held found =
     appended (what_text w ++ codes " held " ++ decimal held ++ codes ", recount ") (decimal found) 214 64 to3 (number-short found)
 
 -- a front, a name, a text behind it, and the end of the line
-named : (front name text : List ℕ) (m : ℕ) → length front ≤ 10 → length text ≤ m → length (front ++ shown name ++ codes ": " ++ text ++ codes "\n") ≤ m + 13 + length name
+named : (front name text : List ℕ) (m : ℕ) → length front ≤ 10 → length text ≤ m →
+    length (front ++ shown name ++ codes ": " ++ text ++ codes "\n") ≤ m + 13 + length name
 named front name text m f t =
     let n : length (shown name) ≤ length name = omega (arith, length-map name shown_byte) in
     let to1 = appended front (shown name) 10 (length name) f n in
@@ -221,15 +225,24 @@ recording_line-short name text m t = named (codes "recording ") name text m (ome
 pub fault_line-short : (s : Status) (name : List ℕ) → length (fault_line s name) ≤ MAX_BYTES_BESIDE_NAME + length name
 fault_line-short Done name = omega arith
 fault_line-short Usage name = omega arith
-fault_line-short (Config f) name = omega (arith, ended (codes "config: ") (config_fault_text f) 153 (omega arith) (appended (fault_words f) (place_behind f) 13 140 (words-short f) (place-short f)))
+fault_line-short (Config f) name = omega (
+  arith,
+  ended (codes "config: ") (config_fault_text f) 153 (omega arith)
+      (appended (fault_words f) (place_behind f) 13 140 (words-short f) (place-short f)),
+)
 fault_line-short (Store f) name = omega (arith, ended (codes "store: ") (store_text f) 218 (omega arith) (store-short f))
 fault_line-short (Recording g f) name = omega (arith, recording_line-short name (recording_text f) 144 (recording-short f))
 fault_line-short (Torn g bytes) name =
     let to1 = appended (codes "ends in ") (decimal bytes) 8 64 (omega arith) (number-short bytes) in
-    omega (arith, recording_line-short name (torn_text bytes) 82 (appended (codes "ends in " ++ decimal bytes) (codes " odd bytes") 72 10 to1 (omega arith)))
+    omega (
+      arith,
+      recording_line-short name (torn_text bytes) 82 (appended (codes "ends in " ++ decimal bytes) (codes " odd bytes") 72 10
+          to1 (omega arith)),
+    )
 fault_line-short ReadFault name = omega arith
 fault_line-short WriteFault name = omega arith
 fault_line-short DiskFault name = omega arith
 fault_line-short OutOfMemory name = omega arith
 fault_line-short (TooLong g) name = omega (arith, recording_line-short name (codes "too long") 8 (omega arith))
-fault_line-short (Differs g w held found) name = omega (arith, named (codes "audit ") name (differs_text w held found) 278 (omega arith) (differs-short w held found))
+fault_line-short (Differs g w held found) name =
+    omega (arith, named (codes "audit ") name (differs_text w held found) 278 (omega arith) (differs-short w held found))

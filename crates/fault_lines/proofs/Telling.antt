@@ -15,9 +15,11 @@ quiet_tells line start mid now past between since told told2 told3 seen seen2 se
     let before : Since start past mid between (InFault line told leaves) =
     entails start mid past between (InFault line told leaves) _ q.run (λ lines c k. (inl k.0, k.1)) in
     let later = λ (lines : Lines) (h : (lines ≡ told2) ⊎ (lines ≡ told2 ++ line ∷ [])).
-    ⊎_elim {C = (lines ≡ told) ⊎ (lines ≡ told ++ line ∷ [])} (λ same. inl (same ∙ q.told_same)) (λ more. inr (more ∙ ap (λ (l : Lines). l ++ line ∷ []) q.told_same)) h in
+    ⊎_elim {C = (lines ≡ told) ⊎ (lines ≡ told ++ line ∷ [])} (λ same. inl (same ∙ q.told_same))
+    (λ more. inr (more ∙ ap (λ (l : Lines). l ++ line ∷ []) q.told_same)) h in
     record {
-      run = continues start mid now past between since (InFault line told leaves) _ before t.run (λ lines c h. (later lines h.0, q.none_new c h.1));
+      run = continues start mid now past between since (InFault line told leaves) _ before t.run
+          (λ lines c h. (later lines h.0, q.none_new c h.1));
       told_at_most = later told3 t.told_at_most;
       seen_same = t.seen_same ∙ q.seen_same;
       none_new = λ c has. q.none_new c (t.none_new c has);

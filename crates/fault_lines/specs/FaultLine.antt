@@ -51,7 +51,8 @@ damage_text damage = []
 abbrev pub store_text : StoreFault → List ℕ
 store_text store.NotAStore = codes "not a store"
 store_text (store.Version v) = codes "version " ++ decimal v
-store_text (store.Differs f kept found) = field_text f ++ codes " was " ++ signed_decimal kept ++ codes ", is " ++ signed_decimal found
+store_text (store.Differs f kept found) =
+    field_text f ++ codes " was " ++ signed_decimal kept ++ codes ", is " ++ signed_decimal found
 store_text (store.Damaged index damage) = codes "damaged at " ++ decimal index ++ damage_text damage
 store_text (store.NotEmpty size) = codes "not empty, " ++ decimal size ++ codes " bytes"
 
@@ -64,7 +65,8 @@ recording_text (recording.Id kept found) = codes "id was " ++ id_digits kept ++ 
 recording_text (recording.Period kept found) = codes "period was " ++ decimal kept ++ codes ", is " ++ decimal found
 recording_text (recording.Fewer held there) = decimal held ++ codes " held, " ++ decimal there ++ codes " there"
 recording_text recording.NoColumn = codes "no column"
-recording_text (recording.ShortRow row fields) = codes "row " ++ decimal row ++ codes " has " ++ decimal fields ++ codes " fields"
+recording_text (recording.ShortRow row fields) =
+    codes "row " ++ decimal row ++ codes " has " ++ decimal fields ++ codes " fields"
 recording_text (recording.Cell row) = codes "row " ++ decimal row ++ codes " is no number"
 
 abbrev pub what_text : What → List ℕ
@@ -86,7 +88,8 @@ differs_text what held found = what_text what ++ codes " held " ++ decimal held 
 -- Of `Done` nothing is told. The name is that of the gauge, or of a single file.
 abbrev pub fault_line : Status → List ℕ → List ℕ
 fault_line Done name = []
-fault_line Usage name = codes "usage: monitor table FILE | init | count [--workers N] | report | audit | demo [--seed N] [--samples N] [--workers N] | repeat | column FILE NAME ID PERIOD | sheet\n"
+fault_line Usage name = codes
+    "usage: monitor table FILE | init | count [--workers N] | report | audit | demo [--seed N] [--samples N] [--workers N] | repeat | column FILE NAME ID PERIOD | sheet\n"
 fault_line (Config fault) name = codes "config: " ++ config_fault_text fault ++ codes "\n"
 fault_line (Store fault) name = codes "store: " ++ store_text fault ++ codes "\n"
 fault_line (Recording gauge fault) name = recording_line name (recording_text fault)
@@ -96,7 +99,8 @@ fault_line WriteFault name = codes "write fault\n"
 fault_line DiskFault name = codes "station fault\n"
 fault_line OutOfMemory name = codes "out of memory\n"
 fault_line (TooLong gauge) name = recording_line name (codes "too long")
-fault_line (Differs gauge what held found) name = codes "audit " ++ shown name ++ codes ": " ++ differs_text what held found ++ codes "\n"
+fault_line (Differs gauge what held found) name =
+    codes "audit " ++ shown name ++ codes ": " ++ differs_text what held found ++ codes "\n"
 
 -- Other answers have no gauge.
 abbrev pub name_for : Configuration → Status → List ℕ

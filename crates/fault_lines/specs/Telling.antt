@@ -8,9 +8,10 @@ use Rattle.station.specs.Station.{Image, Lines, IsMoment, MomentsSince, Since, N
 abbrev pub InFault : List ℕ → Lines → (Image → Type 0) → IsMoment
 InFault line told leaves lines c = ((lines ≡ told) ⊎ (lines ≡ told ++ line ∷ [])) × leaves c
 
--- A read gives what it gave, no line was told but this one at most, and every image of a moment since the start is one that a
--- crash could leave then.
-pub record TellsAtMost (line : List ℕ) (start : ℕ) (past : MomentsSince) (now : ℕ) (since : MomentsSince) (told told2 : Lines)
+-- A read gives what it gave, no line was told but this one at most, and every image of a moment since the start is one
+-- that a crash could leave then.
+pub record TellsAtMost (line : List ℕ) (start : ℕ) (past : MomentsSince) (now : ℕ) (since : MomentsSince)
+    (told told2 : Lines)
     (seen seen2 : Image) (leaves leaves2 : Image → Type 0) : Type 0 where
   pub run : Since start past now since (InFault line told leaves)
   pub told_at_most : (told2 ≡ told) ⊎ (told2 ≡ told ++ line ∷ [])

@@ -25,7 +25,8 @@ own : (gauge : ℕ) (answer : Status) (state : FileState) → answer ≡ answer_
 own gauge answer state is other = (λ none. other (is ∙ ap (answer_for gauge) none), inl is)
 
 -- an answer that is no fault of the outside is the file's own, or memory ran out
-pub complete : (gauge : ℕ) (answer : Status) (state : FileState) → MayAnswer gauge answer state → answer ≢ ReadFault → answer ≢ WriteFault → IsAnswer gauge answer state
+pub complete : (gauge : ℕ) (answer : Status) (state : FileState) → MayAnswer gauge answer state → answer ≢ ReadFault → answer ≢ WriteFault →
+    IsAnswer gauge answer state
 complete g Usage state may r w = absurd may
 complete g ReadFault state may r w = absurd (r refl)
 complete g WriteFault state may r w = absurd (w refl)

@@ -9,10 +9,12 @@ use Rattle.recording.specs.declared.head.HeadFault.{HeadFault}
 use Rattle.recording.specs.declared.TheConstants.{MAX_SAMPLES}
 use Rattle.file_tasks.specs.FileState.{NoFile, Sound, TornEnd, TooManySamples, body_state, state_behind, state_of}
 
-pub sound_body : (body : List ℕ) (count : ℕ) → count ≡ length (samples body) → count ≤ MAX_SAMPLES → torn_bytes body ≡ 0 → body_state body ≡ Sound
+pub sound_body : (body : List ℕ) (count : ℕ) → count ≡ length (samples body) → count ≤ MAX_SAMPLES → torn_bytes body ≡ 0 →
+    body_state body ≡ Sound
 sound_body body count is few none = grind (arith, nat_tests, is, few, none)
 
-pub torn_body : (body : List ℕ) (count bytes : ℕ) → count ≡ length (samples body) → count ≤ MAX_SAMPLES → torn_bytes body ≡ bytes → 0 < bytes → body_state body ≡ TornEnd bytes
+pub torn_body : (body : List ℕ) (count bytes : ℕ) → count ≡ length (samples body) → count ≤ MAX_SAMPLES → torn_bytes body ≡ bytes →
+    0 < bytes → body_state body ≡ TornEnd bytes
 torn_body body count bytes is few odds some = grind (arith, nat_tests, is, few, odds, some)
 
 pub long_body : (body : List ℕ) (count : ℕ) → count ≤ length (samples body) → MAX_SAMPLES < count → body_state body ≡ TooManySamples

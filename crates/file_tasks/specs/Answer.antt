@@ -52,7 +52,8 @@ IsAnswer gauge answer state = (state ≢ NoFile) × ((answer ≡ answer_for gaug
 
 -- what a reader of a recording may give, of a file in this state
 abbrev pub MayGive : {T : Type 0} → ℕ → Result T Refusal → FileState → Type 0
-MayGive gauge result state = MatchResult result (λ read. state ≡ Sound) (λ refusal. MayAnswer gauge (status_of gauge refusal) state)
+MayGive gauge result state =
+    MatchResult result (λ read. state ≡ Sound) (λ refusal. MayAnswer gauge (status_of gauge refusal) state)
 
 -- what printing a sound recording ends with
 abbrev pub IsPrinting : Status → Type 0

@@ -75,11 +75,13 @@ pub record IsThrough (workers : ℕ) (s : Flow) (g : ℕ) : Type 0 where
   pub counted : (v : ℕ) → v < workers → Every (λ n. n.gauge ≢ g) (s.counted v)
 
 abbrev pub EachEventKeeps : Type 0
-EachEventKeeps = (block workers : ℕ) (s : Flow) (e : Event) → 0 < block → 0 < workers → Meets block workers s → Allowed block workers s e
+EachEventKeeps = (block workers : ℕ) (s : Flow) (e : Event) → 0 < block → 0 < workers → Meets block workers s →
+    Allowed block workers s e
     → Meets block workers (after block workers s e)
 
 abbrev pub EachScheduleKeeps : Type 0
-EachScheduleKeeps = (block workers : ℕ) (es : List Event) (s : Flow) → 0 < block → 0 < workers → IsStart s → AllAllowed block workers es s
+EachScheduleKeeps = (block workers : ℕ) (es : List Event) (s : Flow) → 0 < block → 0 < workers → IsStart s →
+    AllAllowed block workers es s
     → Meets block workers (run block workers es s)
 
 abbrev pub StoredNeverFalls : Type 0
@@ -87,5 +89,6 @@ StoredNeverFalls = (block workers : ℕ) (es : List Event) (s : Flow) (g : ℕ) 
     → s.stored g ≤ (run block workers es s).stored g
 
 abbrev pub AllIsStored : Type 0
-AllIsStored = (block workers : ℕ) (s : Flow) (g : ℕ) → Meets block workers s → IsThrough workers s g → (s.stored g ≡ length (s.samples g))
+AllIsStored = (block workers : ℕ) (s : Flow) (g : ℕ) → Meets block workers s → IsThrough workers s g →
+    (s.stored g ≡ length (s.samples g))
     ⊎ Allowed block workers s (Commit g (length (s.samples g)))

@@ -12,13 +12,15 @@ use Rattle.site_lanes.specs.Lanes.{AreLanes, AreHeldTo, IsWhole}
 use Rattle.held_rounds.specs.Telling.{HasTold}
 use Rattle.held_rounds.proofs.RoundOf.{any_of, at_next, lines_more}
 
-pub record IsAhead {C : Type 0} (block : ℕ) (r : Recorded) (n : List ℕ) (told told2 : Lines) (ends : List ℕ) (lanes : List (Lane C)) : Type 0 where
+pub record IsAhead {C : Type 0} (block : ℕ) (r : Recorded) (n : List ℕ) (told told2 : Lines) (ends : List ℕ)
+    (lanes : List (Lane C)) : Type 0 where
   pub rounds : ℕ
   pub are : told2 ≡ told ++ held_lines block r n rounds
   pub ends_at : (g : ℕ) → g < r.gauges → slice_index ends g ≡ held_after block r n rounds g
   pub at : (g : ℕ) (d : Lane C) → g < length lanes → (slice_index_or lanes g d).at ≡ held_after block r n (suc rounds) g
 
-held_at : {C : Type 0} (block : ℕ) (r : Recorded) (n : List ℕ) (k : ℕ) (ends : List ℕ) (lanes : List (Lane C)) → r.gauges ≡ length lanes → AreHeldTo ends lanes
+held_at : {C : Type 0} (block : ℕ) (r : Recorded) (n : List ℕ) (k : ℕ) (ends : List ℕ) (lanes : List (Lane C)) → r.gauges ≡ length lanes →
+    AreHeldTo ends lanes
     → ((g : ℕ) (d : Lane C) → g < length lanes → (slice_index_or lanes g d).at ≡ held_after block r n k g)
     → (g : ℕ) → g < r.gauges → slice_index ends g ≡ held_after block r n k g
 held_at block r n k ends lanes many held at g lt =
@@ -26,7 +28,8 @@ held_at block r n k ends lanes many held at g lt =
     let d = any_of lanes g within in (held g d within).1 ∙ at g d within
 
 module _ {C : Type 0} {tells : Type 0} {left : C → List ℕ} {faults : C → ℕ} {old new : PreparedValue} {lanes lanes2 : List (Lane C)}
-    (done : RoundDone tells left faults old new lanes lanes2) (count : length lanes ≡ old.gauges) (r : Recorded) (many : r.gauges ≡ length lanes)
+    (done : RoundDone tells left faults old new lanes lanes2) (count : length lanes ≡ old.gauges) (r : Recorded)
+    (many : r.gauges ≡ length lanes)
     (t : tells) (are : AreLanes tells left r lanes) (n : List ℕ) (told : Lines) where
   -- after the first round
   pub ahead_first : (told2 : Lines) (ends : List ℕ) → AreHeldTo ends lanes → All IsWhole lanes2 → HasTold old.block r n told told2 lanes
@@ -52,7 +55,8 @@ module _ {C : Type 0} {tells : Type 0} {left : C → List ℕ} {faults : C → �
       }
 
 -- after the last puts
-pub ahead_last : {C : Type 0} (block : ℕ) (r : Recorded) (n : List ℕ) (told told2 told3 : Lines) (ends ends2 : List ℕ) (lanes : List (Lane C))
+pub ahead_last : {C : Type 0} (block : ℕ) (r : Recorded) (n : List ℕ) (told told2 told3 : Lines) (ends ends2 : List ℕ)
+    (lanes : List (Lane C))
     → r.gauges ≡ length lanes → AreHeldTo ends2 lanes → told3 ≡ told2 ++ round_lines r.names (slice_index ends) (slice_index ends2) r.gauges
     → IsAhead block r n told told2 ends lanes → HasTold block r n told told3 lanes
 ahead_last block r n told told2 told3 ends ends2 lanes many held here was = record {

@@ -36,7 +36,8 @@ pub can_first : {C : Type 0} (ends : List ℕ) (lanes : List (Lane C)) → AreHe
 can_first ends lanes held g d lt = (held g d lt).0
 
 -- the lines of one round more
-pub lines_more : (r : Recorded) (n : List ℕ) (block k : ℕ) (told told2 told3 : Lines) (ends ends2 : ℕ → ℕ) → told2 ≡ told ++ held_lines block r n k
+pub lines_more : (r : Recorded) (n : List ℕ) (block k : ℕ) (told told2 told3 : Lines) (ends ends2 : ℕ → ℕ) →
+    told2 ≡ told ++ held_lines block r n k
     → ((g : ℕ) → g < r.gauges → ends g ≡ held_after block r n k g) → ((g : ℕ) → g < r.gauges → ends2 g ≡ held_after block r n (suc k) g)
     → told3 ≡ told2 ++ round_lines r.names ends ends2 r.gauges → told3 ≡ told ++ held_lines block r n (suc k)
 lines_more r n block k told told2 told3 ends ends2 so_far from to here =
@@ -51,10 +52,13 @@ front_stands r front g at to gain left name is rest stands =
     let same : take (to - at) (samples left) ≡ slice_range (r.samples front.gauge) front.from front.to =
     ap (take (to - at)) rest ∙ ap (λ (x : Name). slice_range (r.samples x.gauge) x.from x.to) (sym name) in
     subst (λ (l : List ℤ). Stands front (gain_at r.setup front.gauge) l) same
-    (subst (λ (k : GainValue). Stands front k (take (to - at) (samples left))) (is ∙ ap (λ (x : Name). gain_at r.setup x.gauge) (sym name)) stands)
+    (subst (λ (k : GainValue). Stands front k (take (to - at) (samples left))) (is ∙ ap (λ (x : Name). gain_at r.setup x.gauge) (sym name))
+    stands)
 
 -- all lanes, which stand where the gauges are held
-module _ {C : Type 0} {tells : Type 0} {left : C → List ℕ} {faults : C → ℕ} {old new : PreparedValue} {lanes lanes2 : List (Lane C)} (done : RoundDone tells left faults old new lanes lanes2) (ends : List ℕ) (held : AreHeldTo ends lanes) (count : length lanes ≡ old.gauges) where
+module _ {C : Type 0} {tells : Type 0} {left : C → List ℕ} {faults : C → ℕ} {old new : PreparedValue} {lanes lanes2 : List (Lane C)}
+    (done : RoundDone tells left faults old new lanes lanes2) (ends : List ℕ) (held : AreHeldTo ends lanes)
+    (count : length lanes ≡ old.gauges) where
   ready : AreReady lanes
   ready = can_first ends lanes held
 
@@ -68,7 +72,12 @@ module _ {C : Type 0} {tells : Type 0} {left : C → List ℕ} {faults : C → �
         gauge = is.gauge;
         grid = is.grid ∙ done.board.0 ∙ grid;
         next = ap (λ (x : Name). x.from) done_front.name ∙ sym was.1;
-        ascends = omega (arith, (done.lane g d (omega (arith, lt, many))).samples.0, ap (λ (x : Name). x.from) done_front.name, ap (λ (x : Name). x.to) done_front.name);
+        ascends = omega (
+          arith,
+          (done.lane g d (omega (arith, lt, many))).samples.0,
+          ap (λ (x : Name). x.from) done_front.name,
+          ap (λ (x : Name). x.to) done_front.name,
+        );
       }
 
   pub fronts_end : (gauges : ℕ) → gauges ≡ old.gauges → FrontsEnd (at_of lanes2) new.board gauges
@@ -86,10 +95,13 @@ module _ {C : Type 0} {tells : Type 0} {left : C → List ℕ} {faults : C → �
       let was = are g d within in
       let can = (held g d within).0 in
       ⊎_elim
-      (λ more. front_stands r front g (slice_index_or lanes g d).at (slice_index_or lanes2 g d).at (slice_index_or lanes g d).gain (left l.before)
+      (λ more. front_stands r front g (slice_index_or lanes g d).at (slice_index_or lanes2 g d).at (slice_index_or lanes g d).gain
+      (left l.before)
       (f.name ∙ ap (λ (n : ℕ). record { gauge = n; from = (slice_index_or lanes g d).at; to = (slice_index_or lanes2 g d).at }) can.gauge)
-      (was.gain _) (stood_more (r.samples g) (r.torn g) (left l.before) (slice_index_or lanes g d).at more (was.stood t l.before l.was)).0 (f.stands l.before l.was t))
-      (λ other. absurd (omega (arith, some, (l.ended other).0, ap (λ (x : Name). x.from) f.name, ap (λ (x : Name). x.to) f.name))) (more_or_not (slice_index_or lanes g d).end)
+      (was.gain _) (stood_more (r.samples g) (r.torn g) (left l.before) (slice_index_or lanes g d).at more (was.stood t l.before l.was)).0
+      (f.stands l.before l.was t))
+      (λ other. absurd (omega (arith, some, (l.ended other).0, ap (λ (x : Name). x.from) f.name, ap (λ (x : Name). x.to) f.name)))
+      (more_or_not (slice_index_or lanes g d).end)
 
   -- where all lanes stand at the end of so many rounds, they stand at the end of one more
   pub at_next : (r : Recorded) (n : List ℕ) (k : ℕ) → tells → AreLanes tells left r lanes → All IsWhole lanes2
@@ -98,4 +110,5 @@ module _ {C : Type 0} {tells : Type 0} {left : C → List ℕ} {faults : C → �
   at_next r n k t are whole was g d lt =
       let step = all_reached done count ready r (λ h. slice_index n h + 16 * old.block * k) t are whole was g d lt in
       let more : 16 * old.block * suc k ≡ 16 * old.block * k + 16 * old.block = mul-suc (16 * old.block) k in
-      step ∙ ap (λ (m : ℕ). min m (length (r.samples g))) (let e : slice_index n g + 16 * old.block * k + 16 * old.block ≡ slice_index n g + 16 * old.block * suc k = omega (arith, more) in e)
+      step ∙ ap (λ (m : ℕ). min m (length (r.samples g))) (let e : slice_index n g + 16 * old.block * k + 16 * old.block ≡ slice_index n g +
+      16 * old.block * suc k = omega (arith, more) in e)

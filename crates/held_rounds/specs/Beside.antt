@@ -24,16 +24,21 @@ use Rattle.held_samples.specs.Fronts.{AreFronts, FrontsEnd, FrontsStand}
 abbrev pub IsBoardFor : PreparedValue → BoardValue → Type 0
 IsBoardFor p b = (b.grid ≡ p.grid) × (b.block ≡ p.block) × (length b.rows ≡ p.gauges)
 
-pub record Leads {C : Type 0} (setup : Setup) (ends : List ℕ) (board : BoardValue) (lanes : List (Lane C)) : Type 0 where
+pub record Leads {C : Type 0} (setup : Setup) (ends : List ℕ) (board : BoardValue)
+    (lanes : List (Lane C)) : Type 0 where
   pub fronts : AreFronts setup ends board (length lanes)
   pub to : FrontsEnd (at_of lanes) board (length lanes)
 
-pub record Stores {E : Type 0} (tells : Type 0) (conf : Config) (board : BoardValue) (old new : StoreValue) (clock clock2 : ℕ)
-    (moments moments2 : MomentsSince) (told told2 : Lines) (seen seen2 : Image) (leaves leaves2 : Image → Type 0) (faults faults2 : ℕ)
+pub record Stores {E : Type 0} (tells : Type 0) (conf : Config) (board : BoardValue) (old new : StoreValue)
+    (clock clock2 : ℕ)
+    (moments moments2 : MomentsSince) (told told2 : Lines) (seen seen2 : Image) (leaves leaves2 : Image → Type 0)
+    (faults faults2 : ℕ)
     (result : Result (Unit {0}) E) : Type 0 where
-  pub going : tells → (files : Files) → IsStored (recorded conf files) old seen leaves → FrontsStand (recorded conf files) board →
+  pub going : tells → (files : Files) → IsStored (recorded conf files) old seen leaves →
+      FrontsStand (recorded conf files) board →
       Going (recorded conf files) (ends_of old.held) clock moments told clock2 moments2 told2 leaves2 (ends_of new.held)
-  pub stored : tells → (files : Files) → IsStored (recorded conf files) old seen leaves → FrontsStand (recorded conf files) board →
+  pub stored : tells → (files : Files) → IsStored (recorded conf files) old seen leaves →
+      FrontsStand (recorded conf files) board →
       OnOk result (IsStored (recorded conf files) new seen2 leaves2)
   pub lines : tells → OnOk result (told2 ≡ told ++
       round_lines (name_of conf) (slice_index (ends_of old.held)) (slice_index (ends_of new.held)) (length conf.gauges))

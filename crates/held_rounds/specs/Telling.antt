@@ -6,7 +6,8 @@ use Rattle.recorded.specs.Recorded.{Recorded}
 use Rattle.held_samples.specs.Told.{held_lines, held_after}
 
 -- the lines of so many rounds, from n samples on, and each lane stands where they end
-pub record HasTold {C : Type 0} (block : ℕ) (r : Recorded) (n : List ℕ) (told told2 : Lines) (lanes : List (Lane C)) : Type 0 where
+pub record HasTold {C : Type 0} (block : ℕ) (r : Recorded) (n : List ℕ) (told told2 : Lines)
+    (lanes : List (Lane C)) : Type 0 where
   pub rounds : ℕ
   pub are : told2 ≡ told ++ held_lines block r n rounds
   pub at : (g : ℕ) (d : Lane C) → g < length lanes → (slice_index_or lanes g d).at ≡ held_after block r n rounds g

@@ -21,8 +21,10 @@ any_default [] i a b lt = absurd (omega (arith, lt))
 any_default (x ∷ xs) zero a b lt = refl
 any_default (x ∷ xs) (suc i) a b lt = any_default xs i a b (omega (arith, lt))
 
-pub name_is : (conf : Config) (g : ℕ) (gauges : List Gauge) (here : Gauge) (name : List ℕ) → g < length conf.gauges → gauges ≡ conf.gauges → name ≡ (slice_index_or gauges g here).name → name_of conf g ≡ name
-name_is conf g gauges here name lt same is = ap (λ (x : Gauge). x.name) (any_default conf.gauges g no_gauge here lt) ∙ ap (λ (l : List Gauge). (slice_index_or l g here).name) (sym same) ∙ sym is
+pub name_is : (conf : Config) (g : ℕ) (gauges : List Gauge) (here : Gauge) (name : List ℕ) → g < length conf.gauges → gauges ≡ conf.gauges →
+    name ≡ (slice_index_or gauges g here).name → name_of conf g ≡ name
+name_is conf g gauges here name lt same is = ap (λ (x : Gauge). x.name) (any_default conf.gauges g no_gauge here lt)
+    ∙ ap (λ (l : List Gauge). (slice_index_or l g here).name) (sym same) ∙ sym is
 
 pub are_names : (conf : Config) → IsConfig conf → AreNames (name_of conf) (length conf.gauges)
 are_names conf is = record { letters = is.names; differ = is.differ }
@@ -41,13 +43,15 @@ not_same h k g lt is e = omega (arith, lt, is, e)
 pub not_same_after : (h k g : ℕ) → k + 1 ≤ h → g ≡ k → h ≢ g
 not_same_after h k g le is e = omega (arith, le, is, e)
 
-pub told_named : (told told2 : Lines) (name name2 : List ℕ) (from to : ℕ) → told2 ≡ told ++ gauge_lines name2 from to → name ≡ name2 → told2 ≡ told ++ gauge_lines name from to
+pub told_named : (told told2 : Lines) (name name2 : List ℕ) (from to : ℕ) → told2 ≡ told ++ gauge_lines name2 from to → name ≡ name2 →
+    told2 ≡ told ++ gauge_lines name from to
 told_named told told2 name name2 from to is same = is ∙ ap (λ (n : List ℕ). told ++ gauge_lines n from to) (sym same)
 
 less : (h k : ℕ) → h < k + 1 → h ≢ k → h < k
 less h k lt other = grind arith
 
-pub held_before : (ends now : List ℕ) (to : ℕ → ℕ) (front : SegmentValue) (k : ℕ) → front.gauge ≡ k → IsHeldTo ends front.gauge front.to now → front.to ≡ to k
+pub held_before : (ends now : List ℕ) (to : ℕ → ℕ) (front : SegmentValue) (k : ℕ) → front.gauge ≡ k →
+    IsHeldTo ends front.gauge front.to now → front.to ≡ to k
     → ((h : ℕ) → h < k → slice_index ends h ≡ to h) → (h : ℕ) → h < k + 1 → slice_index now h ≡ to h
 held_before ends now to front k gauge held is before h lt = elim (cases_eq h k) [
   | inl same ↦ ap (slice_index now) (same ∙ sym gauge) ∙ held.here ∙ is ∙ ap to (sym same)

@@ -45,7 +45,9 @@ grows : (setup : Setup) (ends : List ℕ) (p : PartsValue) → IsNext setup ends
 grows setup ends p next g = elim (cases_eq g p.name.gauge) [
   | inr other ↦ omega (arith, get_or-set_other ends p.name.gauge g p.name.to 0 other)
   | inl same ↦ elim (cases_lt g (length ends)) [
-    | inl within ↦ let e : get_or (set ends p.name.gauge p.name.to) g 0 ≡ p.name.to = ap (λ (k : ℕ). get_or (set ends p.name.gauge p.name.to) k 0) same ∙ get_or-set_same ends p.name.gauge p.name.to 0 (omega (arith, within, same)) in
+    | inl within ↦ let e : get_or (set ends p.name.gauge p.name.to) g 0 ≡ p.name.to = ap
+        (λ (k : ℕ). get_or (set ends p.name.gauge p.name.to) k 0) same ∙ get_or-set_same ends p.name.gauge p.name.to 0
+        (omega (arith, within, same)) in
         omega (arith, e, next.body.some, next.joins, ap (λ (k : ℕ). get_or ends k 0) same)
     | inr past ↦ omega (arith, get_or_past ends g 0 past)
   ]
@@ -53,13 +55,15 @@ grows setup ends p next g = elim (cases_eq g p.name.gauge) [
 
 pub below_grows : (r : Recorded) (m n : List ℕ) → EachAtMost m n → (lines : Lines) → AreBelow r m lines → AreBelow r n lines
 below_grows r m n le [] all = tt
-below_grows r m n le (line ∷ lines) all = ((λ g k lt small is. omega (arith, all.0 g k lt small is, le g)), below_grows r m n le lines all.1)
+below_grows r m n le (line ∷ lines) all =
+    ((λ g k lt small is. omega (arith, all.0 g k lt small is, le g)), below_grows r m n le lines all.1)
 
 pub same_lines : (told : Lines) → told ≡ told ++ []
 same_lines [] = refl
 same_lines (line ∷ lines) = ap (λ (l : Lines). line ∷ l) (same_lines lines)
 
-pub stored_holds : (r : Recorded) (s : StoreValue) (seen : Image) (leaves : Image → Type 0) → IsStored r s seen leaves → (c : Image) → leaves c → Holds r.setup r.samples (ends_of s.held) c
+pub stored_holds : (r : Recorded) (s : StoreValue) (seen : Image) (leaves : Image → Type 0) → IsStored r s seen leaves → (c : Image) →
+    leaves c → Holds r.setup r.samples (ends_of s.held) c
 stored_holds r s seen leaves stored c has = record {
   head = s.head;
   of_setup = stored.setup;
@@ -68,8 +72,10 @@ stored_holds r s seen leaves stored c has = record {
   stand = stored.stand;
 }
 
-pub going_starts : (r : Recorded) (s : StoreValue) (start : ℕ) (past : MomentsSince) (told : Lines) (seen : Image) (leaves : Image → Type 0) → IsStored r s seen leaves
-    → ((lines : Lines) (c : Image) → past start lines c → (lines ≡ told) × leaves c) → Going r (ends_of s.held) start past told start past told leaves (ends_of s.held)
+pub going_starts : (r : Recorded) (s : StoreValue) (start : ℕ) (past : MomentsSince) (told : Lines) (seen : Image)
+    (leaves : Image → Type 0) → IsStored r s seen leaves
+    → ((lines : Lines) (c : Image) → past start lines c → (lines ≡ told) × leaves c) →
+    Going r (ends_of s.held) start past told start past told leaves (ends_of s.held)
 going_starts r s start past told seen leaves stored only = record {
   run = started start past (IsKept r (ends_of s.held) told) (λ lines c was. record {
     held = ends_of s.held;
@@ -83,11 +89,16 @@ going_starts r s start past told seen leaves stored only = record {
   grew = same_lines told;
   below = tt;
   least = at_most_same (ends_of s.held);
-  held = λ c has. record { held = ends_of s.held; holds = stored_holds r s seen leaves stored c has; least = at_most_same (ends_of s.held) };
+  held = λ c has. record {
+    held = ends_of s.held;
+    holds = stored_holds r s seen leaves stored c has;
+    least = at_most_same (ends_of s.held);
+  };
 }
 
 -- where what holds of a moment of the later run has the lines of the earlier one before it
-kept_then : (r : Recorded) (a n : List ℕ) (told told2 lines : Lines) (c : Image) (new : Lines) → told2 ≡ told ++ new → AreBelow r n new → EachAtMost a n → IsKept r n told2 lines c → IsKept r a told lines c
+kept_then : (r : Recorded) (a n : List ℕ) (told told2 lines : Lines) (c : Image) (new : Lines) → told2 ≡ told ++ new → AreBelow r n new →
+    EachAtMost a n → IsKept r n told2 lines c → IsKept r a told lines c
 kept_then r a n told told2 lines c new grew below least k = record {
   held = k.held;
   holds = k.holds;
@@ -97,10 +108,13 @@ kept_then r a n told told2 lines c new grew below least k = record {
   below = all_both (IsBelow r k.held) new k.new (below_grows r n k.held k.least new below) k.below;
 }
 
-pub going_then : {r : Recorded} {a n m : List ℕ} {start mid now : ℕ} {past between since : MomentsSince} {told told2 told3 : Lines} {leaves2 leaves3 : Image → Type 0}
-    → Going r a start past told mid between told2 leaves2 n → Going r n mid between told2 now since told3 leaves3 m → Going r a start past told now since told3 leaves3 m
+pub going_then : {r : Recorded} {a n m : List ℕ} {start mid now : ℕ} {past between since : MomentsSince} {told told2 told3 : Lines}
+    {leaves2 leaves3 : Image → Type 0}
+    → Going r a start past told mid between told2 leaves2 n → Going r n mid between told2 now since told3 leaves3 m →
+    Going r a start past told now since told3 leaves3 m
 going_then {r} {a} {n} {m} {start} {mid} {now} {past} {between} {since} {told} {told2} {told3} {leaves2} {leaves3} x y = record {
-  run = continues start mid now past between since (IsKept r a told) (IsKept r n told2) x.run y.run (λ lines c k. kept_then r a n told told2 lines c x.new x.grew x.below x.least k);
+  run = continues start mid now past between since (IsKept r a told) (IsKept r n told2) x.run y.run
+      (λ lines c k. kept_then r a n told told2 lines c x.new x.grew x.below x.least k);
   new = x.new ++ y.new;
   grew = y.grew ∙ ap (λ (l : Lines). l ++ y.new) x.grew ∙ append_assoc told x.new y.new;
   below = all_both (IsBelow r m) x.new y.new (below_grows r n m y.least x.new x.below) y.below;
@@ -109,19 +123,51 @@ going_then {r} {a} {n} {m} {start} {mid} {now} {past} {between} {since} {told} {
 }
 
 -- a put of a segment that stands for its samples
-module _ (r : Recorded) (s : StoreValue) (seen : Image) (leaves : Image → Type 0) (stored : IsStored r s seen leaves) (p : PartsValue) (stands : StandsIn r.setup r.samples p)
+module _ (r : Recorded) (s : StoreValue) (seen : Image) (leaves : Image → Type 0) (stored : IsStored r s seen leaves) (p : PartsValue)
+    (stands : StandsIn r.setup r.samples p)
     (start now : ℕ) (past since : MomentsSince) (told told2 : Lines) (leaves2 : Image → Type 0)
-    (run : Since start past now since (InPut told s.head stored.bodies (ends_of s.held) p)) (same : told2 ≡ told) (counts : (c : Image) → leaves2 c → since start told2 c) where
-  holds_more : (c : Image) → IsNext s.head.setup (ends_of s.held) p → Reads s.head (stored.bodies ++ p ∷ []) (extended (ends_of s.held) p) c → Holds r.setup r.samples (extended (ends_of s.held) p) c
-  holds_more c next reads = record { head = s.head; of_setup = stored.setup; bodies = stored.bodies ++ p ∷ []; reads = reads; stand = all_more (StandsIn r.setup r.samples) stored.bodies p stored.stand stands }
+    (run : Since start past now since (InPut told s.head stored.bodies (ends_of s.held) p)) (same : told2 ≡ told)
+    (counts : (c : Image) → leaves2 c → since start told2 c) where
+  holds_more : (c : Image) → IsNext s.head.setup (ends_of s.held) p →
+      Reads s.head (stored.bodies ++ p ∷ []) (extended (ends_of s.held) p) c → Holds r.setup r.samples (extended (ends_of s.held) p) c
+  holds_more c next reads = record {
+    head = s.head;
+    of_setup = stored.setup;
+    bodies = stored.bodies ++ p ∷ [];
+    reads = reads;
+    stand = all_more (StandsIn r.setup r.samples) stored.bodies p stored.stand stands;
+  }
 
   in_put : (lines : Lines) (c : Image) → InPut told s.head stored.bodies (ends_of s.held) p lines c → HoldsAtLeast r (ends_of s.held) c
   in_put lines c i = ⊎_elim
-      (λ old. record { held = ends_of s.held; holds = record { head = s.head; of_setup = stored.setup; bodies = stored.bodies; reads = old; stand = stored.stand }; least = at_most_same (ends_of s.held) })
-      (λ new. record { held = extended (ends_of s.held) p; holds = holds_more c new.0 new.1; least = grows s.head.setup (ends_of s.held) p new.0 }) i.1
+      (λ old. record {
+        held = ends_of s.held;
+        holds = record {
+          head = s.head;
+          of_setup = stored.setup;
+          bodies = stored.bodies;
+          reads = old;
+          stand = stored.stand;
+        };
+        least = at_most_same (ends_of s.held);
+      })
+      (λ new. record {
+        held = extended (ends_of s.held) p;
+        holds = holds_more c new.0 new.1;
+        least = grows s.head.setup
+            (ends_of s.held) p new.0;
+      }) i.1
 
-  put_kept : (lines : Lines) (c : Image) → InPut told s.head stored.bodies (ends_of s.held) p lines c → IsKept r (ends_of s.held) told lines c
-  put_kept lines c i = let h = in_put lines c i in record { held = h.held; holds = h.holds; least = h.least; new = []; grew = i.0 ∙ same_lines told; below = tt }
+  put_kept : (lines : Lines) (c : Image) → InPut told s.head stored.bodies (ends_of s.held) p lines c →
+      IsKept r (ends_of s.held) told lines c
+  put_kept lines c i = let h = in_put lines c i in record {
+    held = h.held;
+    holds = h.holds;
+    least = h.least;
+    new = [];
+    grew = i.0 ∙ same_lines told;
+    below = tt;
+  }
 
   -- whatever it answers
   pub put_going : Going r (ends_of s.held) start past told now since told2 leaves2 (ends_of s.held)
@@ -135,9 +181,15 @@ module _ (r : Recorded) (s : StoreValue) (seen : Image) (leaves : Image → Type
   }
 
   -- with Ok
-  module _ (s2 : StoreValue) (seen2 : Image) (held2 : ends_of s2.held ≡ extended (ends_of s.held) p) (head2 : s2.head ≡ s.head) (next : IsNext s.head.setup (ends_of s.held) p) (on : IsOn s2 (stored.bodies ++ p ∷ []) seen2 leaves2) where
+  module _ (s2 : StoreValue) (seen2 : Image) (held2 : ends_of s2.held ≡ extended (ends_of s.held) p) (head2 : s2.head ≡ s.head)
+      (next : IsNext s.head.setup (ends_of s.held) p) (on : IsOn s2 (stored.bodies ++ p ∷ []) seen2 leaves2) where
     pub put_stored : IsStored r s2 seen2 leaves2
-    put_stored = record { setup = ap (λ (h : HeadValue). h.setup) head2 ∙ stored.setup; bodies = stored.bodies ++ p ∷ []; on = on; stand = all_more (StandsIn r.setup r.samples) stored.bodies p stored.stand stands }
+    put_stored = record {
+      setup = ap (λ (h : HeadValue). h.setup) head2 ∙ stored.setup;
+      bodies = stored.bodies ++ p ∷ [];
+      on = on;
+      stand = all_more (StandsIn r.setup r.samples) stored.bodies p stored.stand stands;
+    }
 
     more : EachAtMost (ends_of s.held) (ends_of s2.held)
     more = subst (EachAtMost (ends_of s.held)) (sym held2) (grows s.head.setup (ends_of s.held) p next)
@@ -149,19 +201,37 @@ module _ (r : Recorded) (s : StoreValue) (seen : Image) (leaves : Image → Type
       grew = same ∙ same_lines told;
       below = tt;
       least = more;
-      held = λ c has. record { held = ends_of s2.held; holds = stored_holds r s2 seen2 leaves2 put_stored c has; least = at_most_same (ends_of s2.held) };
+      held = λ c has. record {
+        held = ends_of s2.held;
+        holds = stored_holds r s2 seen2 leaves2 put_stored c has;
+        least = at_most_same (ends_of s2.held);
+      };
     }
 
 -- a line that acknowledges no more than is held, told or not
-pub line_going : (r : Recorded) (a m : List ℕ) (start now next : ℕ) (past since later : MomentsSince) (told told2 told3 : Lines) (leaves leaves2 : Image → Type 0) → Going r a start past told now since told2 leaves m
-    → (line : List ℕ) → IsBelow r m line → Elapses now next since later told3 leaves2 → SameImages leaves leaves2 → (told3 ≡ told2 ++ line ∷ []) ⊎ (told3 ≡ told2) → Going r a start past told next later told3 leaves2 m
+pub line_going : (r : Recorded) (a m : List ℕ) (start now next : ℕ) (past since later : MomentsSince) (told told2 told3 : Lines)
+    (leaves leaves2 : Image → Type 0) → Going r a start past told now since told2 leaves m
+    → (line : List ℕ) → IsBelow r m line → Elapses now next since later told3 leaves2 → SameImages leaves leaves2 →
+    (told3 ≡ told2 ++ line ∷ []) ⊎ (told3 ≡ told2) → Going r a start past told next later told3 leaves2 m
 line_going r a m start now next past since later told told2 told3 leaves leaves2 g line is_below time images lines =
     let new : (l : Lines) × (told3 ≡ told ++ l) × AreBelow r m l = ⊎_elim
-    (λ more. (g.new ++ line ∷ [], more ∙ ap (λ (l : Lines). l ++ line ∷ []) g.grew ∙ append_assoc told g.new (line ∷ []), all_more (IsBelow r m) g.new line g.below is_below))
+    (λ more. (
+      g.new ++ line ∷ [],
+      more ∙ ap (λ (l : Lines). l ++ line ∷ []) g.grew ∙ append_assoc told g.new (line ∷ []),
+      all_more (IsBelow r m) g.new line g.below is_below,
+    ))
     (λ none. (g.new, none ∙ g.grew, g.below)) lines in
     record {
-      run = goes_on start now next past since later (IsKept r a told) told3 leaves2 g.run time (λ c has. let h = g.held c (images.none_new c has) in
-          record { held = h.held; holds = h.holds; least = at_most_trans a m h.held g.least h.least; new = new.0; grew = new.1; below = below_grows r m h.held h.least new.0 new.2 });
+      run = goes_on start now next past since later (IsKept r a told) told3 leaves2 g.run time
+          (λ c has. let h = g.held c (images.none_new c has) in
+          record {
+            held = h.held;
+            holds = h.holds;
+            least = at_most_trans a m h.held g.least h.least;
+            new = new.0;
+            grew = new.1;
+            below = below_grows r m h.held h.least new.0 new.2;
+          });
       new = new.0;
       grew = new.1;
       below = new.2;
@@ -170,11 +240,26 @@ line_going r a m start now next past since later told told2 told3 leaves leaves2
     }
 
 -- the store stays on its station where nothing is written
-pub on_still : (s : StoreValue) (bodies : List PartsValue) (seen seen2 : Image) (leaves leaves2 : Image → Type 0) → IsOn s bodies seen leaves → seen2 ≡ seen → NoNew leaves leaves2 → IsOn s bodies seen2 leaves2
-on_still s bodies seen seen2 leaves leaves2 on same none = record { reads = subst (λ (d : Image). Reads s.head bodies (ends_of s.held) d) (sym same) on.reads; held = on.held; count_is = on.count_is; place_is = on.place_is; durable = λ c has. on.durable c (none c has) ∙ sym same }
+pub on_still : (s : StoreValue) (bodies : List PartsValue) (seen seen2 : Image) (leaves leaves2 : Image → Type 0) →
+    IsOn s bodies seen leaves → seen2 ≡ seen → NoNew leaves leaves2 → IsOn s bodies seen2 leaves2
+on_still s bodies seen seen2 leaves leaves2 on same none = record {
+  reads = subst (λ (d : Image). Reads s.head bodies (ends_of s.held) d)
+      (sym same) on.reads;
+  held = on.held;
+  count_is = on.count_is;
+  place_is = on.place_is;
+  durable = λ c has.
+      on.durable c (none c has) ∙ sym same;
+}
 
-pub stored_still : (r : Recorded) (s : StoreValue) (seen seen2 : Image) (leaves leaves2 : Image → Type 0) → IsStored r s seen leaves → seen2 ≡ seen → NoNew leaves leaves2 → IsStored r s seen2 leaves2
-stored_still r s seen seen2 leaves leaves2 stored same none = record { setup = stored.setup; bodies = stored.bodies; on = on_still s stored.bodies seen seen2 leaves leaves2 stored.on same none; stand = stored.stand }
+pub stored_still : (r : Recorded) (s : StoreValue) (seen seen2 : Image) (leaves leaves2 : Image → Type 0) → IsStored r s seen leaves →
+    seen2 ≡ seen → NoNew leaves leaves2 → IsStored r s seen2 leaves2
+stored_still r s seen seen2 leaves leaves2 stored same none = record {
+  setup = stored.setup;
+  bodies = stored.bodies;
+  on = on_still s stored.bodies seen seen2 leaves leaves2 stored.on same none;
+  stand = stored.stand;
+}
 
 some : (name : List ℕ) (from to : ℕ) → from < to → held_line name to ∷ [] ≡ gauge_lines name from to
 some name from to lt = grind (arith, nat_tests)
@@ -183,16 +268,25 @@ none : (name : List ℕ) (from to : ℕ) → from ≡ to → [] ≡ gauge_lines 
 none name from to same = grind (arith, nat_tests)
 
 -- what is held of a gauge after its put
-pub end_held : (held held2 : List SegmentValue) (p : PartsValue) → p.name.gauge < length held → ends_of held2 ≡ extended (ends_of held) p → p.name.to ≤ get_or (ends_of held2) p.name.gauge 0
-end_held held held2 p lt is = omega (arith, ap (λ (e : List ℕ). get_or e p.name.gauge 0) is, get_or-set_same (ends_of held) p.name.gauge p.name.to 0 (omega (arith, lt, length-map held (λ (s : SegmentValue). s.to))))
+pub end_held : (held held2 : List SegmentValue) (p : PartsValue) → p.name.gauge < length held → ends_of held2 ≡ extended (ends_of held) p →
+    p.name.to ≤ get_or (ends_of held2) p.name.gauge 0
+end_held held held2 p lt is = omega (
+  arith,
+  ap (λ (e : List ℕ). get_or e p.name.gauge 0) is,
+  get_or-set_same (ends_of held) p.name.gauge
+      p.name.to 0 (omega (arith, lt, length-map held (λ (s : SegmentValue). s.to))),
+)
 
-pub held_to : (held held2 : List SegmentValue) (p : PartsValue) → p.name.gauge < length held → ends_of held2 ≡ extended (ends_of held) p → IsHeldTo (ends_of held) p.name.gauge p.name.to (ends_of held2)
+pub held_to : (held held2 : List SegmentValue) (p : PartsValue) → p.name.gauge < length held → ends_of held2 ≡ extended (ends_of held) p →
+    IsHeldTo (ends_of held) p.name.gauge p.name.to (ends_of held2)
 held_to held held2 p lt is = record {
-  here = ap (λ (e : List ℕ). get_or e p.name.gauge 0) is ∙ get_or-set_same (ends_of held) p.name.gauge p.name.to 0 (omega (arith, lt, length-map held (λ (s : SegmentValue). s.to)));
+  here = ap (λ (e : List ℕ). get_or e p.name.gauge 0) is ∙ get_or-set_same (ends_of held) p.name.gauge p.name.to 0
+      (omega (arith, lt, length-map held (λ (s : SegmentValue). s.to)));
   others = λ g other. ap (λ (e : List ℕ). get_or e g 0) is ∙ get_or-set_other (ends_of held) p.name.gauge g p.name.to 0 other;
 }
 
-pub line_of_some : (told : Lines) (name : List ℕ) (from to : ℕ) → from < to → told ++ held_line name to ∷ [] ≡ told ++ gauge_lines name from to
+pub line_of_some : (told : Lines) (name : List ℕ) (from to : ℕ) → from < to →
+    told ++ held_line name to ∷ [] ≡ told ++ gauge_lines name from to
 line_of_some told name from to lt = ap (λ (l : Lines). told ++ l) (some name from to lt)
 
 pub line_of_none : (told : Lines) (name : List ℕ) (from to : ℕ) → from ≡ to → told ≡ told ++ gauge_lines name from to
@@ -211,44 +305,70 @@ pub on_both : {A E : Type 0} {P Q R : Type 0} (r : Result A E) → (P → Q → 
 on_both (Ok x) f p q = f p q
 on_both (Err e) f p q = tt
 
-pub told_either : {E : Type 0} (r : Result (Unit {0}) E) (old new : Lines) (line : List ℕ) → Tells old line new r → (new ≡ old ++ line ∷ []) ⊎ (new ≡ old)
+pub told_either : {E : Type 0} (r : Result (Unit {0}) E) (old new : Lines) (line : List ℕ) → Tells old line new r →
+    (new ≡ old ++ line ∷ []) ⊎ (new ≡ old)
 told_either (Ok u) old new line t = inl t.0
 told_either (Err e) old new line t = t.1
 
 -- a run that only read
-pub safe_quiet : (r : Recorded) (a : List ℕ) (start now : ℕ) (past since : MomentsSince) (told told2 : Lines) (seen seen2 : Image) (leaves leaves2 : Image → Type 0) → ((c : Image) → leaves c → HoldsAtLeast r a c)
+pub safe_quiet : (r : Recorded) (a : List ℕ) (start now : ℕ) (past since : MomentsSince) (told told2 : Lines) (seen seen2 : Image)
+    (leaves leaves2 : Image → Type 0) → ((c : Image) → leaves c → HoldsAtLeast r a c)
     → IsQuiet start past now since told told2 seen seen2 leaves leaves2 → Safe r a start past told now since told2 leaves2
 safe_quiet r a start now past since told told2 seen seen2 leaves leaves2 holds quiet =
-    let kept : (lines : Lines) (c : Image) → (lines ≡ told) × leaves c → IsKept r a told lines c = λ lines c was. let h = holds c was.1 in record { held = h.held; holds = h.holds; least = h.least; new = []; grew = was.0 ∙ same_lines told; below = tt } in
-    record { run = entails start now past since (IsKept r a told) (λ lines c. (lines ≡ told) × leaves c) quiet.run kept; kept = λ c has. kept told2 c (quiet.told_same, quiet.none_new c has) }
+    let kept : (lines : Lines) (c : Image) → (lines ≡ told) × leaves c →
+    IsKept r a told lines c = λ lines c was. let h = holds c was.1 in record
+    { held = h.held; holds = h.holds; least = h.least; new = []; grew = was.0 ∙ same_lines told; below = tt } in
+    record {
+      run = entails start now past since (IsKept r a told) (λ lines c. (lines ≡ told) × leaves c) quiet.run kept;
+      kept = λ c has.
+          kept told2 c (quiet.told_same, quiet.none_new c has);
+    }
 
 -- and then one over the resumed store
-pub safe_going : (r : Recorded) (a n m : List ℕ) (start mid now : ℕ) (past between since : MomentsSince) (told told2 told3 : Lines) (leaves2 leaves3 : Image → Type 0) → Safe r a start past told mid between told2 leaves2 → told2 ≡ told → EachAtMost a n
+pub safe_going : (r : Recorded) (a n m : List ℕ) (start mid now : ℕ) (past between since : MomentsSince) (told told2 told3 : Lines)
+    (leaves2 leaves3 : Image → Type 0) → Safe r a start past told mid between told2 leaves2 → told2 ≡ told → EachAtMost a n
     → Going r n mid between told2 now since told3 leaves3 m → Safe r a start past told now since told3 leaves3
 safe_going r a n m start mid now past between since told told2 told3 leaves2 leaves3 safe same least g =
     let none : told2 ≡ told ++ [] = same ∙ same_lines told in
     record {
-      run = continues start mid now past between since (IsKept r a told) (IsKept r n told2) safe.run g.run (λ lines c k. kept_then r a n told told2 lines c [] none tt least k);
-      kept = λ c has. let h = g.held c has in record { held = h.held; holds = h.holds; least = at_most_trans a n h.held least (at_most_trans n m h.held g.least h.least); new = g.new; grew = g.grew ∙ ap (λ (l : Lines). l ++ g.new) same; below = below_grows r m h.held h.least g.new g.below };
+      run = continues start mid now past between since (IsKept r a told) (IsKept r n told2) safe.run g.run
+          (λ lines c k. kept_then r a n told told2 lines c [] none tt least k);
+      kept = λ c has. let h = g.held c has in record {
+        held = h.held;
+        holds = h.holds;
+        least = at_most_trans a n h.held least
+            (at_most_trans n m h.held g.least h.least);
+        new = g.new;
+        grew = g.grew ∙ ap (λ (l : Lines). l ++ g.new) same;
+        below = below_grows r m h.held h.least g.new g.below;
+      };
     }
 
 -- the lines of a round are the same where the numbers are
-pub round_same : (names : ℕ → List ℕ) (from to to2 : ℕ → ℕ) (k : ℕ) → ((g : ℕ) → g < k → to g ≡ to2 g) → round_lines names from to k ≡ round_lines names from to2 k
+pub round_same : (names : ℕ → List ℕ) (from to to2 : ℕ → ℕ) (k : ℕ) → ((g : ℕ) → g < k → to g ≡ to2 g) →
+    round_lines names from to k ≡ round_lines names from to2 k
 round_same names from to to2 zero same = refl
 round_same names from to to2 (suc k) same =
-    ap (λ (l : Lines). l ++ gauge_lines (names k) (from k) (to k)) (round_same names from to to2 k (λ g lt. same g (omega (arith, lt)))) ∙ ap (λ (n : ℕ). round_lines names from to2 k ++ gauge_lines (names k) (from k) n) (same k (omega arith))
+    ap (λ (l : Lines). l ++ gauge_lines (names k) (from k) (to k)) (round_same names from to to2 k (λ g lt. same g (omega (arith, lt))))
+    ∙ ap (λ (n : ℕ). round_lines names from to2 k ++ gauge_lines (names k) (from k) n) (same k (omega arith))
 
-pub round_both : (names : ℕ → List ℕ) (from from2 to to2 : ℕ → ℕ) (k : ℕ) → ((g : ℕ) → g < k → from g ≡ from2 g) → ((g : ℕ) → g < k → to g ≡ to2 g) → round_lines names from to k ≡ round_lines names from2 to2 k
+pub round_both : (names : ℕ → List ℕ) (from from2 to to2 : ℕ → ℕ) (k : ℕ) → ((g : ℕ) → g < k → from g ≡ from2 g) →
+    ((g : ℕ) → g < k → to g ≡ to2 g) → round_lines names from to k ≡ round_lines names from2 to2 k
 round_both names from from2 to to2 zero same also = refl
 round_both names from from2 to to2 (suc k) same also =
-    ap (λ (l : Lines). l ++ gauge_lines (names k) (from k) (to k)) (round_both names from from2 to to2 k (λ g lt. same g (omega (arith, lt))) (λ g lt. also g (omega (arith, lt))))
-    ∙ ap (λ (n : ℕ). round_lines names from2 to2 k ++ gauge_lines (names k) n (to k)) (same k (omega arith)) ∙ ap (λ (n : ℕ). round_lines names from2 to2 k ++ gauge_lines (names k) (from2 k) n) (also k (omega arith))
+    ap (λ (l : Lines). l ++ gauge_lines (names k) (from k) (to k)) (round_both names from from2 to to2 k
+    (λ g lt. same g (omega (arith, lt))) (λ g lt. also g (omega (arith, lt))))
+    ∙ ap (λ (n : ℕ). round_lines names from2 to2 k ++ gauge_lines (names k) n (to k)) (same k (omega arith))
+    ∙ ap (λ (n : ℕ). round_lines names from2 to2 k ++ gauge_lines (names k) (from2 k) n) (also k (omega arith))
 
 -- the lines of the gauges up to k, and those of k, where its numbers are from and to
-pub round_more : (names : ℕ → List ℕ) (from to to2 : ℕ → ℕ) (k a b : ℕ) (told told2 told3 : Lines) → told2 ≡ told ++ round_lines names from to k → told3 ≡ told2 ++ gauge_lines (names k) a b → from k ≡ a → to2 k ≡ b → ((g : ℕ) → g < k → to g ≡ to2 g)
+pub round_more : (names : ℕ → List ℕ) (from to to2 : ℕ → ℕ) (k a b : ℕ) (told told2 told3 : Lines) →
+    told2 ≡ told ++ round_lines names from to k → told3 ≡ told2 ++ gauge_lines (names k) a b → from k ≡ a → to2 k ≡ b →
+    ((g : ℕ) → g < k → to g ≡ to2 g)
     → told3 ≡ told ++ round_lines names from to2 (k + 1)
 round_more names from to to2 k a b told told2 told3 so_far here is_from is_to same =
     here ∙ ap (λ (l : Lines). l ++ gauge_lines (names k) a b) (so_far ∙ ap (λ (l : Lines). told ++ l) (round_same names from to to2 k same))
     ∙ append_assoc told (round_lines names from to2 k) (gauge_lines (names k) a b)
-    ∙ ap (λ (n : ℕ). told ++ (round_lines names from to2 k ++ gauge_lines (names k) n b)) (sym is_from) ∙ ap (λ (n : ℕ). told ++ (round_lines names from to2 k ++ gauge_lines (names k) (from k) n)) (sym is_to)
+    ∙ ap (λ (n : ℕ). told ++ (round_lines names from to2 k ++ gauge_lines (names k) n b)) (sym is_from)
+    ∙ ap (λ (n : ℕ). told ++ (round_lines names from to2 k ++ gauge_lines (names k) (from k) n)) (sym is_to)
     ∙ ap (λ (n : ℕ). told ++ round_lines names from to2 n) (let e : suc k ≡ k + 1 = omega arith in e)

@@ -31,12 +31,16 @@ rest [] = []
 rest (x ∷ xs) = xs
 
 -- letters up to a space
-same_front : (a b m n : List ℕ) → list_all is_name_byte a ≡ true → list_all is_name_byte b ≡ true → a ++ 32 ∷ m ≡ b ++ 32 ∷ n → (a ≡ b) × (m ≡ n)
+same_front : (a b m n : List ℕ) → list_all is_name_byte a ≡ true → list_all is_name_byte b ≡ true → a ++ 32 ∷ m ≡ b ++ 32 ∷ n →
+    (a ≡ b) × (m ≡ n)
 same_front [] [] m n la lb is = (refl, ap rest is)
-same_front [] (y ∷ b) m n la lb is = absurd (space_no_letter (subst (λ (c : ℕ). is_name_byte c ≡ true) (sym (ap first is)) (and_first (is_name_byte y) (list_all is_name_byte b) lb)))
-same_front (x ∷ a) [] m n la lb is = absurd (space_no_letter (subst (λ (c : ℕ). is_name_byte c ≡ true) (ap first is) (and_first (is_name_byte x) (list_all is_name_byte a) la)))
+same_front [] (y ∷ b) m n la lb is = absurd (space_no_letter (subst (λ (c : ℕ). is_name_byte c ≡ true) (sym (ap first is))
+    (and_first (is_name_byte y) (list_all is_name_byte b) lb)))
+same_front (x ∷ a) [] m n la lb is = absurd (space_no_letter (subst (λ (c : ℕ). is_name_byte c ≡ true) (ap first is)
+    (and_first (is_name_byte x) (list_all is_name_byte a) la)))
 same_front (x ∷ a) (y ∷ b) m n la lb is =
-    let inner = same_front a b m n (and_second (is_name_byte x) (list_all is_name_byte a) la) (and_second (is_name_byte y) (list_all is_name_byte b) lb) (ap rest is) in
+    let inner = same_front a b m n (and_second (is_name_byte x) (list_all is_name_byte a) la)
+    (and_second (is_name_byte y) (list_all is_name_byte b) lb) (ap rest is) in
     (ap (λ (c : ℕ). c ∷ a) (ap first is) ∙ ap (λ (l : List ℕ). y ∷ l) inner.0, inner.1)
 
 abbrev pub last : ℕ → List ℕ → List ℕ
@@ -55,9 +59,11 @@ but_last : (z : ℕ) (l : List ℕ) → all_but_last (l ++ z ∷ []) ≡ l
 but_last z [] = refl
 but_last z (x ∷ l) = last_of x z l
 
-pub line_tells : (a b : List ℕ) (n m : ℕ) → list_all is_name_byte a ≡ true → list_all is_name_byte b ≡ true → n < 2 ^ 64 → m < 2 ^ 64 → held_line a n ≡ held_line b m → (a ≡ b) × (n ≡ m)
+pub line_tells : (a b : List ℕ) (n m : ℕ) → list_all is_name_byte a ≡ true → list_all is_name_byte b ≡ true → n < 2 ^ 64 → m < 2 ^ 64 →
+    held_line a n ≡ held_line b m → (a ≡ b) × (n ≡ m)
 line_tells a b n m la lb nl ml is =
-    let tail : a ++ 32 ∷ (decimal n ++ 10 ∷ []) ≡ b ++ 32 ∷ (decimal m ++ 10 ∷ []) = ap (λ (l : List ℕ). rest (rest (rest (rest (rest l))))) is in
+    let tail : a ++ 32 ∷ (decimal n ++ 10 ∷ []) ≡ b ++ 32 ∷ (decimal m ++ 10 ∷ []) = ap (λ (l : List ℕ). rest (rest (rest (rest (rest l)))))
+    is in
     let both = same_front a b (decimal n ++ 10 ∷ []) (decimal m ++ 10 ∷ []) la lb tail in
     (both.0, decimal_injective n m nl ml (sym (but_last 10 (decimal n)) ∙ ap all_but_last both.1 ∙ but_last 10 (decimal m)))
 
@@ -73,9 +79,11 @@ is_short name is =
     is_le m n e = grind (arith, nat_tests)
 
 -- a held line of a number that is held
-pub held_below : (r : Recorded) → AreNames r.names r.gauges → (held : List ℕ) (g n : ℕ) → g < r.gauges → n < 2 ^ 64 → n ≤ get_or held g 0 → IsBelow r held (held_line (r.names g) n)
+pub held_below : (r : Recorded) → AreNames r.names r.gauges → (held : List ℕ) (g n : ℕ) → g < r.gauges → n < 2 ^ 64 → n ≤ get_or held g 0 →
+    IsBelow r held (held_line (r.names g) n)
 held_below r named held g n lt small le h m hlt msmall is =
-    let same = line_tells (r.names g) (r.names h) n m (has_letters (r.names g) (named.letters g lt)) (has_letters (r.names h) (named.letters h hlt)) small msmall is in
+    let same = line_tells (r.names g) (r.names h) n m (has_letters (r.names g) (named.letters g lt))
+    (has_letters (r.names h) (named.letters h hlt)) small msmall is in
     let gauge : g ≡ h = named.differ g h lt hlt same.0 in
     omega (arith, same.1, le, ap (λ (i : ℕ). get_or held i 0) gauge)
 

@@ -21,7 +21,8 @@ pub record IsNextFront (setup : Setup) (ends : List ℕ) (g : ℕ) (front : Segm
   pub ascends : front.from ≤ front.to
 
 abbrev pub AreFronts : Setup → List ℕ → BoardValue → ℕ → Type 0
-AreFronts setup ends board gauges = (g : ℕ) (front : SegmentValue) → g < gauges → IsFront board g front → IsNextFront setup ends g front
+AreFronts setup ends board gauges =
+    (g : ℕ) (front : SegmentValue) → g < gauges → IsFront board g front → IsNextFront setup ends g front
 
 abbrev pub FrontsEnd : (ℕ → ℕ) → BoardValue → ℕ → Type 0
 FrontsEnd to board gauges = (g : ℕ) (front : SegmentValue) → g < gauges → IsFront board g front → front.to ≡ to g
@@ -32,4 +33,5 @@ StandsIn r s = Stands s (gain_at r.setup s.gauge) (slice_range (r.samples s.gaug
 
 -- those that are not empty do
 abbrev pub FrontsStand : Recorded → BoardValue → Type 0
-FrontsStand r board = (g : ℕ) (front : SegmentValue) → g < r.gauges → IsFront board g front → front.from < front.to → StandsIn r front
+FrontsStand r board =
+    (g : ℕ) (front : SegmentValue) → g < r.gauges → IsFront board g front → front.from < front.to → StandsIn r front

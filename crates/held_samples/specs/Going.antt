@@ -1,7 +1,8 @@
 -- What is true at every moment of a run of `count`.
 --   HoldsAtLeast   the image holds at least these numbers of samples
 --   IsKept         and no line of this call acknowledges more than the image holds
---   Going          the run from a function's entry: each moment is kept, and each image that a crash may leave now holds so many
+--   Going          the run from a function's entry: each moment is kept, and each image that a crash may leave now
+--                  holds so many
 --   Safe           the same without a store
 --   IsStored       the store is on its station, and its bodies stand for the recordings
 --   AreNames       names by which a line that acknowledges tells its gauge and number
@@ -24,7 +25,8 @@ pub record HoldsAtLeast (r : Recorded) (a : List ℕ) (c : Image) : Type 0 where
 abbrev pub AllHold : Recorded → List ℕ → (Image → Type 0) → Type 0
 AllHold r a leaves = (c : Image) → leaves c → HoldsAtLeast r a c
 
--- a moment: the image holds at least these numbers, and no line behind those told at first acknowledges more than it holds
+-- a moment: the image holds at least these numbers, and no line behind those told at first acknowledges more than it
+-- holds
 pub record IsKept (r : Recorded) (a : List ℕ) (told lines : Lines) (c : Image) : Type 0 where
   pub held : List ℕ
   pub holds : Holds r.setup r.samples held c
@@ -33,8 +35,10 @@ pub record IsKept (r : Recorded) (a : List ℕ) (told lines : Lines) (c : Image)
   pub grew : lines ≡ told ++ new
   pub below : AreBelow r held new
 
--- start, past and told: the clock, the moments and the lines at entry, where n are held; since and told2: those of now, where m are held
-pub record Going (r : Recorded) (n : List ℕ) (start : ℕ) (past : MomentsSince) (told : Lines) (now : ℕ) (since : MomentsSince)
+-- start, past and told: the clock, the moments and the lines at entry, where n are held; since and told2: those of now,
+-- where m are held
+pub record Going (r : Recorded) (n : List ℕ) (start : ℕ) (past : MomentsSince) (told : Lines) (now : ℕ)
+    (since : MomentsSince)
     (told2 : Lines) (leaves : Image → Type 0) (m : List ℕ) : Type 0 where
   pub run : Since start past now since (IsKept r n told)
   pub new : Lines
@@ -43,7 +47,8 @@ pub record Going (r : Recorded) (n : List ℕ) (start : ℕ) (past : MomentsSinc
   pub least : EachAtMost n m
   pub held : (c : Image) → leaves c → HoldsAtLeast r m c
 
-pub record Safe (r : Recorded) (a : List ℕ) (start : ℕ) (past : MomentsSince) (told : Lines) (now : ℕ) (since : MomentsSince)
+pub record Safe (r : Recorded) (a : List ℕ) (start : ℕ) (past : MomentsSince) (told : Lines) (now : ℕ)
+    (since : MomentsSince)
     (told2 : Lines) (leaves : Image → Type 0) : Type 0 where
   pub run : Since start past now since (IsKept r a told)
   pub kept : (c : Image) → leaves c → IsKept r a told told2 c

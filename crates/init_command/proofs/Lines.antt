@@ -9,15 +9,30 @@ use Rattle.line_room.specs.Room.{RoomValue, Fits, with_text}
 few_digits : (n : ℕ) → n ≤ 32 → length (decimal n) ≤ 2
 few_digits n few = length-decimal-le 2 n (omega arith) (omega (arith, few)) (omega (arith, few))
 
-module _ (n : ℕ) (few : n ≤ 32) (empty word number : RoomValue) (fresh : empty ≡ record { room = 16; bytes = [] }) (first : word ≡ with_text empty (codes "init ")) where
+module _ (n : ℕ) (few : n ≤ 32) (empty word number : RoomValue) (fresh : empty ≡ record { room = 16; bytes = [] })
+    (first : word ≡ with_text empty (codes "init ")) where
   room : word.room ≡ 16
   room = omega (arith, ap (λ (l : RoomValue). l.room) first, ap (λ (l : RoomValue). l.room) fresh)
 
   many : length word.bytes ≡ 5
-  many = omega (arith, ap (λ (l : RoomValue). length l.bytes) first, ap (λ (l : RoomValue). length l.bytes) fresh, length-append empty.bytes (codes "init "))
+  many = omega (
+    arith,
+    ap (λ (l : RoomValue). length l.bytes) first,
+    ap (λ (l : RoomValue). length l.bytes) fresh,
+    length-append empty.bytes
+        (codes "init "),
+  )
 
   pub number_fits : Fits word (decimal n)
   number_fits = omega (arith, room, many, few_digits n few)
 
   pub end_fits : number ≡ with_text word (decimal n) → Fits number (10 ∷ [])
-  end_fits second = omega (arith, room, many, few_digits n few, ap (λ (l : RoomValue). l.room) second, ap (λ (l : RoomValue). length l.bytes) second, length-append word.bytes (decimal n))
+  end_fits second = omega (
+    arith,
+    room,
+    many,
+    few_digits n few,
+    ap (λ (l : RoomValue). l.room) second,
+    ap (λ (l : RoomValue). length l.bytes) second,
+    length-append word.bytes (decimal n),
+  )

@@ -26,23 +26,28 @@ module _ (c : Config) (files : Files) where
   heads_more k heads h many each has g any lt = go (cases_lt g k)
     where
       go : (g < k) ⊎ (k ≤ g) → HasHead c files g (Ok (get_or (heads ++ h ∷ []) g any))
-      go (inl below) = subst (λ (x : Head). HasHead c files g (Ok x)) (sym (get_or-append heads (h ∷ []) any g (omega (arith, many, below)))) (each g any below)
+      go (inl below) = subst (λ (x : Head). HasHead c files g (Ok x)) (sym
+          (get_or-append heads (h ∷ []) any g (omega (arith, many, below)))) (each g any below)
       go (inr not_below) =
           let here : k ≡ g = omega (arith, lt, not_below) in
-          let last : get_or (heads ++ h ∷ []) g any ≡ h = subst (λ (n : ℕ). get_or (heads ++ h ∷ []) n any ≡ h) (many ∙ here) (get_or-append_seam heads h [] any) in
+          let last : get_or (heads ++ h ∷ []) g any ≡ h = subst (λ (n : ℕ). get_or (heads ++ h ∷ []) n any ≡ h) (many ∙ here)
+          (get_or-append_seam heads h [] any) in
           subst (λ (x : Head). HasHead c files g (Ok x)) (sym last) (subst (λ (n : ℕ). HasHead c files n (Ok h)) here has)
 
-  pub heads_all : (k : ℕ) (heads : List Head) → length heads ≡ k → k ≡ length c.gauges → AreHeadsBelow c files k heads → AreHeads c files heads
+  pub heads_all : (k : ℕ) (heads : List Head) → length heads ≡ k → k ≡ length c.gauges → AreHeadsBelow c files k heads →
+      AreHeads c files heads
   heads_all k heads many all each = record {
     each = subst (λ (n : ℕ). AreHeadsBelow c files n heads) all each;
     all = many ∙ all;
   }
 
   -- what holds of the file of a gauge's name
-  pub file_for : (P : Option (List ℕ) → Type 0) (now : Files) (g : ℕ) (gauges : List Gauge) (here : Gauge) (name : List ℕ) → gauges ≡ c.gauges
+  pub file_for : (P : Option (List ℕ) → Type 0) (now : Files) (g : ℕ) (gauges : List Gauge) (here : Gauge) (name : List ℕ) →
+      gauges ≡ c.gauges
       → g < length gauges → name ≡ (slice_index_or gauges g here).file → now ≡ files → P (now name) → P (files (file_of c g))
   file_for P now g gauges here name same lt file at p =
-      let named : name ≡ file_of c g = file ∙ ap (λ (x : Gauge). x.file) (get_or_default gauges g here no_gauge lt) ∙ ap (λ (l : List Gauge). (slice_index_or l g no_gauge).file) same in
+      let named : name ≡ file_of c g = file ∙ ap (λ (x : Gauge). x.file) (get_or_default gauges g here no_gauge lt)
+      ∙ ap (λ (l : List Gauge). (slice_index_or l g no_gauge).file) same in
       subst (λ (n : List ℕ). P (files n)) named (subst (λ (f : Files). P (f name)) at p)
 
   pub heads_sound : (k : ℕ) (heads : List Head) → AreHeadsBelow c files k heads → AreSound c files k

@@ -25,7 +25,8 @@ use Rattle.init_command.proofs.Reading.{heads_sound}
 
 -- what a crash may leave now
 pub begun_now : (start now : ℕ) (past since : MomentsSince) (told told2 : Lines) (bytes : List ℕ) (leaves : Image → Type 0)
-    → Since start past now since (InInit told bytes) → ((c : Image) → leaves c → since start told2 c) → (c : Image) → leaves c → IsBegunAs bytes c
+    → Since start past now since (InInit told bytes) → ((c : Image) → leaves c → since start told2 c) → (c : Image) → leaves c →
+    IsBegunAs bytes c
 begun_now start now past since told told2 bytes leaves run counts c has = (run.each told2 c (counts c has)).1
 
 pub rose_before : (a b c : ℕ) → a ≤ b → Rose b c → Rose a c
@@ -63,11 +64,13 @@ refused_name c (Differs g what held found) is = absurd is
 
 pub refused_line : (read : Result Config ConfigFault) (s : Status) (told told2 : Lines) → IsRefusal s → told2 ≡ told ++ fault_line s [] ∷ []
     → EndsIn (fault_line s (name_by read s)) told2
-refused_line (Ok c) s told told2 is last = subst (λ (name : List ℕ). EndsIn (fault_line s name) told2) (sym (refused_name c s is)) (told, last)
+refused_line (Ok c) s told told2 is last =
+    subst (λ (name : List ℕ). EndsIn (fault_line s name) told2) (sym (refused_name c s is)) (told, last)
 refused_line (Err fault) s told told2 is last = (told, last)
 
 -- with all heads
-pub made_answer : (c : Config) (files : Files) (heads : List Head) (image : Image) (s : Status) → AreHeads c files heads → MakesBy (length image) s
+pub made_answer : (c : Config) (files : Files) (heads : List Head) (image : Image) (s : Status) → AreHeads c files heads →
+    MakesBy (length image) s
     → AnswersBy c files image s
 made_answer c files heads image Done are by = (heads_sound c files (length c.gauges) heads are.each, by)
 made_answer c files heads image (Store (store.NotEmpty n)) are by = (heads_sound c files (length c.gauges) heads are.each, by.0, by.1)
@@ -87,17 +90,21 @@ made_answer c files heads image (TooLong g) are by = absurd by
 made_answer c files heads image (Differs g what held found) are by = absurd by
 
 -- a head that is sound has no fault
-heads_clash : (content : Option (List ℕ)) (a b : List ℕ) (h : Head) (f : HeadFault) → content ≡ Some a → recording_head a ≡ Ok h → content ≡ Some b
+heads_clash : (content : Option (List ℕ)) (a b : List ℕ) (h : Head) (f : HeadFault) → content ≡ Some a → recording_head a ≡ Ok h →
+    content ≡ Some b
     → recording_head b ≡ Err f → ⊥
 heads_clash content a b h f there good there2 bad = cc
 
-sound_head : (content : Option (List ℕ)) (g : ℕ) (fault : RecordingFault) → (h : Head) × HasHeadIn content (Ok h) → HasFaultIn content g fault → ⊥
+sound_head : (content : Option (List ℕ)) (g : ℕ) (fault : RecordingFault) → (h : Head) × HasHeadIn content (Ok h) →
+    HasFaultIn content g fault → ⊥
 sound_head content g fault (h, (a, there, good)) (f, (b, there2, bad), is) = heads_clash content a b h f there good there2 bad
 
 -- over sound heads and an empty station, where nothing outside fails
-module _ (c : Config) (files : Files) (image : Image) (site site2 disk disk2 : ℕ) (sound : AreSound c files (length c.gauges)) (none : length image ≡ 0)
+module _ (c : Config) (files : Files) (image : Image) (site site2 disk disk2 : ℕ) (sound : AreSound c files (length c.gauges))
+    (none : length image ≡ 0)
     (no_read : ¬ Rose site site2) (no_disk : ¬ Rose disk disk2) where
-  complete : (s : Status) → AnswersBy c files image s → (s ≡ ReadFault → Rose site site2) → (s ≡ DiskFault → Rose disk disk2) → (s ≡ Done) ⊎ (s ≡ OutOfMemory)
+  complete : (s : Status) → AnswersBy c files image s → (s ≡ ReadFault → Rose site site2) → (s ≡ DiskFault → Rose disk disk2) →
+      (s ≡ Done) ⊎ (s ≡ OutOfMemory)
   complete Done by read fault = inl refl
   complete OutOfMemory by read fault = inr refl
   complete (Store (store.NotEmpty n)) by read fault = absurd (by.2 (omega (arith, by.1, none)))
@@ -116,15 +123,19 @@ module _ (c : Config) (files : Files) (image : Image) (site site2 disk disk2 : �
   complete (Differs g what held found) by read fault = absurd by
 
 -- by the configuration that was read
-pub init_complete : (read : Result Config ConfigFault) (c c2 : Config) (files : Files) (image : Image) (site site2 disk disk2 : ℕ) (s : Status) → read ≡ Ok c
-    → read ≡ Ok c2 → AnswersBy c files image s → (s ≡ ReadFault → Rose site site2) → (s ≡ DiskFault → Rose disk disk2) → AreSound c2 files (length c2.gauges)
+pub init_complete : (read : Result Config ConfigFault) (c c2 : Config) (files : Files) (image : Image) (site site2 disk disk2 : ℕ)
+    (s : Status) → read ≡ Ok c
+    → read ≡ Ok c2 → AnswersBy c files image s → (s ≡ ReadFault → Rose site site2) → (s ≡ DiskFault → Rose disk disk2) →
+    AreSound c2 files (length c2.gauges)
     → length image ≡ 0 → ¬ Rose site site2 → ¬ Rose disk disk2 → (s ≡ Done) ⊎ (s ≡ OutOfMemory)
 init_complete read c c2 files image site site2 disk disk2 s is is2 by rose rose2 sound none no_read no_disk =
     let same : c2 ≡ c = cc in
-    complete c files image site site2 disk disk2 (subst (λ (x : Config). AreSound x files (length x.gauges)) same sound) none no_read no_disk s by rose rose2
+    complete c files image site site2 disk disk2 (subst (λ (x : Config). AreSound x files (length x.gauges)) same sound) none no_read
+    no_disk s by rose rose2
 
 -- by a configuration that was read
-pub answers_read : (read : Result Config ConfigFault) (c : Config) (files : Files) (image : Image) (s : Status) → read ≡ Ok c → AnswersBy c files image s
+pub answers_read : (read : Result Config ConfigFault) (c : Config) (files : Files) (image : Image) (s : Status) → read ≡ Ok c →
+    AnswersBy c files image s
     → InitAnswers read files image s
 answers_read read c files image Done is by = (c, is, by)
 answers_read read c files image (Store fault) is by = (c, is, by)

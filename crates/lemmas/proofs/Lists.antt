@@ -25,17 +25,23 @@ take_two s k n e h =
     let q = take_next s (k + 1) n (omega arith) (omega arith) in
     q ∙ ap (λ l. l ++ get_or s (k + 1) 0 ∷ []) p ∙ append_assoc (take k s) (get_or s k 0 ∷ []) (get_or s (k + 1) 0 ∷ [])
 
-pub take_four : (s : List ℕ) (k n : ℕ) → n ≡ k + 4 → n ≤ length s → take n s ≡ take k s ++ (get_or s k 0 ∷ get_or s (k + 1) 0 ∷ get_or s (k + 2) 0 ∷ get_or s (k + 3) 0 ∷ [])
+pub take_four : (s : List ℕ) (k n : ℕ) → n ≡ k + 4 → n ≤ length s →
+    take n s ≡ take k s ++ (get_or s k 0 ∷ get_or s (k + 1) 0 ∷ get_or s (k + 2) 0 ∷ get_or s (k + 3) 0 ∷ [])
 take_four s k n e h =
     let p = take_two s k (k + 2) refl (omega arith) in
-    let q : take n s ≡ take (k + 2) s ++ (get_or s (k + 2) 0 ∷ get_or s (k + 3) 0 ∷ []) = take_two s (k + 2) n (omega arith) h ∙ ap (λ i. take (k + 2) s ++ (get_or s (k + 2) 0 ∷ get_or s i 0 ∷ [])) (omega arith) in
-    q ∙ ap (λ l. l ++ (get_or s (k + 2) 0 ∷ get_or s (k + 3) 0 ∷ [])) p ∙ append_assoc (take k s) (get_or s k 0 ∷ get_or s (k + 1) 0 ∷ []) (get_or s (k + 2) 0 ∷ get_or s (k + 3) 0 ∷ [])
+    let q : take n s ≡ take (k + 2) s ++ (get_or s (k + 2) 0 ∷ get_or s (k + 3) 0 ∷ []) = take_two s (k + 2) n (omega arith) h
+    ∙ ap (λ i. take (k + 2) s ++ (get_or s (k + 2) 0 ∷ get_or s i 0 ∷ [])) (omega arith) in
+    q ∙ ap (λ l. l ++ (get_or s (k + 2) 0 ∷ get_or s (k + 3) 0 ∷ [])) p ∙ append_assoc (take k s) (get_or s k 0 ∷ get_or s (k + 1) 0 ∷ [])
+    (get_or s (k + 2) 0 ∷ get_or s (k + 3) 0 ∷ [])
 
-pub take_by_last_two : (s : List ℕ) (n : ℕ) → 2 ≤ n → n ≤ length s → take n s ≡ take (n - 2) s ++ (get_or s (n - 2) 0 ∷ get_or s (n - 1) 0 ∷ [])
-take_by_last_two s n h r = take_two s (n - 2) n (omega arith) r ∙ ap (λ i. take (n - 2) s ++ (get_or s (n - 2) 0 ∷ get_or s i 0 ∷ [])) (omega arith)
+pub take_by_last_two : (s : List ℕ) (n : ℕ) → 2 ≤ n → n ≤ length s →
+    take n s ≡ take (n - 2) s ++ (get_or s (n - 2) 0 ∷ get_or s (n - 1) 0 ∷ [])
+take_by_last_two s n h r =
+    take_two s (n - 2) n (omega arith) r ∙ ap (λ i. take (n - 2) s ++ (get_or s (n - 2) 0 ∷ get_or s i 0 ∷ [])) (omega arith)
 
 -- the last of the first n items was written
-pub take_set_last : (s : List ℕ) (n v : ℕ) → 2 ≤ n → n ≤ length s → take n (set s (n - 1) v) ≡ take (n - 2) s ++ (get_or s (n - 2) 0 ∷ v ∷ [])
+pub take_set_last : (s : List ℕ) (n v : ℕ) → 2 ≤ n → n ≤ length s →
+    take n (set s (n - 1) v) ≡ take (n - 2) s ++ (get_or s (n - 2) 0 ∷ v ∷ [])
 take_set_last s n v h r =
     let e : n ≡ (n - 1) + 1 = omega arith in
     let a = take_next s (n - 2) (n - 1) (omega arith) (omega arith) in
@@ -43,32 +49,39 @@ take_set_last s n v h r =
     ap (λ k. take k (set s (n - 1) v)) e ∙ b ∙ ap (λ l. l ++ (v ∷ [])) a ∙ append_assoc (take (n - 2) s) (get_or s (n - 2) 0 ∷ []) (v ∷ [])
 
 -- the third from the end was written, and the last two dropped
-pub take_set_third : (s : List ℕ) (k n d : ℕ) → n ≡ k + 4 → n ≤ length s → take (n - 2) (set s (n - 3) d) ≡ take k s ++ (get_or s k 0 ∷ d ∷ [])
+pub take_set_third : (s : List ℕ) (k n d : ℕ) → n ≡ k + 4 → n ≤ length s →
+    take (n - 2) (set s (n - 3) d) ≡ take k s ++ (get_or s k 0 ∷ d ∷ [])
 take_set_third s k n d e h =
     let i : n - 2 ≡ (k + 1) + 1 = omega arith in
     let j : n - 3 ≡ k + 1 = omega arith in
     let p = take_more_set s (k + 1) d (omega arith) in
     let q = take_next s k (k + 1) refl (omega arith) in
-    ap (λ m. take m (set s (n - 3) d)) i ∙ ap (λ m. take ((k + 1) + 1) (set s m d)) j ∙ p ∙ ap (λ l. l ++ d ∷ []) q ∙ append_assoc (take k s) (get_or s k 0 ∷ []) (d ∷ [])
+    ap (λ m. take m (set s (n - 3) d)) i ∙ ap (λ m. take ((k + 1) + 1) (set s m d)) j ∙ p ∙ ap (λ l. l ++ d ∷ []) q ∙ append_assoc
+    (take k s) (get_or s k 0 ∷ []) (d ∷ [])
 
 -- an item more behind the first n, of which the last two are apart
-pub take_pushed : (s : List ℕ) (n v : ℕ) → 2 ≤ n → n ≤ length s → take n s ++ (v ∷ []) ≡ take (n - 2) s ++ (get_or s (n - 2) 0 ∷ get_or s (n - 1) 0 ∷ v ∷ [])
+pub take_pushed : (s : List ℕ) (n v : ℕ) → 2 ≤ n → n ≤ length s →
+    take n s ++ (v ∷ []) ≡ take (n - 2) s ++ (get_or s (n - 2) 0 ∷ get_or s (n - 1) 0 ∷ v ∷ [])
 take_pushed s n v h r =
     let e = take_by_last_two s n h r in
     ap (λ l. l ++ (v ∷ [])) e ∙ append_assoc (take (n - 2) s) (get_or s (n - 2) 0 ∷ get_or s (n - 1) 0 ∷ []) (v ∷ [])
 
 -- k items more in a buffer that had n, and what is left behind them
-pub take-append-part : {X : Type 0} (n k : ℕ) (xs ys rest left more : List X) → n ≤ length xs → k ≤ length ys → left ≡ take k ys ++ more → take n xs ++ left ≡ take (n + k) (take n xs ++ (ys ++ rest)) ++ more
+pub take-append-part : {X : Type 0} (n k : ℕ) (xs ys rest left more : List X) → n ≤ length xs → k ≤ length ys → left ≡ take k ys ++ more →
+    take n xs ++ left ≡ take (n + k) (take n xs ++ (ys ++ rest)) ++ more
 take-append-part n k xs ys rest left more long inside is =
     let p = take n xs in
     let size : length p ≡ n = length-take-le n xs long in
-    let split : take (n + k) (p ++ (ys ++ rest)) ≡ p ++ take k ys = ap (λ m. take (m + k) (p ++ (ys ++ rest))) (sym size) ∙ take-append-add p (ys ++ rest) k ∙ ap (λ l. p ++ l) (take-append-le k ys rest inside) in
+    let split : take (n + k) (p ++ (ys ++ rest)) ≡ p ++ take k ys = ap (λ m. take (m + k) (p ++ (ys ++ rest))) (sym size) ∙ take-append-add
+    p (ys ++ rest) k ∙ ap (λ l. p ++ l) (take-append-le k ys rest inside) in
     ap (λ l. p ++ l) is ∙ sym (append_assoc p (take k ys) more) ∙ ap (λ l. l ++ more) (sym split)
 
 -- n items from a place on, copied to the front of a buffer, and what lies behind them
-pub take-append-taken : {X : Type 0} (n at : ℕ) (xs copied rest left : List X) → length copied ≡ n → copied ≡ take n (drop at xs) → left ≡ drop at xs → left ≡ take n (copied ++ rest) ++ drop (at + n) xs
+pub take-append-taken : {X : Type 0} (n at : ℕ) (xs copied rest left : List X) → length copied ≡ n → copied ≡ take n (drop at xs) →
+    left ≡ drop at xs → left ≡ take n (copied ++ rest) ++ drop (at + n) xs
 take-append-taken n at xs copied rest left long is was =
-    was ∙ sym (take-append-drop n (drop at xs)) ∙ ap (λ l. l ++ drop n (drop at xs)) (sym is ∙ sym (take_at copied rest n long)) ∙ ap (λ l. take n (copied ++ rest) ++ l) (drop-drop n at xs)
+    was ∙ sym (take-append-drop n (drop at xs)) ∙ ap (λ l. l ++ drop n (drop at xs)) (sym is ∙ sym (take_at copied rest n long))
+    ∙ ap (λ l. take n (copied ++ rest) ++ l) (drop-drop n at xs)
 
 pub reverse-take_next : (s : List ℕ) (k : ℕ) → k < length s → reverse (take (k + 1) s) ≡ get_or s k 0 ∷ reverse (take k s)
 reverse-take_next s k h = ap reverse (take_more s k 0 h) ∙ reverse-append (take k s) (get_or s k 0 ∷ [])
@@ -78,7 +91,8 @@ longer [] x e = cc
 longer (y ∷ l) x e = longer l x (cc)
 
 pub length-rewritten : {X : Type 0} (k : ℕ) (new old : List X) → length new ≡ length (take k old) → length (new ++ drop k old) ≡ length old
-length-rewritten k new old same = length-append new (drop k old) ∙ ap (λ m. m + length (drop k old)) same ∙ sym (length-append (take k old) (drop k old)) ∙ ap length (take-append-drop k old)
+length-rewritten k new old same = length-append new (drop k old) ∙ ap (λ m. m + length (drop k old)) same
+    ∙ sym (length-append (take k old) (drop k old)) ∙ ap length (take-append-drop k old)
 
 -- a place behind the first item
 pub get_or-behind : (x : ℕ) (l : List ℕ) (i j : ℕ) → j ≡ suc i → get_or (x ∷ l) j 0 ≡ get_or l i 0
@@ -105,8 +119,10 @@ below_positive k x l a = let h = All-head (λ y. y < k) x l a in omega arith
 pub below_at : (k n i : ℕ) (s : List ℕ) → All (λ x. x < k) (take n s) → n ≤ length s → i < n → get_or s i 0 < k
 below_at k n i s a room h = let e = get_or-take n s i 0 h in let w = a i 0 (omega (arith, length-take-le n s room)) in omega arith
 
-below_more : (k n x i d : ℕ) (s : List ℕ) → All (λ y. y < k) (take n s) → n ≤ length s → 3 ≤ n → x < k → i < n - 2 → ((i ≡ n - 3) ⊎ (i ≢ n - 3)) → get_or (set s (n - 3) x) i d < k
-below_more k n x i d s a room few w h (inl e) = let f = get_or-set_same s (n - 3) x d (omega arith) in let g = ap (λ j. get_or (set s (n - 3) x) j d) e in omega arith
+below_more : (k n x i d : ℕ) (s : List ℕ) → All (λ y. y < k) (take n s) → n ≤ length s → 3 ≤ n → x < k → i < n - 2 →
+    ((i ≡ n - 3) ⊎ (i ≢ n - 3)) → get_or (set s (n - 3) x) i d < k
+below_more k n x i d s a room few w h (inl e) =
+    let f = get_or-set_same s (n - 3) x d (omega arith) in let g = ap (λ j. get_or (set s (n - 3) x) j d) e in omega arith
 below_more k n x i d s a room few w h (inr e) =
     let f = get_or-set_other s (n - 3) i x d e in
     let g = get_or-take n s i d (omega arith) in
@@ -114,7 +130,8 @@ below_more k n x i d s a room few w h (inr e) =
     omega arith
 
 -- the third of the first n from the end was written, and the last two dropped
-pub below_set_third : (k n x : ℕ) (s : List ℕ) → All (λ y. y < k) (take n s) → n ≤ length s → 3 ≤ n → x < k → All (λ y. y < k) (take (n - 2) (set s (n - 3) x))
+pub below_set_third : (k n x : ℕ) (s : List ℕ) → All (λ y. y < k) (take n s) → n ≤ length s → 3 ≤ n → x < k →
+    All (λ y. y < k) (take (n - 2) (set s (n - 3) x))
 below_set_third k n x s a room few w = λ i d h.
     let t = set s (n - 3) x in
     let l = length-take-le (n - 2) t (omega (arith, length-set s (n - 3) x)) in
@@ -126,7 +143,8 @@ below_set_third k n x s a room few w = λ i d h.
 -- what holds of each item holds in any order
 pub All-reverse : {X : Type 0} (P : X → Type 0) (l : List X) → All P l → All P (reverse l)
 All-reverse P [] a = a
-All-reverse P (x ∷ l) a = subst (All P) (sym (reverse-append (x ∷ []) l)) (All-push P (reverse l) x (All-reverse P l (All-tail P x l a)) (All-head P x l a))
+All-reverse P (x ∷ l) a =
+    subst (All P) (sym (reverse-append (x ∷ []) l)) (All-push P (reverse l) x (All-reverse P l (All-tail P x l a)) (All-head P x l a))
 
 pub All-of_reverse : {X : Type 0} (P : X → Type 0) (l : List X) → All P (reverse l) → All P l
 All-of_reverse P l a = subst (All P) (reverse-reverse l) (All-reverse P (reverse l) a)

@@ -11,11 +11,20 @@ sum-zeros [] h = refl
 sum-zeros (n ∷ ns) h = let e = h 0 in omega (arith, e, sum_by-cons (λ x. x) n ns, sum-zeros ns (λ p. h (suc p)))
 
 -- lists that add up place by place add up as a whole
-pub sum-added : (s t r : List ℕ) → length s ≡ length r → length t ≡ length r → ((p : ℕ) → get_or r p 0 ≡ get_or s p 0 + get_or t p 0) → sum r ≡ sum s + sum t
+pub sum-added : (s t r : List ℕ) → length s ≡ length r → length t ≡ length r → ((p : ℕ) → get_or r p 0 ≡ get_or s p 0 + get_or t p 0) →
+    sum r ≡ sum s + sum t
 sum-added [] [] [] e f h = refl
 sum-added (a ∷ s) (b ∷ t) (c ∷ r) e f h =
     let g = h 0 in
-    omega (arith, g, sum_by-cons (λ x. x) a s, sum_by-cons (λ x. x) b t, sum_by-cons (λ x. x) c r, sum-added s t r (omega arith) (omega arith) (λ p. h (suc p)))
+    omega (
+      arith,
+      g,
+      sum_by-cons (λ x. x) a s,
+      sum_by-cons (λ x. x) b t,
+      sum_by-cons (λ x. x) c r,
+      sum-added s t r (omega arith)
+          (omega arith) (λ p. h (suc p)),
+    )
 sum-added [] [] (c ∷ r) e f h = absurd (omega arith)
 sum-added [] (b ∷ t) r e f h = absurd (omega arith)
 sum-added (a ∷ s) [] r e f h = absurd (omega arith)

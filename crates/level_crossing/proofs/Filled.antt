@@ -27,7 +27,9 @@ pub record Parts (k r : ℕ) (p : List ℕ) (some : Bool) (first last : ℕ) (b 
   pub counts : (l : ℕ) → sum (take (l + 1) b) ≡ sum (take (l + 1) s) + crossings r l p
   pub enough : (i : ℕ) → sum (take (i + 1) s) ≤ sum (take i b)
 
-pub filled_rules : {k r : ℕ} {p : List ℕ} {some : Bool} {first last : ℕ} {b s : List ℕ} → Parts k r p some first last b s → (2 ≤ k) × (k ≤ 1024) → (1 ≤ r) × (r < k) → All (λ x. x < k) p → length p ≤ MAX_POINTS → IsCrossings (record { classes = k; reference = r; some = some; first = first; last = last; begins = b; stops = s })
+pub filled_rules : {k r : ℕ} {p : List ℕ} {some : Bool} {first last : ℕ} {b s : List ℕ} → Parts k r p some first last b s →
+    (2 ≤ k) × (k ≤ 1024) → (1 ≤ r) × (r < k) → All (λ x. x < k) p → length p ≤ MAX_POINTS →
+    IsCrossings (record { classes = k; reference = r; some = some; first = first; last = last; begins = b; stops = s })
 filled_rules {k} {r} {p} g c d a f = record {
   classes = c;
   reference = d;
@@ -39,5 +41,7 @@ filled_rules {k} {r} {p} g c d a f = record {
   few = λ i. omega (arith, g.counts i, crossings_few r i p);
 }
 
-pub filled_crosses : {k r : ℕ} {p : List ℕ} {some : Bool} {first last : ℕ} {b s : List ℕ} → Parts k r p some first last b s → (h : List ℕ) → points h ≡ p → Crosses (record { classes = k; reference = r; some = some; first = first; last = last; begins = b; stops = s }) h
-filled_crosses {k} {r} {p} {some} {first} {last} {b} {s} g h e = crosses_points _ p h e (record { some = g.is_some_of; first = g.is_first; last = g.is_last; counts = λ l m n. omega (arith, g.counts l) })
+pub filled_crosses : {k r : ℕ} {p : List ℕ} {some : Bool} {first last : ℕ} {b s : List ℕ} → Parts k r p some first last b s → (h : List ℕ) →
+    points h ≡ p → Crosses (record { classes = k; reference = r; some = some; first = first; last = last; begins = b; stops = s }) h
+filled_crosses {k} {r} {p} {some} {first} {last} {b} {s} g h e = crosses_points _ p h e
+    (record { some = g.is_some_of; first = g.is_first; last = g.is_last; counts = λ l m n. omega (arith, g.counts l) })

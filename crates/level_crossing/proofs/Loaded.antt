@@ -26,13 +26,16 @@ at_more : (t : List ℕ) (i : ℕ) → sum (take (i + 1) t) ≡ sum (take i t) +
 at_more t i = let e : i + 1 ≡ suc i = omega arith in ap (λ k. sum (take k t)) e ∙ sum_take_more t i
 
 -- the second table is the first one, one place further on
-shifted : (b s : List ℕ) → get_or s 0 0 ≡ 0 → ((i : ℕ) → get_or s (suc i) 0 ≡ get_or b i 0) → (i : ℕ) → sum (take (suc i) s) ≡ sum (take i b)
-shifted b s none next zero = let e : sum (take zero s) ≡ 0 = refl in let f : sum (take zero b) ≡ 0 = refl in omega (arith, sum_take_more s zero, none, e, f)
+shifted : (b s : List ℕ) → get_or s 0 0 ≡ 0 → ((i : ℕ) → get_or s (suc i) 0 ≡ get_or b i 0) → (i : ℕ) →
+    sum (take (suc i) s) ≡ sum (take i b)
+shifted b s none next zero =
+    let e : sum (take zero s) ≡ 0 = refl in let f : sum (take zero b) ≡ 0 = refl in omega (arith, sum_take_more s zero, none, e, f)
 shifted b s none next (suc i) = omega (arith, sum_take_more s (suc i), sum_take_more b i, next i, shifted b s none next i)
 
 placed_next : (p : ℕ) (bs : List Bin) → placed 1 (suc p) bs ≡ placed 0 p bs
 placed_next p [] = refl
-placed_next p (b ∷ bs) = ap (λ t. cond t b.n (placed 1 (suc p) bs)) (same p b.key) ∙ ap (λ n. cond (eqb p (b.key + 0)) b.n n) (placed_next p bs)
+placed_next p (b ∷ bs) =
+    ap (λ t. cond t b.n (placed 1 (suc p) bs)) (same p b.key) ∙ ap (λ n. cond (eqb p (b.key + 0)) b.n n) (placed_next p bs)
   where
     same : (p k : ℕ) → eqb (suc p) (k + 1) ≡ eqb p (k + 0)
     same p k = grind (arith, nat_tests)
@@ -43,7 +46,8 @@ few_by false n x m h k = k
 
 count_few : (k m : ℕ) (bs : List Bin) → All (λ b. b.n ≤ m) bs → count_at k bs ≤ m
 count_few k m [] a = omega arith
-count_few k m (b ∷ bs) a = few_by (eqb k b.key) b.n (count_at k bs) m (All-head (λ b. b.n ≤ m) b bs a) (count_few k m bs (All-tail (λ b. b.n ≤ m) b bs a))
+count_few k m (b ∷ bs) a =
+    few_by (eqb k b.key) b.n (count_at k bs) m (All-head (λ b. b.n ≤ m) b bs a) (count_few k m bs (All-tail (λ b. b.n ≤ m) b bs a))
 
 -- the limits of a grid
 abbrev pub IsGrid : ℕ → ℕ → Type 0
@@ -54,16 +58,29 @@ module _ (classes reference : ℕ) (e : EndPoints) (bins : List Bin) (k : IsGrid
   begins_at = table_at 1 classes (classes + 1) bins c.bins_are (omega arith)
 
   stops_at : (p : ℕ) → get_or (filled 1 (replicate (classes + 1) 0) bins) p 0 ≡ placed 1 p bins
-  stops_at p = let l = length-replicate {A = ℕ} (classes + 1) 0 in omega (arith, filled_at 1 1 classes (replicate (classes + 1) 0) bins c.bins_are (omega (arith, l)) (λ p h. get_or-zeros (classes + 1) p) p, get_or-zeros (classes + 1) p)
+  stops_at p = let l = length-replicate {A = ℕ} (classes + 1) 0 in omega (
+    arith,
+    filled_at 1 1 classes (replicate (classes + 1) 0) bins c.bins_are (omega (arith, l)) (λ p h. get_or-zeros (classes + 1) p) p,
+    get_or-zeros (classes + 1) p,
+  )
 
   begins_placed : (p : ℕ) → get_or (filled 0 (replicate (classes + 1) 0) bins) p 0 ≡ placed 0 p bins
-  begins_placed p = let l = length-replicate {A = ℕ} (classes + 1) 0 in omega (arith, filled_at 0 1 classes (replicate (classes + 1) 0) bins c.bins_are (omega (arith, l)) (λ p h. get_or-zeros (classes + 1) p) p, get_or-zeros (classes + 1) p)
+  begins_placed p = let l = length-replicate {A = ℕ} (classes + 1) 0 in
+      omega (
+        arith,
+        filled_at 0 1 classes (replicate (classes + 1) 0) bins c.bins_are (omega (arith, l))
+            (λ p h. get_or-zeros (classes + 1) p) p,
+        get_or-zeros (classes + 1) p,
+      )
 
-  behind : (i : ℕ) → sum (take (i + 1) (filled 1 (replicate (classes + 1) 0) bins)) ≡ sum (take i (filled 0 (replicate (classes + 1) 0) bins))
+  behind : (i : ℕ) → sum (take (i + 1) (filled 1 (replicate (classes + 1) 0) bins)) ≡ sum
+      (take i (filled 0 (replicate (classes + 1) 0) bins))
   behind i =
       let s : i + 1 ≡ suc i = omega arith in
       ap (λ j. sum (take j (filled 1 (replicate (classes + 1) 0) bins))) s
-      ∙ shifted (filled 0 (replicate (classes + 1) 0) bins) (filled 1 (replicate (classes + 1) 0) bins) (stops_at 0 ∙ none_before 1 1 classes 0 bins c.bins_are (omega arith)) (λ j. stops_at (suc j) ∙ placed_next j bins ∙ sym (begins_placed j)) i
+      ∙ shifted (filled 0 (replicate (classes + 1) 0) bins) (filled 1 (replicate (classes + 1) 0) bins)
+      (stops_at 0 ∙ none_before 1 1 classes 0 bins c.bins_are (omega arith))
+      (λ j. stops_at (suc j) ∙ placed_next j bins ∙ sym (begins_placed j)) i
 
   pub crossed_counts : (l : ℕ) → crossing_count (loaded_of classes reference e bins) l ≡ count_at l bins
   crossed_counts l = omega (arith, at_more (filled 0 (replicate (classes + 1) 0) bins) l, behind l, begins_at l)
@@ -77,13 +94,45 @@ module _ (classes reference : ℕ) (e : EndPoints) (bins : List Bin) (k : IsGrid
     first = c.first;
     last = c.last;
     enough = λ i. omega (arith, behind i);
-    few = λ i. omega (arith, at_more (filled 0 (replicate (classes + 1) 0) bins) i, behind i, begins_at i, count_few i (MAX_POINTS) bins c.few);
+    few = λ i. omega (
+      arith,
+      at_more (filled 0 (replicate (classes + 1) 0) bins) i,
+      behind i,
+      begins_at i,
+      count_few i (MAX_POINTS) bins c.few,
+    );
   }
 
 -- tables are loaded in place of two as long
-pub crossed_closed : (classes reference : ℕ) (e : EndPoints) (bins : List Bin) (k : IsGrid classes reference) (c : CanLoad classes e bins) (n m : ℕ) (b s : List ℕ) → n ≡ classes + 1 → m ≡ classes + 1
-    → b ≡ filled 0 (replicate n 0) bins → s ≡ filled 1 (replicate m 0) bins → IsCrossings (record { classes = classes; reference = reference; some = not (eqb e.points 0); first = e.first; last = e.last; begins = b; stops = s })
+pub crossed_closed : (classes reference : ℕ) (e : EndPoints) (bins : List Bin) (k : IsGrid classes reference) (c : CanLoad classes e bins)
+    (n m : ℕ) (b s : List ℕ) → n ≡ classes + 1 → m ≡ classes + 1
+    → b ≡ filled 0 (replicate n 0) bins → s ≡ filled 1 (replicate m 0) bins →
+    IsCrossings (record {
+      classes = classes;
+      reference = reference;
+      some = not (eqb e.points 0);
+      first = e.first;
+      last = e.last;
+      begins = b;
+      stops = s;
+    })
 crossed_closed classes reference e bins k c n m b s same other is are =
     let b_is : b ≡ filled 0 (replicate (classes + 1) 0) bins = is ∙ ap (λ j. filled 0 (replicate j 0) bins) same in
     let s_is : s ≡ filled 1 (replicate (classes + 1) 0) bins = are ∙ ap (λ j. filled 1 (replicate j 0) bins) other in
-    subst (λ t. IsCrossings (record { classes = classes; reference = reference; some = not (eqb e.points 0); first = e.first; last = e.last; begins = t; stops = s })) (sym b_is) (subst (λ t. IsCrossings (record { classes = classes; reference = reference; some = not (eqb e.points 0); first = e.first; last = e.last; begins = filled 0 (replicate (classes + 1) 0) bins; stops = t })) (sym s_is) (crossed_is classes reference e bins k c))
+    subst (λ t. IsCrossings (record {
+      classes = classes;
+      reference = reference;
+      some = not (eqb e.points 0);
+      first = e.first;
+      last = e.last;
+      begins = t;
+      stops = s;
+    })) (sym b_is) (subst (λ t. IsCrossings (record {
+      classes = classes;
+      reference = reference;
+      some = not (eqb e.points 0);
+      first = e.first;
+      last = e.last;
+      begins = filled 0 (replicate (classes + 1) 0) bins;
+      stops = t;
+    })) (sym s_is) (crossed_is classes reference e bins k c))

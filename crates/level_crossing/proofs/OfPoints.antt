@@ -29,7 +29,12 @@ crossings_added r l {x} (between {y = y} {z = z} b) = omega (arith, passed_step 
 pub crossings_points : (r l : ℕ) (h : List ℕ) → crossings r l (points h) ≡ crossings r l h
 crossings_points r l [] = refl
 crossings_points r l (x ∷ []) = refl
-crossings_points r l (x ∷ y ∷ h) = omega (arith, ap (crossings r l) (points_cons x (y ∷ h)), crossings_added r l (is_added x (points (y ∷ h)) (zig_points (y ∷ h))), crossings_points r l (y ∷ h))
+crossings_points r l (x ∷ y ∷ h) = omega (
+  arith,
+  ap (crossings r l) (points_cons x (y ∷ h)),
+  crossings_added r l (is_added x (points (y ∷ h)) (zig_points (y ∷ h))),
+  crossings_points r l (y ∷ h),
+)
 
 last_added : {x : ℕ} {p m : List ℕ} → Added x p m → 1 ≤ length p → last_point m ≡ last_point p
 last_added first o = absurd (omega arith)
@@ -41,7 +46,8 @@ last_added (between b) o = refl
 pub last_points : (h : List ℕ) → last_point (points h) ≡ last_point h
 last_points [] = refl
 last_points (x ∷ []) = refl
-last_points (x ∷ y ∷ h) = ap last_point (points_cons x (y ∷ h)) ∙ last_added (is_added x (points (y ∷ h)) (zig_points (y ∷ h))) (omega arith) ∙ last_points (y ∷ h)
+last_points (x ∷ y ∷ h) = ap last_point (points_cons x (y ∷ h)) ∙ last_added (is_added x (points (y ∷ h)) (zig_points (y ∷ h)))
+    (omega arith) ∙ last_points (y ∷ h)
 
 some_points : (h : List ℕ) → is_some (points h) ≡ is_some h
 some_points [] = refl

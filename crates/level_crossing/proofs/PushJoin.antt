@@ -27,14 +27,16 @@ sum_take_raise [] j i h = absurd (omega arith)
 sum_take_raise (x ∷ t) zero zero h = omega (arith, below_none 0)
 sum_take_raise (x ∷ t) (suc j) zero h = omega (arith, below_none (suc j))
 sum_take_raise (x ∷ t) zero (suc i) h = omega (arith, below_first i, sum_cons (x + 1) (take i t), sum_cons x (take i t))
-sum_take_raise (x ∷ t) (suc j) (suc i) h = omega (arith, below_suc j i, sum_cons x (take i (raise t j)), sum_cons x (take i t), sum_take_raise t j i (omega arith))
+sum_take_raise (x ∷ t) (suc j) (suc i) h =
+    omega (arith, below_suc j i, sum_cons x (take i (raise t j)), sum_cons x (take i t), sum_take_raise t j i (omega arith))
 
 pub sum_take_both : (s t : List ℕ) (i : ℕ) → length s ≡ length t → sum (take i (both s t)) ≡ sum (take i s) + sum (take i t)
 sum_take_both s t zero h = refl
 sum_take_both [] [] (suc i) h = refl
 sum_take_both [] (y ∷ t) (suc i) h = absurd (omega arith)
 sum_take_both (x ∷ s) [] (suc i) h = absurd (omega arith)
-sum_take_both (x ∷ s) (y ∷ t) (suc i) h = omega (arith, sum_cons (x + y) (take i (both s t)), sum_cons x (take i s), sum_cons y (take i t), sum_take_both s t i (omega arith))
+sum_take_both (x ∷ s) (y ∷ t) (suc i) h =
+    omega (arith, sum_cons (x + y) (take i (both s t)), sum_cons x (take i s), sum_cons y (take i t), sum_take_both s t i (omega arith))
 
 pub sum_take_more : (t : List ℕ) (i : ℕ) → sum (take (suc i) t) ≡ sum (take i t) + get_or t i 0
 sum_take_more [] zero = refl
@@ -52,7 +54,8 @@ within_step : (r x y k : ℕ) → 1 ≤ r → x < k → y < k → (1 ≤ low r x
 within_step r x y k h p q = grind (arith, nat_tests)
 
 -- the sums after a step
-one_step : (b s d e lo hi l : ℕ) → lo ≤ hi → s ≤ b → d ≡ b + below_at lo (l + 1) → e ≡ s + below_at (hi + 1) (l + 1) → d ≡ (b - s) + cond (leb lo l && leb l hi) 1 0 + e
+one_step : (b s d e lo hi l : ℕ) → lo ≤ hi → s ≤ b → d ≡ b + below_at lo (l + 1) → e ≡ s + below_at (hi + 1) (l + 1) →
+    d ≡ (b - s) + cond (leb lo l && leb l hi) 1 0 + e
 one_step b s d e lo hi l h g p q = grind (arith, nat_tests)
 
 no_step : (lo hi l : ℕ) → hi < lo → ◌≡◌ {A = ℕ} (cond (leb lo l && leb l hi) 1 0) 0
@@ -104,17 +107,32 @@ module _ (k r x y : ℕ) (b s : List ℕ) (h : 1 ≤ r) (p : x < k) (q : y < k) 
         sound = record {
           begins = length-set b (low r x y) _ ∙ g.begins;
           stops = length-set s (high r x y + 1) _ ∙ g.stops;
-          enough = λ i. omega (arith, sum_take_raise b (low r x y) i m, sum_take_raise s (high r x y + 1) (i + 1) n, g.enough i, enough_one (low r x y) (high r x y) i o);
+          enough = λ i. omega (
+            arith,
+            sum_take_raise b (low r x y) i m,
+            sum_take_raise s (high r x y + 1) (i + 1) n,
+            g.enough i,
+            enough_one (low r x y) (high r x y) i o,
+          );
         };
-        count = λ l. omega (arith, one_step (sum (take (l + 1) b)) (sum (take (l + 1) s)) _ _ (low r x y) (high r x y) l o (omega (arith, g.enough l, begins_grow b l)) (sum_take_raise b (low r x y) (l + 1) m) (sum_take_raise s (high r x y + 1) (l + 1) n), crossed_is r l x y h);
+        count = λ l. omega (
+          arith,
+          one_step (sum (take (l + 1) b)) (sum (take (l + 1) s)) _ _ (low r x y) (high r x y) l o
+              (omega (arith, g.enough l, begins_grow b l)) (sum_take_raise b (low r x y) (l + 1) m)
+              (sum_take_raise s (high r x y + 1) (l + 1) n),
+          crossed_is r l x y h,
+        );
       }
 
   step_no : high r x y < low r x y → Stepped k b s b s (λ l. step_crossings r l x y)
   step_no o = record { sound = g; count = λ l. omega (arith, crossed_is r l x y h, no_step (low r x y) (high r x y) l o) }
 
-  step_on : ((high r x y < low r x y) ⊎ (low r x y ≤ high r x y)) → Stepped k b s (begin_step true r x y b) (stop_step true r x y s) (λ l. step_crossings r l x y)
-  step_on (inl o) = subst (λ t. Stepped k b s t (stop_step true r x y s) (λ l. step_crossings r l x y)) (sym (begin_no r x y b o)) (subst (λ t. Stepped k b s b t (λ l. step_crossings r l x y)) (sym (stop_no r x y s o)) (step_no o))
-  step_on (inr o) = subst (λ t. Stepped k b s t (stop_step true r x y s) (λ l. step_crossings r l x y)) (sym (begin_yes r x y b o)) (subst (λ t. Stepped k b s (raise b (low r x y)) t (λ l. step_crossings r l x y)) (sym (stop_yes r x y s o)) (step_yes o))
+  step_on : ((high r x y < low r x y) ⊎ (low r x y ≤ high r x y)) →
+      Stepped k b s (begin_step true r x y b) (stop_step true r x y s) (λ l. step_crossings r l x y)
+  step_on (inl o) = subst (λ t. Stepped k b s t (stop_step true r x y s) (λ l. step_crossings r l x y)) (sym (begin_no r x y b o))
+      (subst (λ t. Stepped k b s b t (λ l. step_crossings r l x y)) (sym (stop_no r x y s o)) (step_no o))
+  step_on (inr o) = subst (λ t. Stepped k b s t (stop_step true r x y s) (λ l. step_crossings r l x y)) (sym (begin_yes r x y b o))
+      (subst (λ t. Stepped k b s (raise b (low r x y)) t (λ l. step_crossings r l x y)) (sym (stop_yes r x y s o)) (step_yes o))
 
   pub stepped : (c : Bool) → Stepped k b s (begin_step c r x y b) (stop_step c r x y s) (λ l. between c r l x y)
   stepped true = step_on (cases_lt (high r x y) (low r x y))
@@ -131,14 +149,17 @@ sound_both k b s c t g h =
       enough = λ i. omega (arith, sum_take_both b c i p, sum_take_both s t (i + 1) q, g.enough i, h.enough i);
     }
 
-pub count_both : (k : ℕ) (b s c t : List ℕ) (l : ℕ) → Sound k b s → Sound k c t → sum (take (l + 1) (both b c)) - sum (take (l + 1) (both s t)) ≡ (sum (take (l + 1) b) - sum (take (l + 1) s)) + (sum (take (l + 1) c) - sum (take (l + 1) t))
+pub count_both : (k : ℕ) (b s c t : List ℕ) (l : ℕ) → Sound k b s → Sound k c t →
+    sum (take (l + 1) (both b c)) - sum (take (l + 1) (both s t)) ≡ (sum (take (l + 1) b) - sum (take (l + 1) s)) +
+    (sum (take (l + 1) c) - sum (take (l + 1) t))
 count_both k b s c t l g h =
     let p : length b ≡ length c = omega (arith, g.begins, h.begins) in
     let q : length s ≡ length t = omega (arith, g.stops, h.stops) in
     omega (arith, sum_take_both b c (l + 1) p, sum_take_both s t (l + 1) q, g.enough l, h.enough l, begins_grow b l, begins_grow c l)
 
 -- a concatenation crosses what its parts cross, and what the step between them crosses
-pub crossings_append : (r l : ℕ) (u v : List ℕ) → crossings r l (u ++ v) ≡ crossings r l u + crossings r l v + between (is_some u && is_some v) r l (last_point u) (first_of v)
+pub crossings_append : (r l : ℕ) (u v : List ℕ) →
+    crossings r l (u ++ v) ≡ crossings r l u + crossings r l v + between (is_some u && is_some v) r l (last_point u) (first_of v)
 crossings_append r l [] v = omega arith
 crossings_append r l (x ∷ []) [] = omega arith
 crossings_append r l (x ∷ []) (y ∷ v) = omega arith
@@ -160,7 +181,8 @@ first_below : (b : Bool) (x y k : ℕ) → x < k → y < k → cond b x y < k
 first_below true x y k p q = p
 first_below false x y k p q = q
 
-pub level_rules : (x : ℕ) (v : CrossingsValue) → IsCrossings v → x < v.classes → ((l : ℕ) → count_at v l + between v.some v.reference l v.last x ≤ MAX_POINTS) → IsCrossings (level_of x v)
+pub level_rules : (x : ℕ) (v : CrossingsValue) → IsCrossings v → x < v.classes →
+    ((l : ℕ) → count_at v l + between v.some v.reference l v.last x ≤ MAX_POINTS) → IsCrossings (level_of x v)
 level_rules x v i h f =
     let s = stepped v.classes v.reference v.last x v.begins v.stops i.reference.0 i.last h (sound_of v i) v.some in
     record {
@@ -197,14 +219,21 @@ cond_first b c x y z p q = cc
 between_same : (b c : Bool) (r l x y x' : ℕ) → b ≡ c → x ≡ x' → between b r l x y ≡ between c r l x' y
 between_same b c r l x y x' p q = cc
 
-pub level_crosses : (x : ℕ) (v : CrossingsValue) (h : List ℕ) → IsCrossings v → x < v.classes → Crosses v h → Crosses (level_of x v) (h ++ (x ∷ []))
+pub level_crosses : (x : ℕ) (v : CrossingsValue) (h : List ℕ) → IsCrossings v → x < v.classes → Crosses v h →
+    Crosses (level_of x v) (h ++ (x ∷ []))
 level_crosses x v h i p g =
     let s = stepped v.classes v.reference v.last x v.begins v.stops i.reference.0 i.last p (sound_of v i) v.some in
     record {
       some = sym (some_push h x);
       first = cond_first v.some (is_some h) v.first x (first_of h) g.some g.first ∙ sym (first_push h x);
       last = sym (last_push h x);
-      counts = λ l a b. omega (arith, s.count l, g.counts l a b, crossings_append v.reference l h (x ∷ []), between_same v.some (is_some h && true) v.reference l v.last x (last_point h) (g.some ∙ sym (and_true (is_some h))) g.last);
+      counts = λ l a b. omega (
+        arith,
+        s.count l,
+        g.counts l a b,
+        crossings_append v.reference l h (x ∷ []),
+        between_same v.some (is_some h && true) v.reference l v.last x (last_point h) (g.some ∙ sym (and_true (is_some h))) g.last,
+      );
     }
 
 last_append : (u v : List ℕ) → last_point (u ++ v) ≡ cond (is_some v) (last_point v) (last_point u)
@@ -241,13 +270,17 @@ module _ (v w : CrossingsValue) (i : IsCrossings v) (j : IsCrossings w) (k : v.c
   first_within : w.first < v.classes
   first_within = subst (λ n. w.first < n) (sym k) j.first
 
-  append_step : Stepped v.classes (both v.begins w.begins) (both v.stops w.stops) (append_of v w).begins (append_of v w).stops (λ l. between (v.some && w.some) v.reference l v.last w.first)
-  append_step = stepped v.classes v.reference v.last w.first (both v.begins w.begins) (both v.stops w.stops) i.reference.0 i.last first_within (sound_both v.classes v.begins v.stops w.begins w.stops (sound_of v i) sound_right) (v.some && w.some)
+  append_step : Stepped v.classes (both v.begins w.begins) (both v.stops w.stops) (append_of v w).begins (append_of v w).stops
+      (λ l. between (v.some && w.some) v.reference l v.last w.first)
+  append_step = stepped v.classes v.reference v.last w.first (both v.begins w.begins) (both v.stops w.stops) i.reference.0 i.last
+      first_within (sound_both v.classes v.begins v.stops w.begins w.stops (sound_of v i) sound_right) (v.some && w.some)
 
-  pub append_count : (l : ℕ) → count_at (append_of v w) l ≡ (count_at v l + count_at w l) + between (v.some && w.some) v.reference l v.last w.first
+  pub append_count : (l : ℕ) → count_at (append_of v w) l ≡ (count_at v l + count_at w l) + between (v.some && w.some) v.reference
+      l v.last w.first
   append_count l = omega (arith, append_step.count l, count_both v.classes v.begins v.stops w.begins w.stops l (sound_of v i) sound_right)
 
-  pub append_rules : ((l : ℕ) → count_at v l + count_at w l + between (v.some && w.some) v.reference l v.last w.first ≤ MAX_POINTS) → IsCrossings (append_of v w)
+  pub append_rules : ((l : ℕ) → count_at v l + count_at w l + between (v.some && w.some) v.reference l v.last w.first ≤ MAX_POINTS) →
+      IsCrossings (append_of v w)
   append_rules f = record {
     classes = i.classes;
     reference = i.reference;
@@ -264,7 +297,16 @@ module _ (v w : CrossingsValue) (i : IsCrossings v) (j : IsCrossings w) (k : v.c
     some = or_same v.some w.some (is_some g) (is_some h) a.some b.some ∙ sym (some_append g h);
     first = cond_same v.some (is_some g) v.first w.first (first_of g) (first_of h) a.some a.first b.first ∙ sym (first_append g h);
     last = cond_same w.some (is_some h) w.last v.last (last_point h) (last_point g) b.some b.last a.last ∙ sym (last_append g h);
-    counts = λ l p q. omega (arith, append_count l, a.counts l p q, b.counts l p (subst (λ n. l < n) k q), ap (λ r. crossings r l h) e, crossings_append v.reference l g h, between_to (v.some && w.some) (is_some g && is_some h) v.reference l v.last w.first (last_point g) (first_of h) (and_same v.some w.some (is_some g) (is_some h) a.some b.some) a.last b.first);
+    counts = λ l p q. omega (
+      arith,
+      append_count l,
+      a.counts l p q,
+      b.counts l p (subst (λ n. l < n) k q),
+      ap (λ r. crossings r l h) e,
+      crossings_append v.reference l g h,
+      between_to (v.some && w.some) (is_some g && is_some h) v.reference l v.last w.first
+          (last_point g) (first_of h) (and_same v.some w.some (is_some g) (is_some h) a.some b.some) a.last b.first,
+    );
   }
 
 begin_small : (v : CrossingsValue) → IsCrossings v → (k : ℕ) → get_or v.begins k 0 < 2 ^ 42
@@ -278,7 +320,8 @@ pub record Ready (v w : CrossingsValue) (b s : List ℕ) : Type 0 where
   pub room : (k : ℕ) → get_or b k 0 < 2 ^ 62
   pub space : (k : ℕ) → get_or s k 0 < 2 ^ 62
 
-pub ready : {v w : CrossingsValue} {b s : List ℕ} → IsCrossings v → IsCrossings w → v.classes ≡ w.classes → b ≡ both v.begins w.begins → s ≡ both v.stops w.stops → Ready v w b s
+pub ready : {v w : CrossingsValue} {b s : List ℕ} → IsCrossings v → IsCrossings w → v.classes ≡ w.classes → b ≡ both v.begins w.begins →
+    s ≡ both v.stops w.stops → Ready v w b s
 ready {v} {w} {b} {s} i j e p q =
     let l : length v.begins ≡ length w.begins = omega (arith, i.begins, j.begins) in
     let m : length v.stops ≡ length w.stops = omega (arith, i.stops, j.stops) in
@@ -292,19 +335,30 @@ ready {v} {w} {b} {s} i j e p q =
       space = λ k. omega (arith, ap (λ t. get_or t k 0) q, added_at v.stops w.stops k m, stop_small v i k, stop_small w j k);
     }
 
-pub stops_room : {v w : CrossingsValue} {t : List ℕ} → IsCrossings v → IsCrossings w → t ≡ w.stops → (k : ℕ) → get_or v.stops k 0 + get_or t k 0 < 2 ^ 63
+pub stops_room : {v w : CrossingsValue} {t : List ℕ} → IsCrossings v → IsCrossings w → t ≡ w.stops → (k : ℕ) →
+    get_or v.stops k 0 + get_or t k 0 < 2 ^ 63
 stops_room {v} {w} {t} i j p k = omega (arith, stop_small v i k, stop_small w j k, ap (λ u. get_or u k 0) p)
 
-value_same : (K r : ℕ) (a a' : Bool) (f f' l l' : ℕ) (b b' s s' : List ℕ) → a' ≡ a → f' ≡ f → l' ≡ l → b' ≡ b → s' ≡ s → ◌≡◌ {A = CrossingsValue} (record { classes = K; reference = r; some = a; first = f; last = l; begins = b; stops = s }) (record { classes = K; reference = r; some = a'; first = f'; last = l'; begins = b'; stops = s' })
+value_same : (K r : ℕ) (a a' : Bool) (f f' l l' : ℕ) (b b' s s' : List ℕ) → a' ≡ a → f' ≡ f → l' ≡ l → b' ≡ b → s' ≡ s →
+    ◌≡◌ {A = CrossingsValue} (record { classes = K; reference = r; some = a; first = f; last = l; begins = b; stops = s })
+    (record { classes = K; reference = r; some = a'; first = f'; last = l'; begins = b'; stops = s' })
 value_same K r a a' f f' l l' b b' s s' p q x y z = cc
 
-pub closed : {v w : CrossingsValue} {a c : Bool} {f l : ℕ} {b s b' s' : List ℕ} → IsCrossings v → IsCrossings w → v.classes ≡ w.classes → ((l : ℕ) → count_at v l + count_at w l + between (v.some && w.some) v.reference l v.last w.first ≤ MAX_POINTS) → b ≡ both v.begins w.begins → s ≡ both v.stops w.stops → c ≡ (v.some && w.some) → a ≡ (v.some || w.some) → f ≡ cond v.some v.first w.first → l ≡ cond w.some w.last v.last → b' ≡ begin_step c v.reference v.last w.first b → s' ≡ stop_step c v.reference v.last w.first s → IsCrossings (record { classes = v.classes; reference = v.reference; some = a; first = f; last = l; begins = b'; stops = s' })
+pub closed : {v w : CrossingsValue} {a c : Bool} {f l : ℕ} {b s b' s' : List ℕ} → IsCrossings v → IsCrossings w → v.classes ≡ w.classes →
+    ((l : ℕ) → count_at v l + count_at w l + between (v.some && w.some) v.reference l v.last w.first ≤ MAX_POINTS) →
+    b ≡ both v.begins w.begins → s ≡ both v.stops w.stops → c ≡ (v.some && w.some) → a ≡ (v.some || w.some) →
+    f ≡ cond v.some v.first w.first → l ≡ cond w.some w.last v.last → b' ≡ begin_step c v.reference v.last w.first b →
+    s' ≡ stop_step c v.reference v.last w.first s →
+    IsCrossings (record { classes = v.classes; reference = v.reference; some = a; first = f; last = l; begins = b'; stops = s' })
 closed {v} {w} {a} {c} {f} {l} {b} {s} {b'} {s'} i j e g p q o n m k x y =
-    let x' = x ∙ ap (λ t. begin_step c v.reference v.last w.first t) p ∙ ap (λ z. begin_step z v.reference v.last w.first (both v.begins w.begins)) o in
-    let y' = y ∙ ap (λ t. stop_step c v.reference v.last w.first t) q ∙ ap (λ z. stop_step z v.reference v.last w.first (both v.stops w.stops)) o in
+    let x' = x ∙ ap (λ t. begin_step c v.reference v.last w.first t) p ∙ ap
+    (λ z. begin_step z v.reference v.last w.first (both v.begins w.begins)) o in
+    let y' = y ∙ ap (λ t. stop_step c v.reference v.last w.first t) q ∙ ap
+    (λ z. stop_step z v.reference v.last w.first (both v.stops w.stops)) o in
     subst IsCrossings (value_same v.classes v.reference _ a _ f _ l _ b' _ s' n m k x' y') (append_rules v w i j e g)
 
-pub level_count : (x : ℕ) (v : CrossingsValue) → IsCrossings v → x < v.classes → (l : ℕ) → count_at (level_of x v) l ≡ count_at v l + between v.some v.reference l v.last x
+pub level_count : (x : ℕ) (v : CrossingsValue) → IsCrossings v → x < v.classes → (l : ℕ) →
+    count_at (level_of x v) l ≡ count_at v l + between v.some v.reference l v.last x
 level_count x v i h = (stepped v.classes v.reference v.last x v.begins v.stops i.reference.0 i.last h (sound_of v i) v.some).count
 
 sum_replicate : (i n : ℕ) → sum (take i (replicate n 0)) ≡ 0

@@ -1,8 +1,9 @@
--- Level crossings (ASTM E1049-85, 5.1): how often a history crosses a boundary in the counted direction, upwards from the reference on
--- and downwards below it. Boundary l lies below level l.
+-- Level crossings (ASTM E1049-85, 5.1): how often a history crosses a boundary in the counted direction, upwards from
+-- the reference on and downwards below it. Boundary l lies below level l.
 --   step_crossings   1 where the step from x to y crosses boundary l
 --   crossings        how often a history does
---   CrossingsValue   what contracts see of a `Crossings`: its first and last level, and the counts as differences of two sums
+--   CrossingsValue   what contracts see of a `Crossings`: its first and last level, and the counts as differences of
+--                    two sums
 --   count_at         the count of a boundary
 --   IsCrossings      what holds of every `Crossings`
 --   Crosses          a value stands for a history
@@ -15,7 +16,8 @@ use Rattle.calibration.specs.declared.grid.TheConstants.{MIN_CLASSES, MAX_CLASSE
 use Rattle.turning_points.specs.declared.ends.TheConstants.{MAX_POINTS}
 
 abbrev pub step_crossings : ℕ → ℕ → ℕ → ℕ → ℕ
-step_crossings r l x y = if nat_le r l then (if nat_lt x l && nat_le l y then 1 else 0) else (if nat_le l x && nat_lt y l then 1 else 0)
+step_crossings r l x y =
+    if nat_le r l then (if nat_lt x l && nat_le l y then 1 else 0) else (if nat_le l x && nat_lt y l then 1 else 0)
 
 abbrev pub crossings : ℕ → ℕ → List ℕ → ℕ
 crossings r l [] = 0
@@ -40,7 +42,15 @@ pub record CrossingsValue : Type 0 where
   pub stops : List ℕ
 
 abbrev pub no_crossings : ℕ → ℕ → CrossingsValue
-no_crossings k r = record { classes = k; reference = r; some = false; first = 0; last = 0; begins = replicate (k + 1) 0; stops = replicate (k + 1) 0 }
+no_crossings k r = record {
+  classes = k;
+  reference = r;
+  some = false;
+  first = 0;
+  last = 0;
+  begins = replicate (k + 1) 0;
+  stops = replicate (k + 1) 0;
+}
 
 -- the runs over a boundary: those that begin at or below it, less those that stop there
 abbrev pub count_at : CrossingsValue → ℕ → ℕ
@@ -82,7 +92,17 @@ abbrev pub between : Bool → ℕ → ℕ → ℕ → ℕ → ℕ
 between b r l x y = if b then step_crossings r l x y else 0
 
 abbrev pub level_of : ℕ → CrossingsValue → CrossingsValue
-level_of x v = record { classes = v.classes; reference = v.reference; some = true; first = if v.some then v.first else x; last = x; begins = begin_step v.some v.reference v.last x v.begins; stops = stop_step v.some v.reference v.last x v.stops }
+level_of x v = record {
+  classes = v.classes;
+  reference = v.reference;
+  some = true;
+  first = if v.some then v.first
+      else x;
+  last = x;
+  begins = begin_step v.some v.reference v.last x v.begins;
+  stops = stop_step v.some v.reference
+      v.last x v.stops;
+}
 
 abbrev pub append_of : CrossingsValue → CrossingsValue → CrossingsValue
 append_of v w = record {

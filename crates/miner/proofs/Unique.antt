@@ -14,14 +14,17 @@ use Rattle.lemmas.proofs.Naturals.{one_factor}
 
 normal_at : (R C n m d : ℕ) → 0 < C → IsNormalShare R C n d → IsNormalShare R C m d →
     ((1000 * R < 737 * C) ⊎ (737 * C ≤ 1000 * R)) → ((1000 * 1000 * R < 549 * 737 * C) ⊎ (549 * 737 * C ≤ 1000 * 1000 * R)) → n ≡ m
-normal_at R C n m d z s t (inr knee) b = one_factor n m (2 * (2 * 10 ^ 6)) C 3 (d * R ^ 3) z (omega arith) (s.from_knee knee) (t.from_knee knee)
+normal_at R C n m d z s t (inr knee) b =
+    one_factor n m (2 * (2 * 10 ^ 6)) C 3 (d * R ^ 3) z (omega arith) (s.from_knee knee) (t.from_knee knee)
 normal_at R C n m d z s t (inl below) (inr cut) =
-    one_factor n m (2 * (5 * 10 ^ 6)) (737 * C) 5 (d * (1000 * R) ^ 5) (omega arith) (omega arith) (s.below_knee below cut) (t.below_knee below cut)
+    one_factor n m (2 * (5 * 10 ^ 6)) (737 * C) 5 (d * (1000 * R) ^ 5) (omega arith) (omega arith) (s.below_knee below cut)
+    (t.below_knee below cut)
 normal_at R C n m d z s t (inl below) (inl none_left) = s.below_cut_off none_left ∙ sym (t.below_cut_off none_left)
 
 shear_at : (R C n m d : ℕ) → 0 < C → IsShearShare R C n d → IsShearShare R C m d →
     ((1000 * R < 457 * C) ⊎ (457 * C ≤ 1000 * R)) → n ≡ m
-shear_at R C n m d z s t (inr cut) = one_factor n m (2 * (2 * 10 ^ 6)) C 5 (d * R ^ 5) z (omega arith) (s.from_cut_off cut) (t.from_cut_off cut)
+shear_at R C n m d z s t (inr cut) =
+    one_factor n m (2 * (2 * 10 ^ 6)) C 5 (d * R ^ 5) z (omega arith) (s.from_cut_off cut) (t.from_cut_off cut)
 shear_at R C n m d z s t (inl none_left) = s.below_cut_off none_left ∙ sym (t.below_cut_off none_left)
 
 share_of_kind : (kind : Kind) (R C n m d : ℕ) → 0 < C → IsShareOf kind R C n d → IsShareOf kind R C m d → n ≡ m
@@ -40,14 +43,17 @@ pub one_list : (detail : DetailValue) (grid : GridValue) (d classes : ℕ) (shar
     AreShares detail grid d classes shares → AreShares detail grid d classes others → shares ≡ others
 one_list detail grid d classes shares others z s t =
     let many : length shares ≡ length others = s.one_each ∙ sym t.one_each in
-    ext_get_or 0 shares others many (λ i inside. one_share detail grid (i + 1) _ _ d z (s.each i inside) (t.each i (omega (arith, many, inside))))
+    ext_get_or 0 shares others many (λ i inside. one_share detail grid (i + 1) _ _ d z (s.each i inside)
+    (t.each i (omega (arith, many, inside))))
 
 -- and one damage
 pub one_damage : HasOneDamage
 one_damage detail grid counts f g is_detail a b =
     let den : f.den ≡ g.den = a.den ∙ sym b.den in
-    let there : AreShares detail grid g.den grid.classes a.shares = subst (λ d. AreShares detail grid d grid.classes a.shares) den a.are_shares in
-    let same : a.shares ≡ b.shares = one_list detail grid g.den grid.classes a.shares b.shares (positive_category detail is_detail) there b.are_shares in
+    let there : AreShares detail grid g.den grid.classes a.shares = subst (λ d. AreShares detail grid d grid.classes a.shares) den
+    a.are_shares in
+    let same : a.shares ≡ b.shares = one_list detail grid g.den grid.classes a.shares b.shares (positive_category detail is_detail) there
+    b.are_shares in
     let sum : parts f ≡ parts g = a.sum ∙ ap (damage_sum (drop 1 counts)) same ∙ sym b.sum in
     let whole : f.whole * g.den + f.num ≡ g.whole * g.den + g.num = ap (λ d. f.whole * d + f.num) (sym den) ∙ sum in
     let places = same_from_place f.whole f.num g.whole g.num g.den (omega (arith, f.below_one)) g.below_one whole in

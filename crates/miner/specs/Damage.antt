@@ -30,4 +30,5 @@ pub record IsDamage (detail : DetailValue) (grid : GridValue) (half_counts : Lis
 -- two fractions that are the damage of the same half cycles are one
 abbrev pub HasOneDamage : Type 0
 HasOneDamage = (detail : DetailValue) (grid : GridValue) (half_counts : List ℕ) (f g : Frac) → IsDetail detail →
-    IsDamage detail grid half_counts f → IsDamage detail grid half_counts g → (f.whole ≡ g.whole) × (f.num ≡ g.num) × (f.den ≡ g.den)
+    IsDamage detail grid half_counts f → IsDamage detail grid half_counts g →
+    (f.whole ≡ g.whole) × (f.num ≡ g.num) × (f.den ≡ g.den)

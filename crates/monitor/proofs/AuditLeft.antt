@@ -6,7 +6,8 @@ use Rattle.fault_lines.specs.FaultLine.{fault_line}
 use Rattle.monitor.specs.Shown.{Shown, Tells, Ends}
 use Rattle.monitor.specs.AuditRun.{AuditRuns}
 
-pub audit_without_memory : (before after : Shown) (s : Status) → s ≡ OutOfMemory → (before.station_tells → Tells (fault_line OutOfMemory []) before after)
+pub audit_without_memory : (before after : Shown) (s : Status) → s ≡ OutOfMemory →
+    (before.station_tells → Tells (fault_line OutOfMemory []) before after)
     → (before.station_tells → Ends (fault_line OutOfMemory []) before after) → after.written ≡ before.written → AuditRuns before after s
 audit_without_memory before after s is tells ends same = subst (λ (x : Status). AuditRuns before after x) (sym is) (record {
   answer_is = λ k t c. tt;

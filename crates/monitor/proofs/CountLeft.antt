@@ -14,15 +14,19 @@ use Rattle.monitor.specs.CountRun.{CountRuns}
 -- each moment holds what was held, where a line was told at most
 kept_moments : (before after : Shown) (r : Recorded) (a : List ℕ)
     → ((lines : Lines) (image : Image) → before.moments before.clock lines image → (lines ≡ before.told) × before.leaves image)
-    → Tells (fault_line OutOfMemory []) before after → AllHold r a before.leaves → (lines : Lines) (image : Image) → after.moments before.clock lines image
+    → Tells (fault_line OutOfMemory []) before after → AllHold r a before.leaves → (lines : Lines) (image : Image) →
+    after.moments before.clock lines image
     → IsKept r a before.told lines image
 kept_moments before after r a only tells holds lines image was =
     let safe = safe_starts r a before.clock before.moments before.told before.seen before.leaves holds only in
-    (safe_fault r a _ _ _ _ _ _ _ _ _ _ _ _ _ safe (fault_line OutOfMemory []) (fault_below r OutOfMemory []) tells).run.each lines image was
+    (safe_fault r a _ _ _ _ _ _ _ _ _ _ _ _ _ safe (fault_line OutOfMemory []) (fault_below r OutOfMemory []) tells).run.each
+    lines image was
 
 pub count_without_memory : (before after : Shown) (s : Status) → s ≡ OutOfMemory
-    → (before.station_tells → (lines : Lines) (image : Image) → before.moments before.clock lines image → (lines ≡ before.told) × before.leaves image)
-    → (before.station_tells → Tells (fault_line OutOfMemory []) before after) → (before.station_tells → Ends (fault_line OutOfMemory []) before after)
+    → (before.station_tells → (lines : Lines) (image : Image) → before.moments before.clock lines image → (lines ≡ before.told)
+    × before.leaves image)
+    → (before.station_tells → Tells (fault_line OutOfMemory []) before after) →
+    (before.station_tells → Ends (fault_line OutOfMemory []) before after)
     → after.written ≡ before.written → CountRuns before after s
 count_without_memory before after s is only tells ends same = subst (λ (x : Status). CountRuns before after x) (sym is) (record {
   every_moment = λ k t c conf is2 a holds. kept_moments before after (recorded conf before.files) a (only k) (tells k) holds;

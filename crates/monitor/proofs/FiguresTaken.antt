@@ -36,18 +36,21 @@ module _ (grid : GridValue) (gain : GainValue) where
       (refused_count-append grid gain u v)
 
   -- A piece of samples: how many are of each kind, and its levels.
-  module _ (raws : List ℤ) (used missing refused : ℕ) (u : used ≡ length (history grid gain raws)) (m : missing ≡ missing_count grid gain raws) (r : refused ≡ refused_count grid gain raws) where
+  module _ (raws : List ℤ) (used missing refused : ℕ) (u : used ≡ length (history grid gain raws))
+      (m : missing ≡ missing_count grid gain raws) (r : refused ≡ refused_count grid gain raws) where
     pub all_kinds : used + missing + refused ≡ length raws
     all_kinds = omega (arith, counts_add gain grid raws, u, m, r)
 
     kinds_are : counts (length raws) used missing refused ≡ counts_of grid gain raws
     kinds_are = same_counts _ _ _ _ _ _ _ _ refl u m r
 
-    module _ (old : Figures) (w : List ℤ) (piece more : List ℕ) (turner : Recent) (levels : piece ≡ history grid gain raws) (turned : (h given : List ℕ) → HasGiven h given old.turner → HasGiven (h ++ piece) (given ++ more) turner) where
+    module _ (old : Figures) (w : List ℤ) (piece more : List ℕ) (turner : Recent) (levels : piece ≡ history grid gain raws)
+        (turned : (h given : List ℕ) → HasGiven h given old.turner → HasGiven (h ++ piece) (given ++ more) turner) where
       turned_more : (are : AreFigures grid gain old w) → HasGiven (history grid gain (w ++ raws)) (are.decided ++ more) turner
       turned_more are =
           subst (λ (h : List ℕ). HasGiven h (are.decided ++ more) turner)
-          (ap (λ (l : List ℕ). history grid gain w ++ l) levels ∙ sym (history-append grid gain w raws)) (turned (history grid gain w) are.decided are.turned)
+          (ap (λ (l : List ℕ). history grid gain w ++ l) levels ∙ sym (history-append grid gain w raws))
+          (turned (history grid gain w) are.decided are.turned)
 
       -- the points that it decides are classes of the grid
       pub points_below : AreFigures grid gain old w → All (λ point. point < old.run.classes) more
@@ -56,10 +59,12 @@ module _ (grid : GridValue) (gain : GainValue) where
           (All-next_given (λ point. point < grid.classes) are.decided more (history_below grid gain (w ++ raws)) (turned_more are))
 
       pub figures_more : (new : Figures) → new.turner ≡ turner → new.counts ≡ sum_of old.counts (counts (length raws) used missing refused)
-          → ((before : List ℕ) → HasCounted before old.run.live (HoldHalfUnits old.half_units) → HasCounted (before ++ more) new.run.live (HoldHalfUnits new.half_units))
+          → ((before : List ℕ) → HasCounted before old.run.live (HoldHalfUnits old.half_units) → HasCounted (before ++ more) new.run.live
+          (HoldHalfUnits new.half_units))
           → new.run.classes ≡ old.run.classes → AreFigures grid gain old w → AreFigures grid gain new (w ++ raws)
       figures_more new t sum counted classes are = record {
-        counts = sum ∙ ap (λ (c : SampleCounts). sum_of c (counts (length raws) used missing refused)) are.counts ∙ ap (λ (c : SampleCounts). sum_of (counts_of grid gain w) c) kinds_are ∙ sym (counts_of-append w raws);
+        counts = sum ∙ ap (λ (c : SampleCounts). sum_of c (counts (length raws) used missing refused)) are.counts
+            ∙ ap (λ (c : SampleCounts). sum_of (counts_of grid gain w) c) kinds_are ∙ sym (counts_of-append w raws);
         decided = are.decided ++ more;
         turned = subst (λ (k : Recent). HasGiven (history grid gain (w ++ raws)) (are.decided ++ more) k) (sym t) (turned_more are);
         counted = counted are.decided are.counted;
@@ -67,11 +72,14 @@ module _ (grid : GridValue) (gain : GainValue) where
       }
 
 -- the last point of a history is a class of the grid
-pub last_below : (grid : GridValue) (gain : GainValue) (f : Figures) (w : List ℤ) (point : ℕ) → ((h given : List ℕ) → HasGiven h given f.turner → given ++ point ∷ [] ≡ points h) → AreFigures grid gain f w → point < f.run.classes
+pub last_below : (grid : GridValue) (gain : GainValue) (f : Figures) (w : List ℤ) (point : ℕ) →
+    ((h given : List ℕ) → HasGiven h given f.turner → given ++ point ∷ [] ≡ points h) → AreFigures grid gain f w → point < f.run.classes
 last_below grid gain f w point closed are =
     let h = history grid gain w in
-    let all : All (λ p. p < grid.classes) (are.decided ++ point ∷ []) = subst (λ (l : List ℕ). All (λ p. p < grid.classes) l) (sym (closed h are.decided are.turned)) (All-points (λ p. p < grid.classes) h (history_below grid gain w)) in
-    let last : All (λ p. p < grid.classes) (point ∷ []) = rw drop-append_seam at (All-drop (λ p. p < grid.classes) (length are.decided) (are.decided ++ point ∷ []) all) in
+    let all : All (λ p. p < grid.classes) (are.decided ++ point ∷ []) = subst (λ (l : List ℕ). All (λ p. p < grid.classes) l)
+    (sym (closed h are.decided are.turned)) (All-points (λ p. p < grid.classes) h (history_below grid gain w)) in
+    let last : All (λ p. p < grid.classes) (point ∷ []) = rw drop-append_seam at
+    (All-drop (λ p. p < grid.classes) (length are.decided) (are.decided ++ point ∷ []) all) in
     subst (λ (n : ℕ). point < n) (sym are.classes) (All-head (λ p. p < grid.classes) point [] last)
 
 -- the half units of all points are those of the history
@@ -84,7 +92,9 @@ half_units_whole grid gain w live counted all has finish k inside = finish (poin
 -- with the last point, where there is one, all points were read
 pub all_points : (grid : GridValue) (gain : GainValue) (f : Figures) (w : List ℤ) (last live half_units : List ℕ)
     → ((h given : List ℕ) → HasGiven h given f.turner → given ++ last ≡ points h)
-    → ((before : List ℕ) → HasCounted before f.run.live (HoldHalfUnits f.half_units) → HasCounted (before ++ last) live (HoldHalfUnits half_units))
+    → ((before : List ℕ) → HasCounted before f.run.live (HoldHalfUnits f.half_units) → HasCounted (before ++ last) live
+    (HoldHalfUnits half_units))
     → AreFigures grid gain f w → HasCounted (points (history grid gain w)) live (HoldHalfUnits half_units)
 all_points grid gain f w last live half_units closed push are =
-    subst (λ (p : List ℕ). HasCounted p live (HoldHalfUnits half_units)) (closed (history grid gain w) are.decided are.turned) (push are.decided are.counted)
+    subst (λ (p : List ℕ). HasCounted p live (HoldHalfUnits half_units)) (closed (history grid gain w) are.decided are.turned)
+    (push are.decided are.counted)

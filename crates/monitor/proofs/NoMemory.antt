@@ -36,14 +36,18 @@ nothing_done before s is back = subst (λ (x : Status). Runs no_memory_task befo
 })
 
 -- an empty station stays empty
-empty_moments : (before after : Shown) (line : List ℕ) (c : Config) → Tells line before after → ((image : Image) → before.leaves image → length image ≡ 0)
+empty_moments : (before after : Shown) (line : List ℕ) (c : Config) → Tells line before after →
+    ((image : Image) → before.leaves image → length image ≡ 0)
     → Since before.clock before.moments after.clock after.moments (InMaking c before.files)
 empty_moments before after line c tells none =
-    entails before.clock after.clock before.moments after.moments (InMaking c before.files) (InFault line before.told before.leaves) tells.run
+    entails before.clock after.clock before.moments after.moments (InMaking c before.files)
+    (InFault line before.told before.leaves) tells.run
     (λ lines image h. inl (omega (arith, none image h.1)))
 
-pub init_without_memory : (before after : Shown) (s : Status) → s ≡ OutOfMemory → (before.station_tells → Tells (fault_line OutOfMemory []) before after)
-    → (before.station_tells → Ends (fault_line OutOfMemory []) before after) → (before.output_tells → after.written ≡ before.written) → after.out ≡ 0
+pub init_without_memory : (before after : Shown) (s : Status) → s ≡ OutOfMemory →
+    (before.station_tells → Tells (fault_line OutOfMemory []) before after)
+    → (before.station_tells → Ends (fault_line OutOfMemory []) before after) → (before.output_tells → after.written ≡ before.written) →
+    after.out ≡ 0
     → (before.site_tells → after.files ≡ before.files) → InitRuns before after s
 init_without_memory before after s is tells ends nothing back files = subst (λ (x : Status). InitRuns before after x) (sym is) (record {
   made = λ k t c no. absurd (cc);
@@ -62,12 +66,14 @@ init_without_memory before after s is tells ends nothing back files = subst (λ 
   files = files;
 })
 
-pub report_without_memory : (before after : Shown) (s : Status) → s ≡ OutOfMemory → (before.station_tells → Tells (fault_line OutOfMemory []) before after)
+pub report_without_memory : (before after : Shown) (s : Status) → s ≡ OutOfMemory →
+    (before.station_tells → Tells (fault_line OutOfMemory []) before after)
     → (before.station_tells → Ends (fault_line OutOfMemory []) before after) → after.written ≡ before.written → ReportRuns before after s
 report_without_memory before after s is tells ends same = subst (λ (x : Status). ReportRuns before after x) (sym is) (record {
   prints = λ o k c conf is2 w n holds. same;
   kept = λ o k c conf is2 head bodies all setup reads.
-      subst (λ (new : List ℕ). PrintsKept OutOfMemory conf bodies before.written new) (sym same) (kept_unprinted OutOfMemory conf bodies before.written refl);
+      subst (λ (new : List ℕ). PrintsKept OutOfMemory conf bodies before.written new) (sym same)
+      (kept_unprinted OutOfMemory conf bodies before.written refl);
   nothing = λ o p. same;
   quiet = λ k. tells k;
   last = λ k n. ends k;
@@ -79,22 +85,26 @@ report_without_memory before after s is tells ends same = subst (λ (x : Status)
   disk = λ no. absurd (cc);
 })
 
-pub demo_without_memory : (seed samples : ℕ) (tells : Type 0) (old : List ℕ) (faults : ℕ) (s : Status) → s ≡ OutOfMemory → DemoRuns seed samples tells old old faults faults s
-demo_without_memory seed samples tells old faults s is = subst (λ (x : Status). DemoRuns seed samples tells old old faults faults x) (sym is) (record {
-  done = λ t no. absurd (cc);
-  front = λ t no. absurd (cc);
-  nothing = λ t n m. refl;
-  some = λ p. absurd p;
-  kind = tt;
-  write = λ no. absurd (cc);
-})
+pub demo_without_memory : (seed samples : ℕ) (tells : Type 0) (old : List ℕ) (faults : ℕ) (s : Status) → s ≡ OutOfMemory →
+    DemoRuns seed samples tells old old faults faults s
+demo_without_memory seed samples tells old faults s is =
+    subst (λ (x : Status). DemoRuns seed samples tells old old faults faults x) (sym is) (record {
+      done = λ t no. absurd (cc);
+      front = λ t no. absurd (cc);
+      nothing = λ t n m. refl;
+      some = λ p. absurd p;
+      kind = tt;
+      write = λ no. absurd (cc);
+    })
 
-pub ends_by : (faults faults2 : ℕ) (told told2 : Lines) (line : List ℕ) → Rose faults faults2 ⊎ (told2 ≡ told ++ line ∷ []) → Rose faults faults2 ⊎ EndsIn line told2
+pub ends_by : (faults faults2 : ℕ) (told told2 : Lines) (line : List ℕ) → Rose faults faults2 ⊎ (told2 ≡ told ++ line ∷ []) →
+    Rose faults faults2 ⊎ EndsIn line told2
 ends_by faults faults2 told told2 line (inl rose) = inl rose
 ends_by faults faults2 told told2 line (inr is) = inr (told, is)
 
 -- the last line told, where it is put behind the others
-pub ends_at : (before after : Shown) (line : List ℕ) → Rose before.station_faults after.station_faults ⊎ (after.told ≡ before.told ++ line ∷ []) → Ends line before after
+pub ends_at : (before after : Shown) (line : List ℕ) →
+    Rose before.station_faults after.station_faults ⊎ (after.told ≡ before.told ++ line ∷ []) → Ends line before after
 ends_at before after line (inl rose) = inl rose
 ends_at before after line (inr is) = inr (before.told, is)
 
@@ -107,13 +117,15 @@ table_last w file name s before after is told last =
 
 -- and so is that in what `column` tells
 pub column_last : (w : Option Command) (file column id : List ℕ) (period : ℕ) (name : List ℕ) (s : Status) (before after : Shown)
-    → w ≡ Some (Column file column id period) → IsToldOf w name → Ends (fault_line s file) before after → Ends (fault_line s name) before after
+    → w ≡ Some (Column file column id period) → IsToldOf w name → Ends (fault_line s file) before after →
+    Ends (fault_line s name) before after
 column_last w file column id period name s before after is told last =
     let same : name ≡ file = subst (λ (x : Option Command). IsToldOf x name) is told in
     subst (λ (n : List ℕ). Ends (fault_line s n) before after) (sym same) last
 
 -- none is in what `demo` tells
-pub demo_last : (w : Option Command) (seed samples workers : ℕ) (name : List ℕ) (s : Status) (before after : Shown) → w ≡ Some (Demo seed samples workers)
+pub demo_last : (w : Option Command) (seed samples workers : ℕ) (name : List ℕ) (s : Status) (before after : Shown) →
+    w ≡ Some (Demo seed samples workers)
     → IsToldOf w name → Ends (fault_line s []) before after → Ends (fault_line s name) before after
 demo_last w seed samples workers name s before after is told last =
     let same : name ≡ [] = subst (λ (x : Option Command). IsToldOf x name) is told in
@@ -123,6 +135,8 @@ demo_last w seed samples workers name s before after is told last =
 pub usage_last : (s : Status) (name : List ℕ) (before after : Shown) → (s ≡ Usage) ⊎ (s ≡ OutOfMemory) → Ends (fault_line s []) before after
     → Ends (fault_line s name) before after
 usage_last s name before after (inl is) last =
-    subst (λ (x : Status). Ends (fault_line x name) before after) (sym is) (subst (λ (x : Status). Ends (fault_line x []) before after) is last)
+    subst (λ (x : Status). Ends (fault_line x name) before after) (sym is)
+    (subst (λ (x : Status). Ends (fault_line x []) before after) is last)
 usage_last s name before after (inr is) last =
-    subst (λ (x : Status). Ends (fault_line x name) before after) (sym is) (subst (λ (x : Status). Ends (fault_line x []) before after) is last)
+    subst (λ (x : Status). Ends (fault_line x name) before after) (sym is)
+    (subst (λ (x : Status). Ends (fault_line x []) before after) is last)

@@ -6,7 +6,8 @@ use Rattle.fault_lines.specs.FaultLine.{fault_line}
 use Rattle.monitor.specs.Shown.{Shown, Tells, Ends}
 use Rattle.monitor.specs.RepeatRun.{RepeatRuns}
 
-pub repeat_without_memory : (before after : Shown) (s : Status) → s ≡ OutOfMemory → (before.station_tells → Tells (fault_line OutOfMemory []) before after)
+pub repeat_without_memory : (before after : Shown) (s : Status) → s ≡ OutOfMemory →
+    (before.station_tells → Tells (fault_line OutOfMemory []) before after)
     → (before.station_tells → Ends (fault_line OutOfMemory []) before after) → after.written ≡ before.written → RepeatRuns before after s
 repeat_without_memory before after s is tells ends same = subst (λ (x : Status). RepeatRuns before after x) (sym is) (record {
   prints = λ o k c conf is2 w n holds. same;

@@ -6,7 +6,8 @@ use Rattle.fault_lines.specs.FaultLine.{fault_line}
 use Rattle.monitor.specs.Shown.{Shown, Tells, Ends}
 use Rattle.monitor.specs.SheetRun.{SheetRuns}
 
-pub sheet_without_memory : (before after : Shown) (s : Status) → s ≡ OutOfMemory → (before.station_tells → Tells (fault_line OutOfMemory []) before after)
+pub sheet_without_memory : (before after : Shown) (s : Status) → s ≡ OutOfMemory →
+    (before.station_tells → Tells (fault_line OutOfMemory []) before after)
     → (before.station_tells → Ends (fault_line OutOfMemory []) before after) → after.written ≡ before.written → SheetRuns before after s
 sheet_without_memory before after s is tells ends same = subst (λ (x : Status). SheetRuns before after x) (sym is) (record {
   prints = λ o t c conf is2. same;

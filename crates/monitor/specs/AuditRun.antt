@@ -15,7 +15,8 @@ use Rattle.monitor.specs.InitRun.{line_for}
 use Rattle.monitor.specs.Shown.{Shown, Tells, Ends}
 
 pub record AuditRuns (before after : Shown) (answer : Status) : Type 0 where
-  -- Which answer it is, by what the bodies of each gauge keep and what its recording begins with, and when it is `Done`.
+  -- Which answer it is, by what the bodies of each gauge keep and what its recording begins with, and when it is
+  -- `Done`.
   pub answer_is : before.station_tells → before.site_tells → before.config_tells →
       AuditAnswers (config_of_bytes before.config) before.seen before.files answer
   pub complete : before.station_tells → before.site_tells → before.config_tells →
@@ -35,6 +36,7 @@ pub record AuditRuns (before after : Shown) (answer : Status) : Type 0 where
   pub quiet : before.station_tells → before.config_tells → Tells (line_for before answer) before after
   pub last : before.station_tells → before.config_tells → answer ≢ Done → Ends (line_for before answer) before after
   pub named : answer ≢ Usage
-  pub read : answer ≡ ReadFault → Rose before.config_faults after.config_faults ⊎ Rose before.site_faults after.site_faults
+  pub read : answer ≡ ReadFault → Rose before.config_faults after.config_faults ⊎
+      Rose before.site_faults after.site_faults
   pub write : answer ≡ WriteFault → Rose before.output_faults after.output_faults
   pub disk : answer ≡ DiskFault → Rose before.station_faults after.station_faults

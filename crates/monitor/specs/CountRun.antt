@@ -53,7 +53,8 @@ pub record CountRuns (before after : Shown) (answer : Status) : Type 0 where
   -- After these nothing was stored and acknowledged.
   pub quiet : before.station_tells → LeavesStore answer → (name : List ℕ) × Tells (fault_line answer name) before after
   pub named : answer ≢ Usage
-  pub read : answer ≡ ReadFault → Rose before.config_faults after.config_faults ⊎ Rose before.site_faults after.site_faults
+  pub read : answer ≡ ReadFault → Rose before.config_faults after.config_faults ⊎
+      Rose before.site_faults after.site_faults
   pub write : answer ≡ WriteFault → Rose before.output_faults after.output_faults
   pub disk : answer ≡ DiskFault → Rose before.station_faults after.station_faults
   -- The last line told is the answer's.

@@ -27,8 +27,10 @@ pub record InitRuns (before after : Shown) (answer : Status) : Type 0 where
       config_of_bytes before.config ≡ Ok c → ((image : Image) → before.leaves image → length image ≡ 0) →
       Since before.clock before.moments after.clock after.moments (InMaking c before.files)
   -- Where it is refused, and over a station that is not empty, at most the line of the answer is told.
-  pub unmade : before.station_tells → before.config_tells → IsUnmade answer → Tells (line_for before answer) before after
-  pub quiet : before.station_tells → before.config_tells → 0 < length before.seen → Tells (line_for before answer) before after
+  pub unmade : before.station_tells → before.config_tells → IsUnmade answer →
+      Tells (line_for before answer) before after
+  pub quiet : before.station_tells → before.config_tells → 0 < length before.seen →
+      Tells (line_for before answer) before after
   pub last : before.station_tells → before.config_tells → answer ≢ Done → Ends (line_for before answer) before after
   -- Which answer it is, and when it is `Done`.
   pub answer_is : before.station_tells → before.site_tells → before.config_tells →
@@ -38,7 +40,8 @@ pub record InitRuns (before after : Shown) (answer : Status) : Type 0 where
       ¬ Rose before.config_faults after.config_faults → ¬ Rose before.site_faults after.site_faults →
       ¬ Rose before.station_faults after.station_faults → (answer ≡ Done) ⊎ (answer ≡ OutOfMemory)
   pub kind : IsInit answer
-  pub read : answer ≡ ReadFault → Rose before.config_faults after.config_faults ⊎ Rose before.site_faults after.site_faults
+  pub read : answer ≡ ReadFault → Rose before.config_faults after.config_faults ⊎
+      Rose before.site_faults after.site_faults
   pub disk : answer ≡ DiskFault → Rose before.station_faults after.station_faults
   -- What stays.
   pub nothing : before.output_tells → after.written ≡ before.written

@@ -1,4 +1,5 @@
--- The name in what a command without a configuration tells: that of its file, and none of a demonstration and of wrong words.
+-- The name in what a command without a configuration tells: that of its file, and none of a demonstration and of wrong
+-- words.
 use Rattle.std.specs.Prelude.{◌≡◌, ℕ, List, [], Option, Some, None}
 use Rattle.command_words.specs.Line.{Command, Table, Demo, Column}
 

@@ -13,7 +13,8 @@ use Rattle.repeat_command.specs.Printing.{Prints}
 use Rattle.monitor.specs.Shown.{Shown, Tells, Ends}
 
 pub record RepeatRuns (before after : Shown) (answer : Status) : Type 0 where
-  -- Of samples of which a read of the store holds the first so many: the cycles of each gauge's level history, as one that repeats.
+  -- Of samples of which a read of the store holds the first so many: the cycles of each gauge's level history, as one
+  -- that repeats.
   pub prints : before.output_tells → before.station_tells → before.config_tells → (c : Config) →
       config_of_bytes before.config ≡ Ok c → (w : ℕ → List ℤ) (n : List ℕ) → Holds c.setup w n before.seen →
       Prints answer c (held_of w n) before.written after.written

@@ -24,5 +24,6 @@ pub record SheetRuns (before after : Shown) (answer : Status) : Type 0 where
       ¬ Rose before.site_faults after.site_faults → ¬ Rose before.output_faults after.output_faults →
       (answer ≡ sheet_answer (config_of_bytes before.config) before.files) ⊎ (answer ≡ OutOfMemory)
   pub named : answer ≢ Usage
-  pub read : answer ≡ ReadFault → Rose before.config_faults after.config_faults ⊎ Rose before.site_faults after.site_faults
+  pub read : answer ≡ ReadFault → Rose before.config_faults after.config_faults ⊎
+      Rose before.site_faults after.site_faults
   pub write : answer ≡ WriteFault → Rose before.output_faults after.output_faults

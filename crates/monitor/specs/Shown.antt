@@ -36,7 +36,8 @@ pub record Shown : Type 1 where
   pub written : List ℕ
   pub output_faults : ℕ
 
-abbrev pub shown : {C S Src K O : Type 0} → source.Ghosts C → site.Ghosts S Src → station.Ghosts K → sink.Ghosts O → C → S → K → O → Shown
+abbrev pub shown : {C S Src K O : Type 0} → source.Ghosts C → site.Ghosts S Src → station.Ghosts K → sink.Ghosts O → C →
+    S → K → O → Shown
 shown t u v p c s k o = record {
   config_tells = t.tells;
   site_tells = u.tells;

@@ -3,7 +3,8 @@ use Rattle.std.proofs.Common.{◌≡◌, ◌<◌, ◌≤◌, ◌⊎◌, inl, inr
 use Rattle.std.proofs.lemmas.Bool.{cases_lt}
 
 -- a call that stands among the numbers, as the one before the next
-pub last_of_calls : (failing : List ℕ) (call next : ℕ) → next ≡ min (call + 1) (2 ^ 64 - 1) → Contains failing call → Contains failing (next - 1) ⊎ (next ≡ 2 ^ 64 - 1)
+pub last_of_calls : (failing : List ℕ) (call next : ℕ) → next ≡ min (call + 1) (2 ^ 64 - 1) → Contains failing call →
+    Contains failing (next - 1) ⊎ (next ≡ 2 ^ 64 - 1)
 last_of_calls failing call next is there = by_size (cases_lt (call + 1) (2 ^ 64 - 1))
   where
     by_size : (call + 1 < 2 ^ 64 - 1) ⊎ (2 ^ 64 - 1 ≤ call + 1) → Contains failing (next - 1) ⊎ (next ≡ 2 ^ 64 - 1)

@@ -1,4 +1,5 @@
--- What a run is about: the setup, and for each gauge its name, its samples and how many bytes stand behind the last whole one.
+-- What a run is about: the setup, and for each gauge its name, its samples and how many bytes stand behind the last
+-- whole one.
 --   body_in      what stands behind the head of a file
 --   recorded     the recordings of a configuration
 use Rattle.std.specs.Prelude.{ℕ, ℤ, List, [], drop, length, Option, Some, None}

@@ -32,7 +32,8 @@ is_ended true c m is = absurd (cc)
 is_ended false true m is = (refl, refl)
 is_ended false false m is = absurd (cc)
 
-is_torn : (b c : Bool) (m bytes : ℕ) → Torn bytes ≡ (if b then More else (if c then Ended else Torn m)) → (b ≡ false) × (c ≡ false) × (bytes ≡ m)
+is_torn : (b c : Bool) (m bytes : ℕ) → Torn bytes ≡ (if b then More else (if c then Ended else Torn m)) →
+    (b ≡ false) × (c ≡ false) × (bytes ≡ m)
 is_torn true c m bytes is = absurd (cc)
 is_torn false true m bytes is = absurd (cc)
 is_torn false false m bytes is = (refl, refl, cc)
@@ -52,8 +53,11 @@ module _ (room n : ℕ) (buf : List ℤ) (before after : List ℕ) (same : SameF
       let count : n ≡ min room (length (samples before)) = taken.count (λ fault. cc) in
       let all : room ≡ n = grind (arith, nat_tests, enough, count) in
       let left : after ≡ drop (4 * n) before = taken.left (λ fault. cc) ∙ ap (λ m. drop (4 * m) before) all in
-      let inside : 4 * n ≤ length before = omega (arith, same.0, length-samples before) in
-      (split_at ∙ ap (λ l. take n buf ++ l) (sym (ap samples left ∙ samples-drop n before)), ap torn_bytes left ∙ torn_bytes-drop n before inside)
+      let inside : 4 * n ≤ length before = omega (arith, same.0, length-samples before) in (
+        split_at ∙ ap (λ l. take n buf ++ l) (sym (ap samples left ∙ samples-drop n before)),
+        ap torn_bytes left ∙ torn_bytes-drop
+            n before inside,
+      )
 
   -- fewer samples were left than were wanted
   reads_all : n ≡ min room (length (samples before)) → nat_le room (length (samples before)) ≡ false → take n buf ≡ samples before

@@ -1,5 +1,5 @@
--- Which difference between a segment and a recount is the first one: the samples that were used, the missing and the refused ones,
--- and then the half units of each pair of levels, by the lower level and then by the higher one.
+-- Which difference between a segment and a recount is the first one: the samples that were used, the missing and the
+-- refused ones, and then the half units of each pair of levels, by the lower level and then by the higher one.
 --   IsFirstOther   the first pair that has other half units
 --   Compares       the first difference, or none
 use Rattle.std.specs.Prelude.{◌≡◌, ◌≢◌, ◌<◌, ℕ, Option, Some, None}
@@ -35,7 +35,8 @@ pub record IsCellOther (classes : ℕ) (held found : ℕ → ℕ → ℕ) (other
 
 -- between a segment and samples of which so many are of each kind, with these half units
 pub data Compares (v : SegmentValue) (found : SampleCounts) (halves : ℕ → ℕ → ℕ) : Option Difference → Type 0 where
-  used_differ : v.used ≢ found.used → Compares v found halves (Some (record { what = Used; held = v.used; found = found.used }))
+  used_differ : v.used ≢ found.used →
+      Compares v found halves (Some (record { what = Used; held = v.used; found = found.used }))
   missing_differ : v.used ≡ found.used → v.missing ≢ found.missing
       → Compares v found halves (Some (record { what = Missing; held = v.missing; found = found.missing }))
   refused_differ : v.used ≡ found.used → v.missing ≡ found.missing → v.refused ≢ found.refused

@@ -18,9 +18,10 @@ use Rattle.recount.specs.declared.count.Recount.{Recount}
 abbrev pub HoldsPairs : Counts → List CountedRange → Type 0
 HoldsPairs t given = (lo hi : ℕ) → lo < hi → count_of t.cells lo hi ≡ half_units_of_pair lo hi given
 
--- By a gain and a grid: how many of the samples w are of each kind, and what the run handed to a counter of the points of their
--- history that no further sample can take away, with the live points and the last two points that the history goes on from. The
--- counter, with the members of its trait, had room for `start` half units, and a half unit is left for each sample still to come.
+-- By a gain and a grid: how many of the samples w are of each kind, and what the run handed to a counter of the points
+-- of their history that no further sample can take away, with the live points and the last two points that the history
+-- goes on from. The counter, with the members of its trait, had room for `start` half units, and a half unit is left
+-- for each sample still to come.
 pub record HasCountedSamples {C : Type 0} (classes room : C → ℕ) (holds : C → List CountedRange → Type 0) (start : ℕ)
     (grid : GridValue) (gain : GainValue) (count : RunningCount C) (w : List ℤ) : Type 0 where
   pub counts : count.counts ≡ counts_of grid gain w
@@ -35,10 +36,11 @@ pub record HasCountedSamples {C : Type 0} (classes room : C → ℕ) (holds : C 
 -- the same of a counter by pair, which begins with nothing
 abbrev pub HasCountedPairs : GridValue → GainValue → RunningCount Counts → List ℤ → Type 0
 HasCountedPairs grid gain count w =
-    HasCountedSamples (λ (t : Counts). t.classes) (λ (t : Counts). MAX_TOTAL - total_of t.cells) HoldsPairs MAX_TOTAL grid gain count w
+    HasCountedSamples (λ (t : Counts). t.classes) (λ (t : Counts). MAX_TOTAL - total_of t.cells) HoldsPairs MAX_TOTAL
+    grid gain count w
 
--- By a gain and a grid: how many of the samples w are of each kind, and the half units of each pair of levels in the three-point
--- count of their history.
+-- By a gain and a grid: how many of the samples w are of each kind, and the half units of each pair of levels in the
+-- three-point count of their history.
 pub record IsRecount (grid : GridValue) (gain : GainValue) (r : Recount) (w : List ℤ) : Type 0 where
   pub counts : r.counts ≡ counts_of grid gain w
   pub classes : r.pairs.classes ≡ grid.classes

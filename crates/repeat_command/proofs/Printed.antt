@@ -33,7 +33,8 @@ pub unread_prints : (s : Status) → IsRefusal s → (c : Config) (w : ℕ → L
 unread_prints s is c w old = by_refusal (λ (x : Status). Prints x c w old old) (λ f. refl) refl refl s is
 
 pub count_is : (v : RepeatingValue) (grid : GridValue) (name : List ℕ) (cycles : ℕ → ℕ → ℕ) → v.grid ≡ grid → 1 ≤ v.grid.classes
-    → ((lo hi : ℕ) → count_of v.tally.cells lo hi ≡ cycles lo hi) → repeat_text v.grid name (count_of v.tally.cells) ≡ repeat_text grid name cycles
+    → ((lo hi : ℕ) → count_of v.tally.cells lo hi ≡ cycles lo hi) →
+    repeat_text v.grid name (count_of v.tally.cells) ≡ repeat_text grid name cycles
 count_is v grid name cycles over some same =
     repeat_text-same v.grid name (count_of v.tally.cells) cycles some (λ lo hi ordered within. same lo hi)
     ∙ ap (λ (k : GridValue). repeat_text k name cycles) over

@@ -32,4 +32,5 @@ Prints WriteFault c w old new = AppendsPrefix old new (repeat_texts c w)
 Prints status c w old new = new ≡ old
 
 abbrev pub AllHeldStand : Config → List SegmentValue → (ℕ → List ℤ) → Type 0
-AllHeldStand c held w = (g : ℕ) (v : SegmentValue) → g < length held → Stands (slice_index_or held g v) (gain_at c.setup g) (w g)
+AllHeldStand c held w =
+    (g : ℕ) (v : SegmentValue) → g < length held → Stands (slice_index_or held g v) (gain_at c.setup g) (w g)

@@ -25,14 +25,16 @@ straight f e w n (rises p i) =
     let r = reach (points (f ∷ w)) g in
     let k = chain_first r.by in
     let c = subst (λ z. Chain (points (f ∷ w)) r.pairs z) k.1 r.by in
-    let t = straight_down e f k.0 p (zig_chain g c) (subst HasNoCycle k.1 r.no_cycle) (within_chain c (within_points i)) (ends_chain c (ends_points n)) in
+    let t = straight_down e f k.0 p (zig_chain g c) (subst HasNoCycle k.1 r.no_cycle) (within_chain c (within_points i))
+    (ends_chain c (ends_points n)) in
     record { pairs = r.pairs; by = subst (λ z. Chain (points (f ∷ w)) r.pairs (f ∷ z)) t c }
 straight f e w n (falls p i) =
     let g = zig_points (f ∷ w) in
     let r = reach (points (f ∷ w)) g in
     let k = chain_first r.by in
     let c = subst (λ z. Chain (points (f ∷ w)) r.pairs z) k.1 r.by in
-    let t = straight_up f e k.0 p (zig_chain g c) (subst HasNoCycle k.1 r.no_cycle) (within_chain c (within_points i)) (ends_chain c (ends_points n)) in
+    let t = straight_up f e k.0 p (zig_chain g c) (subst HasNoCycle k.1 r.no_cycle) (within_chain c (within_points i))
+    (ends_chain c (ends_points n)) in
     record { pairs = r.pairs; by = subst (λ z. Chain (points (f ∷ w)) r.pairs (f ∷ z)) t c }
 
 record LeftAgain (r l : List ℕ) : Type 0 where
@@ -64,8 +66,10 @@ again_at g e f s r is z sp =
     let w = s ++ p in
     let st = straight f e w (ends_on (ends_after s (ends_after g (ends_here refl)))) (spans_around p q (subst (Spans e f) (sym pq) sp)) in
     let b = rebound s (differ sp) in
-    let one_way : points (r ++ r) ≡ points (p ++ (points (f ∷ w) ++ q)) = ap (λ l. points (l ++ l)) (sym pq) ∙ ap points (append_assoc p q (p ++ q)) ∙ ap (λ l. points (p ++ l)) (sym (append_assoc q p q)) ∙ sym (points_inside p (f ∷ w) q) in
-    let mid : points (p ++ (f ∷ e ∷ f ∷ s)) ≡ points (g ++ ((e ∷ f ∷ e ∷ f ∷ s) ++ [])) = ap points (append_assoc g (e ∷ []) (f ∷ e ∷ f ∷ s)) ∙ ap (λ l. points (g ++ l)) (sym (append-nil (e ∷ f ∷ e ∷ f ∷ s))) in
+    let one_way : points (r ++ r) ≡ points (p ++ (points (f ∷ w) ++ q)) = ap (λ l. points (l ++ l)) (sym pq) ∙ ap points
+    (append_assoc p q (p ++ q)) ∙ ap (λ l. points (p ++ l)) (sym (append_assoc q p q)) ∙ sym (points_inside p (f ∷ w) q) in
+    let mid : points (p ++ (f ∷ e ∷ f ∷ s)) ≡ points (g ++ ((e ∷ f ∷ e ∷ f ∷ s) ++ [])) = ap points
+    (append_assoc g (e ∷ []) (f ∷ e ∷ f ∷ s)) ∙ ap (λ l. points (g ++ l)) (sym (append-nil (e ∷ f ∷ e ∷ f ∷ s))) in
     let back : points (g ++ ((e ∷ f ∷ s) ++ [])) ≡ r = ap (λ l. points (g ++ l)) (append-nil (e ∷ f ∷ s)) ∙ ap points (sym is) ∙ own z in
     let c = chain_moved one_way mid (chain_inside p q st.by) in
     let d = chain_moved refl back (chain_inside g [] (more b done)) in

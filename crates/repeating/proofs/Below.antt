@@ -56,16 +56,20 @@ below_added (between t) p (below q b) = below p b
 
 pub below_points : {k : ℕ} (h : List ℕ) → IsBelow k h → IsBelow k (points h)
 below_points [] b = below_none
-below_points (x ∷ h) (below p b) = subst (IsBelow _) (sym (points_cons x h)) (below_added (is_added x (points h) (zig_points h)) p (below_points h b))
+below_points (x ∷ h) (below p b) =
+    subst (IsBelow _) (sym (points_cons x h)) (below_added (is_added x (points h) (zig_points h)) p (below_points h b))
 
-pub below_kept : (k z y x : ℕ) (v : List ℕ) → z < k → y < k → x < k → IsBelow k v → (live_after z (y ∷ x ∷ v) ≡ z ∷ y ∷ x ∷ v) → IsBelow k (live_after z (y ∷ x ∷ v))
+pub below_kept : (k z y x : ℕ) (v : List ℕ) → z < k → y < k → x < k → IsBelow k v → (live_after z (y ∷ x ∷ v) ≡ z ∷ y ∷ x ∷ v) →
+    IsBelow k (live_after z (y ∷ x ∷ v))
 below_kept k z y x v p q r b e = subst (IsBelow k) (sym e) (below p (below q (below r b)))
 
-pub below_two : (k z y x : ℕ) → z < k → y < k → x < k → ((range y z < range x y) ⊎ (range x y ≤ range y z)) → IsBelow k (live_after z (y ∷ x ∷ []))
+pub below_two : (k z y x : ℕ) → z < k → y < k → x < k → ((range y z < range x y) ⊎ (range x y ≤ range y z)) →
+    IsBelow k (live_after z (y ∷ x ∷ []))
 below_two k z y x p q r (inl s) = below_kept k z y x [] p q r below_none (live_after_less z y x [] s)
 below_two k z y x p q r (inr s) = subst (IsBelow k) (sym (live_after_half z y x s)) (below p (below q below_none))
 
-pub below_more : (k z y x w : ℕ) (v : List ℕ) → z < k → y < k → x < k → IsBelow k (w ∷ v) → IsBelow k (live_after z (w ∷ v)) → ((range y z < range x y) ⊎ (range x y ≤ range y z)) → IsBelow k (live_after z (y ∷ x ∷ w ∷ v))
+pub below_more : (k z y x w : ℕ) (v : List ℕ) → z < k → y < k → x < k → IsBelow k (w ∷ v) → IsBelow k (live_after z (w ∷ v)) →
+    ((range y z < range x y) ⊎ (range x y ≤ range y z)) → IsBelow k (live_after z (y ∷ x ∷ w ∷ v))
 below_more k z y x w v p q r b d (inl s) = below_kept k z y x (w ∷ v) p q r b (live_after_less z y x (w ∷ v) s)
 below_more k z y x w v p q r b d (inr s) = subst (IsBelow k) (sym (live_after_cycle z y x w v s)) d
 
@@ -73,4 +77,5 @@ pub below_live_after : (k z : ℕ) (v : List ℕ) → z < k → IsBelow k v → 
 below_live_after k z [] p b = below p below_none
 below_live_after k z (y ∷ []) p b = below p b
 below_live_after k z (y ∷ x ∷ []) p (below q (below r b)) = below_two k z y x p q r (cases_lt (range y z) (range x y))
-below_live_after k z (y ∷ x ∷ w ∷ v) p (below q (below r b)) = below_more k z y x w v p q r b (below_live_after k z (w ∷ v) p b) (cases_lt (range y z) (range x y))
+below_live_after k z (y ∷ x ∷ w ∷ v) p (below q (below r b)) =
+    below_more k z y x w v p q r b (below_live_after k z (w ∷ v) p b) (cases_lt (range y z) (range x y))

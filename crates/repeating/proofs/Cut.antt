@@ -31,7 +31,10 @@ pub pair_swap : (b c : ℕ) → pair b c ≡ pair c b
 pair_swap b c = grind arith
 
 module _ (lo hi : ℕ) where
-  tie : (y m a d : ℕ) (t : List ℕ) → d ≡ m → half_units_of_pair lo hi (run [] (y ∷ m ∷ a ∷ d ∷ t)) ≡ 2 * same lo hi (pair m a) + half_units_of_pair lo hi (run [] (y ∷ d ∷ t)) → half_units_of_pair lo hi (run [] (y ∷ m ∷ t)) ≡ same lo hi (pair y m) + half_units_of_pair lo hi (neighbours (m ∷ t)) → half_units_of_pair lo hi (run [] (y ∷ m ∷ a ∷ d ∷ t)) ≡ same lo hi (pair y m) + half_units_of_pair lo hi (neighbours (m ∷ a ∷ d ∷ t))
+  tie : (y m a d : ℕ) (t : List ℕ) → d ≡ m →
+      half_units_of_pair lo hi (run [] (y ∷ m ∷ a ∷ d ∷ t)) ≡ 2 * same lo hi (pair m a) + half_units_of_pair lo hi (run [] (y ∷ d ∷ t)) →
+      half_units_of_pair lo hi (run [] (y ∷ m ∷ t)) ≡ same lo hi (pair y m) + half_units_of_pair lo hi (neighbours (m ∷ t)) →
+      half_units_of_pair lo hi (run [] (y ∷ m ∷ a ∷ d ∷ t)) ≡ same lo hi (pair y m) + half_units_of_pair lo hi (neighbours (m ∷ a ∷ d ∷ t))
   tie y m a d t e h k =
       let p = ap (λ n. half_units_of_pair lo hi (run [] (y ∷ n ∷ t))) e in
       let q = ap (λ n. half_units_of_pair lo hi (neighbours (n ∷ t))) e in
@@ -39,11 +42,16 @@ module _ (lo hi : ℕ) where
       let s = ap (same lo hi) (pair_swap a m) in
       omega (arith, h, k, p, q, r, s)
 
-  fits_top : {y m a d : ℕ} {t : List ℕ} → IsZigzag (y ∷ m ∷ a ∷ d ∷ t) → y < m → d ≤ m → range m a ≤ range y m → range m a ≤ range a d → (d ≡ m) × (y ≤ a) × (a < m) × (m ≤ d)
+  fits_top : {y m a d : ℕ} {t : List ℕ} → IsZigzag (y ∷ m ∷ a ∷ d ∷ t) → y < m → d ≤ m → range m a ≤ range y m → range m a ≤ range a d →
+      (d ≡ m) × (y ≤ a) × (a < m) × (m ≤ d)
   fits_top (inner t (inner u g)) h k p q = grind arith
 
   -- a range that ends in the greatest level counts by itself, before a residue
-  before_pick : (y m a d : ℕ) (t : List ℕ) → IsZigzag (y ∷ m ∷ a ∷ d ∷ t) → HasNoCycle (m ∷ a ∷ d ∷ t) → d ≤ m → y < m → (IsNoCycle y m a d ⊎ ((range m a ≤ range y m) × (range m a ≤ range a d))) → (IsZigzag (y ∷ m ∷ t) → HasNoCycle (m ∷ t) → half_units_of_pair lo hi (run [] (y ∷ m ∷ t)) ≡ same lo hi (pair y m) + half_units_of_pair lo hi (neighbours (m ∷ t))) → half_units_of_pair lo hi (run [] (y ∷ m ∷ a ∷ d ∷ t)) ≡ same lo hi (pair y m) + half_units_of_pair lo hi (neighbours (m ∷ a ∷ d ∷ t))
+  before_pick : (y m a d : ℕ) (t : List ℕ) → IsZigzag (y ∷ m ∷ a ∷ d ∷ t) → HasNoCycle (m ∷ a ∷ d ∷ t) → d ≤ m → y < m →
+      (IsNoCycle y m a d ⊎ ((range m a ≤ range y m) × (range m a ≤ range a d))) →
+      (IsZigzag (y ∷ m ∷ t) → HasNoCycle (m ∷ t) →
+      half_units_of_pair lo hi (run [] (y ∷ m ∷ t)) ≡ same lo hi (pair y m) + half_units_of_pair lo hi (neighbours (m ∷ t))) →
+      half_units_of_pair lo hi (run [] (y ∷ m ∷ a ∷ d ∷ t)) ≡ same lo hi (pair y m) + half_units_of_pair lo hi (neighbours (m ∷ a ∷ d ∷ t))
   before_pick y m a d t g c k h (inl u) next = omega (arith, residue_counts lo hi (y ∷ m ∷ a ∷ d ∷ t) (inner_stay u c))
   before_pick y m a d t g c k h (inr f) next =
       let q = fits_top g h k f.0 f.1 in
@@ -52,13 +60,16 @@ module _ (lo hi : ℕ) where
       let w = subst (λ n. HasNoCycle (n ∷ t)) q.0 (HasNoCycle-tail (HasNoCycle-tail c)) in
       tie y m a d t q.0 (one_deletion lo hi [] no_point (onto_nothing g) e) (next z w)
 
-  before_residue : (y m : ℕ) (t : List ℕ) → IsZigzag (y ∷ m ∷ t) → HasNoCycle (m ∷ t) → IsBelow (suc m) t → y < m → half_units_of_pair lo hi (run [] (y ∷ m ∷ t)) ≡ same lo hi (pair y m) + half_units_of_pair lo hi (neighbours (m ∷ t))
+  before_residue : (y m : ℕ) (t : List ℕ) → IsZigzag (y ∷ m ∷ t) → HasNoCycle (m ∷ t) → IsBelow (suc m) t → y < m →
+      half_units_of_pair lo hi (run [] (y ∷ m ∷ t)) ≡ same lo hi (pair y m) + half_units_of_pair lo hi (neighbours (m ∷ t))
   before_residue y m [] g c b h = omega arith
   before_residue y m (a ∷ []) g c b h = omega (arith, residue_counts lo hi (y ∷ m ∷ a ∷ []) three_points)
-  before_residue y m (a ∷ d ∷ t) g c (below p (below q b)) h = before_pick y m a d t g c (omega arith) h (no_cycle_or_cycle y m a d) (λ z w. before_residue y m t z w b h)
+  before_residue y m (a ∷ d ∷ t) g c (below p (below q b)) h = before_pick y m a d t g c (omega arith) h (no_cycle_or_cycle y m a d)
+      (λ z w. before_residue y m t z w b h)
 
   -- the same before any list of points that begins with its greatest level
-  pub before_greatest : (y m : ℕ) (t : List ℕ) → IsZigzag (y ∷ m ∷ t) → IsBelow (suc m) (m ∷ t) → y < m → half_units_of_pair lo hi (run [] (y ∷ m ∷ t)) ≡ same lo hi (pair y m) + half_units_of_pair lo hi (run [] (m ∷ t))
+  pub before_greatest : (y m : ℕ) (t : List ℕ) → IsZigzag (y ∷ m ∷ t) → IsBelow (suc m) (m ∷ t) → y < m →
+      half_units_of_pair lo hi (run [] (y ∷ m ∷ t)) ≡ same lo hi (pair y m) + half_units_of_pair lo hi (run [] (m ∷ t))
   before_greatest y m t g b h =
       let r = reach (m ∷ t) (zig_tail g) in
       let f = chain_first r.by in
@@ -96,7 +107,9 @@ pub tail_is : {m : ℕ} {s t : List ℕ} → m ∷ s ≡ m ∷ t → s ≡ t
 tail_is e = cc
 
 module _ (lo hi : ℕ) where
-  cut_here : (m a : ℕ) (v t : List ℕ) → Live (a ∷ v) → Fits (a ∷ v) (m ∷ t) → IsBelow (suc m) (a ∷ v) → IsBelow (suc m) (m ∷ t) → half_units_of_pair lo hi (run (a ∷ v) (m ∷ t)) ≡ half_units_of_pair lo hi (run (a ∷ v) (m ∷ [])) + half_units_of_pair lo hi (run [] (m ∷ t))
+  cut_here : (m a : ℕ) (v t : List ℕ) → Live (a ∷ v) → Fits (a ∷ v) (m ∷ t) → IsBelow (suc m) (a ∷ v) → IsBelow (suc m) (m ∷ t) →
+      half_units_of_pair lo hi (run (a ∷ v) (m ∷ t)) ≡ half_units_of_pair lo hi (run (a ∷ v) (m ∷ [])) + half_units_of_pair lo hi
+      (run [] (m ∷ t))
   cut_here m a v t l f (below p b) c =
       let h = less_from_fits f p in
       let top = topped m a v h l (onto_of f) b in
@@ -112,7 +125,9 @@ module _ (lo hi : ℕ) where
       omega (arith, e, i, j, q, r, s)
 
   -- what is counted before a greatest level, and what is counted from it on
-  pub cut : (m : ℕ) (v l t : List ℕ) → Live v → Fits v (l ++ (m ∷ t)) → IsBelow (suc m) v → IsBelow (suc m) (l ++ (m ∷ t)) → half_units_of_pair lo hi (run v (l ++ (m ∷ t))) ≡ half_units_of_pair lo hi (run v (l ++ (m ∷ []))) + half_units_of_pair lo hi (run [] (m ∷ t))
+  pub cut : (m : ℕ) (v l t : List ℕ) → Live v → Fits v (l ++ (m ∷ t)) → IsBelow (suc m) v → IsBelow (suc m) (l ++ (m ∷ t)) →
+      half_units_of_pair lo hi (run v (l ++ (m ∷ t))) ≡ half_units_of_pair lo hi (run v (l ++ (m ∷ []))) + half_units_of_pair lo hi
+      (run [] (m ∷ t))
   cut m [] [] t k f b c = omega arith
   cut m (a ∷ v) [] t k f b c = cut_here m a v t k f b c
   cut m v (z ∷ l) t k f b (below p c) =

@@ -17,7 +17,8 @@ record Joined (m : ℕ) (t u : List ℕ) : Type 0 where
   whole : over u (m ∷ t) ≡ front ++ (m ∷ t)
   left : over u (m ∷ []) ≡ front ++ (m ∷ [])
 
-join_kept : {m x : ℕ} {t u : List ℕ} (f g : List ℕ) → over u (m ∷ t) ≡ f ++ (m ∷ t) → over u (m ∷ []) ≡ f ++ (m ∷ []) → add x (f ++ (m ∷ t)) ≡ g ++ (m ∷ t) → add x (f ++ (m ∷ [])) ≡ g ++ (m ∷ []) → Joined m t (x ∷ u)
+join_kept : {m x : ℕ} {t u : List ℕ} (f g : List ℕ) → over u (m ∷ t) ≡ f ++ (m ∷ t) → over u (m ∷ []) ≡ f ++ (m ∷ []) →
+    add x (f ++ (m ∷ t)) ≡ g ++ (m ∷ t) → add x (f ++ (m ∷ [])) ≡ g ++ (m ∷ []) → Joined m t (x ∷ u)
 join_kept {x} f g p q r s = record { front = g; whole = ap (add x) p ∙ r; left = ap (add x) q ∙ s }
 
 add_top : (x m : ℕ) (t : List ℕ) → IsZigzag (m ∷ t) → IsBelow (suc m) t → x < m → add x (m ∷ t) ≡ x ∷ m ∷ t
@@ -28,7 +29,8 @@ add_top x m t (inner {y = y} {z = z} {l = l} u g) (below p b) h = add_away x m y
 zig_top : {m : ℕ} → IsZigzag (m ∷ [])
 zig_top = one
 
-join_first : {m x : ℕ} {t u : List ℕ} → IsZigzag (m ∷ t) → IsBelow (suc m) t → over u (m ∷ t) ≡ m ∷ t → over u (m ∷ []) ≡ m ∷ [] → ((x < m) ⊎ (m ≤ x)) → x ≤ m → Joined m t (x ∷ u)
+join_first : {m x : ℕ} {t u : List ℕ} → IsZigzag (m ∷ t) → IsBelow (suc m) t → over u (m ∷ t) ≡ m ∷ t → over u (m ∷ []) ≡ m ∷ [] →
+    ((x < m) ⊎ (m ≤ x)) → x ≤ m → Joined m t (x ∷ u)
 join_first {m} {x} {t} g b p q (inl h) k = join_kept [] (x ∷ []) p q (add_top x m t g b h) (add_top x m [] one below_none h)
 join_first {m} {x} {t} g b p q (inr h) k = join_kept [] [] p q (add_equal x m t (omega arith)) (add_equal x m [] (omega arith))
 
@@ -37,7 +39,8 @@ join_second {m} {x} {t} a p q (at e) = join_kept (a ∷ []) (a ∷ []) p q (add_
 join_second {m} {x} {t} a p q (away s) = join_kept (a ∷ []) (x ∷ a ∷ []) p q (add_away x a m t s) (add_away x a m [] s)
 join_second {m} {x} {t} a p q (before s) = join_kept (a ∷ []) (x ∷ []) p q (add_before x a m t s) (add_before x a m [] s)
 
-join_more : {m x : ℕ} {t u : List ℕ} (a b : ℕ) (f : List ℕ) → over u (m ∷ t) ≡ a ∷ b ∷ (f ++ (m ∷ t)) → over u (m ∷ []) ≡ a ∷ b ∷ (f ++ (m ∷ [])) → Side x a b → Joined m t (x ∷ u)
+join_more : {m x : ℕ} {t u : List ℕ} (a b : ℕ) (f : List ℕ) → over u (m ∷ t) ≡ a ∷ b ∷ (f ++ (m ∷ t)) →
+    over u (m ∷ []) ≡ a ∷ b ∷ (f ++ (m ∷ [])) → Side x a b → Joined m t (x ∷ u)
 join_more {m} {x} {t} a b f p q (at e) = join_kept (a ∷ b ∷ f) (a ∷ b ∷ f) p q (add_equal x a _ e) (add_equal x a _ e)
 join_more {m} {x} {t} a b f p q (away s) = join_kept (a ∷ b ∷ f) (x ∷ a ∷ b ∷ f) p q (add_away x a b _ s) (add_away x a b _ s)
 join_more {m} {x} {t} a b f p q (before s) = join_kept (a ∷ b ∷ f) (x ∷ b ∷ f) p q (add_before x a b _ s) (add_before x a b _ s)
@@ -45,7 +48,8 @@ join_more {m} {x} {t} a b f p q (before s) = join_kept (a ∷ b ∷ f) (x ∷ b 
 side : {y z : ℕ} {l : List ℕ} (v : ℕ) → IsZigzag (y ∷ z ∷ l) → Side v y z
 side v g = side_of v _ _ (ends_differ g) _ _ refl refl
 
-join_step : (m x : ℕ) (t u f : List ℕ) → x ≤ m → IsZigzag (m ∷ t) → IsBelow (suc m) t → IsZigzag (f ++ (m ∷ t)) → over u (m ∷ t) ≡ f ++ (m ∷ t) → over u (m ∷ []) ≡ f ++ (m ∷ []) → Joined m t (x ∷ u)
+join_step : (m x : ℕ) (t u f : List ℕ) → x ≤ m → IsZigzag (m ∷ t) → IsBelow (suc m) t → IsZigzag (f ++ (m ∷ t)) →
+    over u (m ∷ t) ≡ f ++ (m ∷ t) → over u (m ∷ []) ≡ f ++ (m ∷ []) → Joined m t (x ∷ u)
 join_step m x t u [] h g b z p q = join_first g b p q (cases_lt x m) h
 join_step m x t u (a ∷ []) h g b z p q = join_second a p q (side x z)
 join_step m x t u (a ∷ c ∷ f) h g b z p q = join_more a c f p q (side x z)
@@ -57,7 +61,8 @@ joined m t (x ∷ u) (below h c) g b =
     join_step m x t u j.front (omega arith) g b (subst IsZigzag j.whole (zig_over u (m ∷ t) g)) j.whole j.left
 
 -- the three-point count of a history, cut at a greatest level
-pub cut_history : (lo hi m : ℕ) (u v : List ℕ) → IsBelow (suc m) u → IsBelow (suc m) v → three_point (u ++ (m ∷ v)) lo hi ≡ three_point (u ++ (m ∷ [])) lo hi + three_point (m ∷ v) lo hi
+pub cut_history : (lo hi m : ℕ) (u v : List ℕ) → IsBelow (suc m) u → IsBelow (suc m) v →
+    three_point (u ++ (m ∷ v)) lo hi ≡ three_point (u ++ (m ∷ [])) lo hi + three_point (m ∷ v) lo hi
 cut_history lo hi m u v b c =
     let t = turns_of m (changes m v) in
     let g = zig_points (m ∷ v) in

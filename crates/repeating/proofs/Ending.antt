@@ -25,7 +25,8 @@ ends_added (between b) (ends_on e) = ends_on e
 
 pub ends_points : {m : ℕ} {h : List ℕ} → EndsIn m h → EndsIn m (points h)
 ends_points (ends_here e) = ends_here e
-ends_points {m} (ends_on {x = x} {l = l} e) = subst (EndsIn m) (sym (points_cons x l)) (ends_added (is_added x (points l) (zig_points l)) (ends_points e))
+ends_points {m} (ends_on {x = x} {l = l} e) =
+    subst (EndsIn m) (sym (points_cons x l)) (ends_added (is_added x (points l) (zig_points l)) (ends_points e))
 
 pub ends_behind : {m : ℕ} (l : List ℕ) → EndsIn m (l ++ (m ∷ []))
 ends_behind [] = ends_here refl

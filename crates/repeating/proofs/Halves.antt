@@ -35,48 +35,81 @@ data ReadsTo (m : ℕ) (v l : List ℕ) : Type 0 where
 module _ (lo hi : ℕ) where
   -- what reading z does in both counts, where the oldest live point is the greatest level
   data Closing (m z : ℕ) (v : List ℕ) : Type 0 where
-    still : z < m → live_after z v ≡ live_after_cycles z v → EndsIn m (live_after_cycles z v) → half_units_counted lo hi z v ≡ 2 * count_in lo hi (cycles_closed z v) → Closing m z v
-    shut : (a : ℕ) → z ≡ m → live_after z v ≡ z ∷ a ∷ [] → live_after_cycles z v ≡ z ∷ [] → a < m → half_units_counted lo hi z v + same lo hi (pair a m) ≡ 2 * count_in lo hi (cycles_closed z v) → Closing m z v
+    still : z < m → live_after z v ≡ live_after_cycles z v → EndsIn m (live_after_cycles z v) →
+        half_units_counted lo hi z v ≡ 2 * count_in lo hi (cycles_closed z v) → Closing m z v
+    shut : (a : ℕ) → z ≡ m → live_after z v ≡ z ∷ a ∷ [] → live_after_cycles z v ≡ z ∷ [] → a < m →
+        half_units_counted lo hi z v + same lo hi (pair a m) ≡ 2 * count_in lo hi (cycles_closed z v) → Closing m z v
 
   closing_less : (m z a x : ℕ) (v : List ℕ) → EndsIn m (a ∷ x ∷ v) → z < m → range a z < range x a → Closing m z (a ∷ x ∷ v)
   closing_less m z a x v e h p =
       let c = live_after_cycles_less z a x v p in
-      still h (live_after_less z a x v p ∙ sym c) (subst (EndsIn m) (sym c) (ends_on e)) (omega (arith, ap (half_units_of_pair lo hi) (ranges_counted_less z a x v p), ap (count_in lo hi) (cycles_closed_less z a x v p)))
+      still h (live_after_less z a x v p ∙ sym c) (subst (EndsIn m) (sym c) (ends_on e))
+      (omega (arith, ap (half_units_of_pair lo hi) (ranges_counted_less z a x v p), ap (count_in lo hi) (cycles_closed_less z a x v p)))
 
   closing_cycle : (m z a x w : ℕ) (v : List ℕ) → range x a ≤ range a z → Closing m z (w ∷ v) → Closing m z (a ∷ x ∷ w ∷ v)
   closing_cycle m z a x w v p (still h e f g) =
       let c = live_after_cycles_closed z a x (w ∷ v) p in
-      still h (live_after_cycle z a x w v p ∙ e ∙ sym c) (subst (EndsIn m) (sym c) f) (omega (arith, g, ap (half_units_of_pair lo hi) (ranges_counted_cycle z a x w v p), ap (count_in lo hi) (cycles_closed_one z a x (w ∷ v) p)))
+      still h (live_after_cycle z a x w v p ∙ e ∙ sym c) (subst (EndsIn m) (sym c) f)
+      (omega (
+        arith,
+        g,
+        ap (half_units_of_pair lo hi) (ranges_counted_cycle z a x w v p),
+        ap (count_in lo hi) (cycles_closed_one z a x (w ∷ v) p),
+      ))
   closing_cycle m z a x w v p (shut b h e f l g) =
-      shut b h (live_after_cycle z a x w v p ∙ e) (live_after_cycles_closed z a x (w ∷ v) p ∙ f) l (omega (arith, g, ap (half_units_of_pair lo hi) (ranges_counted_cycle z a x w v p), ap (count_in lo hi) (cycles_closed_one z a x (w ∷ v) p)))
+      shut b h (live_after_cycle z a x w v p ∙ e) (live_after_cycles_closed z a x (w ∷ v) p ∙ f) l
+      (omega (
+        arith,
+        g,
+        ap (half_units_of_pair lo hi) (ranges_counted_cycle z a x w v p),
+        ap (count_in lo hi) (cycles_closed_one z a x (w ∷ v) p),
+      ))
 
-  closing_two : (m z a x : ℕ) → x ≡ m → a ≤ m → Turn z a x → z ≤ m → ((range a z < range x a) ⊎ (range x a ≤ range a z)) → Closing m z (a ∷ x ∷ [])
+  closing_two : (m z a x : ℕ) → x ≡ m → a ≤ m → Turn z a x → z ≤ m → ((range a z < range x a) ⊎ (range x a ≤ range a z)) →
+      Closing m z (a ∷ x ∷ [])
   closing_two m z a x e h t b (inl s) = closing_less m z a x [] (ends_on (ends_here e)) (omega arith) s
   closing_two m z a x e h t b (inr s) =
       let q : z ≡ m = omega arith in
       let u = ap (same lo hi) (pair_swap a x) in
       let v = ap (λ n. same lo hi (pair a n)) e in
-      shut a q (live_after_half z a x s) (live_after_cycles_closed z a x [] s) (omega arith) (omega (arith, u, v, ap (half_units_of_pair lo hi) (ranges_counted_half z a x s), ap (count_in lo hi) (cycles_closed_one z a x [] s)))
+      shut a q (live_after_half z a x s) (live_after_cycles_closed z a x [] s) (omega arith)
+      (omega (
+        arith,
+        u,
+        v,
+        ap (half_units_of_pair lo hi) (ranges_counted_half z a x s),
+        ap (count_in lo hi) (cycles_closed_one z a x [] s),
+      ))
 
-  closing_more : (m z a x w : ℕ) (v : List ℕ) → EndsIn m (a ∷ x ∷ w ∷ v) → a ≤ m → x ≤ m → Turn z a x → ((range a z < range x a) ⊎ (range x a ≤ range a z)) → Closing m z (w ∷ v) → Closing m z (a ∷ x ∷ w ∷ v)
+  closing_more : (m z a x w : ℕ) (v : List ℕ) → EndsIn m (a ∷ x ∷ w ∷ v) → a ≤ m → x ≤ m → Turn z a x →
+      ((range a z < range x a) ⊎ (range x a ≤ range a z)) → Closing m z (w ∷ v) → Closing m z (a ∷ x ∷ w ∷ v)
   closing_more m z a x w v e h k t (inl s) c = closing_less m z a x (w ∷ v) e (omega arith) s
   closing_more m z a x w v e h k t (inr s) c = closing_cycle m z a x w v s c
 
   closing : (m z a : ℕ) (v : List ℕ) → EndsIn m (a ∷ v) → Live (a ∷ v) → IsBelow (suc m) (a ∷ v) → z ≤ m → Onto a z v → Closing m z (a ∷ v)
   closing m z a [] (ends_here e) l b h (alone n) = still (omega arith) refl (ends_on (ends_here e)) refl
   closing m z a [] (ends_on e) l b h n = elim e [ ]
-  closing m z a (x ∷ []) (ends_on (ends_here e)) l (below i b) h (turns t) = closing_two m z a x e (omega arith) t h (cases_lt (range a z) (range x a))
+  closing m z a (x ∷ []) (ends_on (ends_here e)) l (below i b) h (turns t) = closing_two m z a x e (omega arith) t h
+      (cases_lt (range a z) (range x a))
   closing m z a (x ∷ []) (ends_on (ends_on e)) l b h n = elim e [ ]
   closing m z a (x ∷ w ∷ v) (ends_on (ends_on e)) l (below i (below j b)) h (turns t) =
-      closing_more m z a x w v (ends_on (ends_on e)) (omega arith) (omega arith) t (cases_lt (range a z) (range x a)) (closing m z w v e (live_tail (live_tail l)) b h (onto_deeper t l))
+      closing_more m z a x w v (ends_on (ends_on e)) (omega arith) (omega arith) t (cases_lt (range a z) (range x a))
+      (closing m z w v e (live_tail (live_tail l)) b h (onto_deeper t l))
 
-  closed_step : (z : ℕ) (v l : List ℕ) → count_in lo hi (cycle_run v (z ∷ l)) ≡ count_in lo hi (cycles_closed z v) + count_in lo hi (cycle_run (live_after_cycles z v) l)
+  closed_step : (z : ℕ) (v l : List ℕ) → count_in lo hi (cycle_run v (z ∷ l)) ≡ count_in lo hi (cycles_closed z v) + count_in lo hi
+      (cycle_run (live_after_cycles z v) l)
   closed_step z v l = count_in-append lo hi (cycles_closed z v) (cycle_run (live_after_cycles z v) l)
 
-  go_still : (z : ℕ) (v l : List ℕ) → live_after z v ≡ live_after_cycles z v → half_units_counted lo hi z v ≡ 2 * count_in lo hi (cycles_closed z v) → half_units_of_pair lo hi (run (live_after_cycles z v) l) ≡ 2 * count_in lo hi (cycle_run (live_after_cycles z v) l) → half_units_of_pair lo hi (run v (z ∷ l)) ≡ 2 * count_in lo hi (cycle_run v (z ∷ l))
+  go_still : (z : ℕ) (v l : List ℕ) → live_after z v ≡ live_after_cycles z v →
+      half_units_counted lo hi z v ≡ 2 * count_in lo hi (cycles_closed z v) →
+      half_units_of_pair lo hi (run (live_after_cycles z v) l) ≡ 2 * count_in lo hi (cycle_run (live_after_cycles z v) l) →
+      half_units_of_pair lo hi (run v (z ∷ l)) ≡ 2 * count_in lo hi (cycle_run v (z ∷ l))
   go_still z v l e g h = omega (arith, run_step lo hi z v l, closed_step z v l, ap (λ k. half_units_of_pair lo hi (run k l)) e, g, h)
 
-  go_shut : (m z a : ℕ) (v l : List ℕ) → z ≡ m → live_after z v ≡ z ∷ a ∷ [] → live_after_cycles z v ≡ z ∷ [] → a < m → half_units_counted lo hi z v + same lo hi (pair a m) ≡ 2 * count_in lo hi (cycles_closed z v) → IsZigzag (a ∷ z ∷ l) → IsBelow (suc m) (m ∷ l) → half_units_of_pair lo hi (run (m ∷ []) l) ≡ 2 * count_in lo hi (cycle_run (m ∷ []) l) → half_units_of_pair lo hi (run v (z ∷ l)) ≡ 2 * count_in lo hi (cycle_run v (z ∷ l))
+  go_shut : (m z a : ℕ) (v l : List ℕ) → z ≡ m → live_after z v ≡ z ∷ a ∷ [] → live_after_cycles z v ≡ z ∷ [] → a < m →
+      half_units_counted lo hi z v + same lo hi (pair a m) ≡ 2 * count_in lo hi (cycles_closed z v) → IsZigzag (a ∷ z ∷ l) →
+      IsBelow (suc m) (m ∷ l) → half_units_of_pair lo hi (run (m ∷ []) l) ≡ 2 * count_in lo hi (cycle_run (m ∷ []) l) →
+      half_units_of_pair lo hi (run v (z ∷ l)) ≡ 2 * count_in lo hi (cycle_run v (z ∷ l))
   go_shut m z a v l e f g h i w b k =
       let p = before_greatest lo hi a m l (subst (λ n. IsZigzag (a ∷ n ∷ l)) e w) b h in
       let q = ap (λ n. half_units_of_pair lo hi (run n l)) f in
@@ -103,25 +136,34 @@ module _ (lo hi : ℕ) where
   reads_to_of (ends_on e) = reads_to e
 
   -- both counts read on, where the oldest live point is the greatest level m and the last level is m
-  goes_by : (m z a : ℕ) (v l : List ℕ) → Live (a ∷ v) → Fits (a ∷ v) (z ∷ l) → IsBelow (suc m) (a ∷ v) → IsBelow (suc m) (z ∷ l) → ReadsTo m (a ∷ v) (z ∷ l) → Closing m z (a ∷ v) → ((w : List ℕ) → Live w → EndsIn m w → Fits w l → IsBelow (suc m) w → IsBelow (suc m) l → ReadsTo m w l → half_units_of_pair lo hi (run w l) ≡ 2 * count_in lo hi (cycle_run w l)) → half_units_of_pair lo hi (run (a ∷ v) (z ∷ l)) ≡ 2 * count_in lo hi (cycle_run (a ∷ v) (z ∷ l))
+  goes_by : (m z a : ℕ) (v l : List ℕ) → Live (a ∷ v) → Fits (a ∷ v) (z ∷ l) → IsBelow (suc m) (a ∷ v) → IsBelow (suc m) (z ∷ l) →
+      ReadsTo m (a ∷ v) (z ∷ l) → Closing m z (a ∷ v) →
+      ((w : List ℕ) → Live w → EndsIn m w → Fits w l → IsBelow (suc m) w → IsBelow (suc m) l → ReadsTo m w l →
+      half_units_of_pair lo hi (run w l) ≡ 2 * count_in lo hi (cycle_run w l)) →
+      half_units_of_pair lo hi (run (a ∷ v) (z ∷ l)) ≡ 2 * count_in lo hi (cycle_run (a ∷ v) (z ∷ l))
   goes_by m z a v l k f b (below i c) d (still h e n g) next =
       let w = read k f in
       let o = sym w.is ∙ e in
-      let t = next (live_after_cycles z (a ∷ v)) (subst Live o w.live) n (subst (λ s. Fits s l) o w.fits) (subst (IsBelow (suc m)) e (below_live_after (suc m) z (a ∷ v) i b)) c (reads_to (later_ends h d)) in
+      let t = next (live_after_cycles z (a ∷ v)) (subst Live o w.live) n (subst (λ s. Fits s l) o w.fits)
+      (subst (IsBelow (suc m)) e (below_live_after (suc m) z (a ∷ v) i b)) c (reads_to (later_ends h d)) in
       go_still z (a ∷ v) l e g t
   goes_by m z a v l k f b (below i c) d (shut y h e n p g) next =
       let w = read k f in
       let o = tail_is (sym w.is ∙ e) in
       let u : IsZigzag (y ∷ z ∷ l) = zig_from_fits (subst (λ s. Fits (z ∷ s) l) o w.fits) in
-      let t = next (m ∷ []) lone (ends_here refl) (fits_alone (subst (λ s. IsZigzag (y ∷ s ∷ l)) h u)) (below (omega arith) below_none) c (next_reads_to d) in
+      let t = next (m ∷ []) lone (ends_here refl) (fits_alone (subst (λ s. IsZigzag (y ∷ s ∷ l)) h u)) (below (omega arith) below_none) c
+      (next_reads_to d) in
       go_shut m z y (a ∷ v) l h e n p g u (below (omega arith) c) t
 
-  goes : (m : ℕ) (v l : List ℕ) → Live v → EndsIn m v → Fits v l → IsBelow (suc m) v → IsBelow (suc m) l → ReadsTo m v l → half_units_of_pair lo hi (run v l) ≡ 2 * count_in lo hi (cycle_run v l)
+  goes : (m : ℕ) (v l : List ℕ) → Live v → EndsIn m v → Fits v l → IsBelow (suc m) v → IsBelow (suc m) l → ReadsTo m v l →
+      half_units_of_pair lo hi (run v l) ≡ 2 * count_in lo hi (cycle_run v l)
   goes m v [] k e f b c (all_read p q) = ap (λ s. half_units_of_pair lo hi (ranges_left s)) p
   goes m v [] k e f b c (reads_to p) = elim p [ ]
   goes m [] (z ∷ l) k e f b c d = elim e [ ]
-  goes m (a ∷ v) (z ∷ l) k e f b (below i c) d = goes_by m z a v l k f b (below i c) d (closing m z a v e k b (omega arith) (onto_of f)) (λ w k' e' f' b' c' d'. goes m w l k' e' f' b' c' d')
+  goes m (a ∷ v) (z ∷ l) k e f b (below i c) d = goes_by m z a v l k f b (below i c) d (closing m z a v e k b (omega arith) (onto_of f))
+      (λ w k' e' f' b' c' d'. goes m w l k' e' f' b' c' d')
 
   -- a list of points that begins and ends in its greatest level
-  pub closed_half : (m : ℕ) (l : List ℕ) → IsZigzag (m ∷ l) → IsBelow (suc m) l → EndsIn m (m ∷ l) → half_units_of_pair lo hi (run [] (m ∷ l)) ≡ 2 * count_in lo hi (cycle_run [] (m ∷ l))
+  pub closed_half : (m : ℕ) (l : List ℕ) → IsZigzag (m ∷ l) → IsBelow (suc m) l → EndsIn m (m ∷ l) →
+      half_units_of_pair lo hi (run [] (m ∷ l)) ≡ 2 * count_in lo hi (cycle_run [] (m ∷ l))
   closed_half m l g b e = goes m (m ∷ []) l lone (ends_here refl) (onto_one g) (below (omega arith) below_none) b (reads_to_of e)

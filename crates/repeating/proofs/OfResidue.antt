@@ -34,7 +34,8 @@ closed v old loaded left b q copied t s e k accepted was same adds shape =
       classes = ap (λ m. m.classes) is ∙ k;
       residue = front;
       adds = all;
-      again = residue_again (count_of v.tally.cells) (count_of t.cells) r left.residue s.residue.own s.residue.irreducible all shape.irreducible;
+      again = residue_again (count_of v.tally.cells) (count_of t.cells) r left.residue s.residue.own s.residue.irreducible all
+          shape.irreducible;
     }
 
 pub few_cycles : (r left : List ℕ) (held total points_of_all : ℕ) → left ≡ r →

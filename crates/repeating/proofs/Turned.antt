@@ -35,7 +35,9 @@ record Split (m : ℕ) (h : List ℕ) : Type 0 where
   left : before_first m h ≡ u
   right : from_first m h ≡ m ∷ v
 
-split_step : (m x : ℕ) (h : List ℕ) (b : Bool) → x == m ≡ b → (x ≢ m → Split m h) → (u : List ℕ) × (v : List ℕ) × (x ∷ h ≡ u ++ (m ∷ v)) × ((if b then [] else x ∷ before_first m h) ≡ u) × ((if b then x ∷ h else from_first m h) ≡ m ∷ v)
+split_step : (m x : ℕ) (h : List ℕ) (b : Bool) → x == m ≡ b → (x ≢ m → Split m h) →
+    (u : List ℕ) × (v : List ℕ) × (x ∷ h ≡ u ++ (m ∷ v)) × ((if b then [] else x ∷ before_first m h) ≡ u)
+    × ((if b then x ∷ h else from_first m h) ≡ m ∷ v)
 split_step m x h true e next = let f : x ≡ m = grind (arith, nat_tests) in ([], h, ap (λ k. k ∷ h) f, refl, ap (λ k. k ∷ h) f)
 split_step m x h false e next =
     let f : x ≢ m = grind (arith, nat_tests) in

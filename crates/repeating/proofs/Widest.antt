@@ -30,7 +30,8 @@ nest h t n = record {
 }
 
 nested : {y z : ℕ} {l : List ℕ} → Shrinks (y ∷ z ∷ l) → IsZigzag (y ∷ z ∷ l) → Nested y z l
-nested last g = record { rising = λ p. within (omega arith) (omega arith) within_none; falling = λ p. within (omega arith) (omega arith) within_none }
+nested last g =
+    record { rising = λ p. within (omega arith) (omega arith) within_none; falling = λ p. within (omega arith) (omega arith) within_none }
 nested (shrinks h s) (inner t g) = nest h t (nested s g)
 
 -- all levels lie between e and f, which differ
@@ -53,15 +54,25 @@ spans_two (inr p) n = falls (omega arith) (within (omega arith) (omega arith) (w
 
 spans_front : {x y : ℕ} {l : List ℕ} → Nested x y l → ((x < y) ⊎ (y ≤ x)) → x ≢ y → Spans x y (x ∷ y ∷ l)
 spans_front n (inl p) d = rises p (within (omega arith) (omega arith) (wider (omega arith) (omega arith) (n.rising p)))
-spans_front n (inr p) d = let q = n.falling (omega arith) in falls (omega arith) (within (omega arith) (omega arith) (wider (omega arith) (omega arith) q))
+spans_front n (inr p) d =
+    let q = n.falling (omega arith) in falls (omega arith) (within (omega arith) (omega arith) (wider (omega arith) (omega arith) q))
 
 spans_more : {e f x y z : ℕ} {l : List ℕ} → Turn x y z → range x y ≤ range y z → Spans e f (y ∷ z ∷ l) → Spans e f (x ∷ y ∷ z ∷ l)
 spans_more t h (rises p (within a b (within c d w))) = rises p (within (omega arith) (omega arith) (within a b (within c d w)))
 spans_more t h (falls p (within a b (within c d w))) = falls p (within (omega arith) (omega arith) (within a b (within c d w)))
 
-widest_pick : {x y z : ℕ} {l : List ℕ} → HasNoCycle (x ∷ y ∷ z ∷ l) → IsZigzag (x ∷ y ∷ z ∷ l) → Turn x y z → Widest (y ∷ z ∷ l) → ((range y z < range x y) ⊎ (range x y ≤ range y z)) → Widest (x ∷ y ∷ z ∷ l)
-widest_pick {x} {y} {z} {l} c g t w (inl p) = record { g = []; e = x; f = y; s = z ∷ l; is = refl; spans = spans_front (nested (shrinks p (Shrinks-from_no_cycle x y z l c (omega arith))) g) (cases_lt x y) (ends_differ g) }
-widest_pick {x} c g t w (inr p) = record { g = x ∷ w.g; e = w.e; f = w.f; s = w.s; is = ap (λ k. x ∷ k) w.is; spans = spans_more t p w.spans }
+widest_pick : {x y z : ℕ} {l : List ℕ} → HasNoCycle (x ∷ y ∷ z ∷ l) → IsZigzag (x ∷ y ∷ z ∷ l) → Turn x y z → Widest (y ∷ z ∷ l) →
+    ((range y z < range x y) ⊎ (range x y ≤ range y z)) → Widest (x ∷ y ∷ z ∷ l)
+widest_pick {x} {y} {z} {l} c g t w (inl p) = record {
+  g = [];
+  e = x;
+  f = y;
+  s = z ∷ l;
+  is = refl;
+  spans = spans_front (nested (shrinks p (Shrinks-from_no_cycle x y z l c (omega arith))) g) (cases_lt x y) (ends_differ g);
+}
+widest_pick {x} c g t w (inr p) =
+    record { g = x ∷ w.g; e = w.e; f = w.f; s = w.s; is = ap (λ k. x ∷ k) w.is; spans = spans_more t p w.spans }
 
 pub widest : (x y : ℕ) (l : List ℕ) → HasNoCycle (x ∷ y ∷ l) → IsZigzag (x ∷ y ∷ l) → Widest (x ∷ y ∷ l)
 widest x y [] c (two n) = record { g = []; e = x; f = y; s = []; is = refl; spans = spans_two (cases_lt x y) n }
@@ -73,7 +84,8 @@ ends_within (within p q w) (ends_here e) = omega arith
 ends_within (within p q w) (ends_on e) = ends_within w e
 
 -- a residue that runs from one extreme to the other
-pub straight_up : (lo hi : ℕ) (t : List ℕ) → lo < hi → IsZigzag (lo ∷ t) → HasNoCycle (lo ∷ t) → Within lo (suc hi) (lo ∷ t) → EndsIn hi (lo ∷ t) → t ≡ hi ∷ []
+pub straight_up : (lo hi : ℕ) (t : List ℕ) → lo < hi → IsZigzag (lo ∷ t) → HasNoCycle (lo ∷ t) → Within lo (suc hi) (lo ∷ t) →
+    EndsIn hi (lo ∷ t) → t ≡ hi ∷ []
 straight_up lo hi [] h g c w (ends_here e) = absurd (omega arith)
 straight_up lo hi [] h g c w (ends_on e) = elim e [ ]
 straight_up lo hi (x ∷ []) h g c w (ends_on (ends_here e)) = ap (λ k. k ∷ []) e
@@ -83,7 +95,8 @@ straight_up lo hi (x ∷ y ∷ t) h (inner u g) c (within p q (within r s (withi
     let i = ends_within (n.falling (omega arith)) e in
     absurd (omega arith)
 
-pub straight_down : (lo hi : ℕ) (t : List ℕ) → lo < hi → IsZigzag (hi ∷ t) → HasNoCycle (hi ∷ t) → Within lo (suc hi) (hi ∷ t) → EndsIn lo (hi ∷ t) → t ≡ lo ∷ []
+pub straight_down : (lo hi : ℕ) (t : List ℕ) → lo < hi → IsZigzag (hi ∷ t) → HasNoCycle (hi ∷ t) → Within lo (suc hi) (hi ∷ t) →
+    EndsIn lo (hi ∷ t) → t ≡ lo ∷ []
 straight_down lo hi [] h g c w (ends_here e) = absurd (omega arith)
 straight_down lo hi [] h g c w (ends_on e) = elim e [ ]
 straight_down lo hi (x ∷ []) h g c w (ends_on (ends_here e)) = ap (λ k. k ∷ []) e
@@ -110,7 +123,8 @@ within_added (between t) p q (within h j w) = within p q w
 
 pub within_points : {a b : ℕ} {h : List ℕ} → Within a b h → Within a b (points h)
 within_points within_none = within_none
-within_points {a} {b} (within {x = x} {l = l} p q w) = subst (Within a b) (sym (points_cons x l)) (within_added (is_added x (points l) (zig_points l)) p q (within_points w))
+within_points {a} {b} (within {x = x} {l = l} p q w) =
+    subst (Within a b) (sym (points_cons x l)) (within_added (is_added x (points l) (zig_points l)) p q (within_points w))
 
 pub within_joined : {a b : ℕ} {m : List ℕ} (l : List ℕ) → Within a b l → Within a b m → Within a b (l ++ m)
 within_joined [] w v = v

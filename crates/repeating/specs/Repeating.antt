@@ -1,5 +1,6 @@
--- The rainflow count of a history that repeats (ASTM E1049-85, 5.4.5), over levels: the history is arranged to begin and to end with its
--- greatest peak, and then full cycles alone are counted. X is the range under consideration, and Y the previous range adjacent to X.
+-- The rainflow count of a history that repeats (ASTM E1049-85, 5.4.5), over levels: the history is arranged to begin
+-- and to end with its greatest peak, and then full cycles alone are counted. X is the range under consideration, and Y
+-- the previous range adjacent to X.
 --   greatest            the greatest level
 --   from_first          the levels from the first of this level on
 --   before_first        those before it
@@ -10,8 +11,8 @@
 --   repeating_cycles    the cycles of a pair in a history
 --   AddsItsCycles       a history that is put behind itself counts two half units more for each of these cycles
 --   ClosesFromResult    the cycles are those of a four-point result, and those of its residue put behind itself
--- A list of live points has the newest first. The point z that was read last stands apart: X is the range from y to z, where y is the
--- newest live point, and Y the range from x to y.
+-- A list of live points has the newest first. The point z that was read last stands apart: X is the range from y to z,
+-- where y is the newest live point, and Y the range from x to y.
 use Rattle.std.specs.Prelude.{◌≡◌, ℕ, ◌+◌, ◌*◌, nat_le, ◌==◌, if◌then◌else◌, max, List, [], ◌∷◌, ◌++◌}
 use Rattle.turning_points.specs.Points.{points}
 use Rattle.turning_points.specs.Pairs.{Pair, pair, range}
@@ -37,12 +38,13 @@ turned (x ∷ h) =
     let m = greatest (x ∷ h) in
     from_first m (x ∷ h) ++ (before_first m (x ∷ h) ++ (m ∷ []))
 
--- Step 2: with fewer than three points the next one is read. Step 3: so it is where X < Y. Step 4, where X >= Y: the two points of Y are
--- discarded, and step 2 follows again.
+-- Step 2: with fewer than three points the next one is read. Step 3: so it is where X < Y. Step 4, where X >= Y: the
+-- two points of Y are discarded, and step 2 follows again.
 abbrev pub live_after_cycles : ℕ → List ℕ → List ℕ
 live_after_cycles z [] = z ∷ []
 live_after_cycles z (y ∷ []) = z ∷ y ∷ []
-live_after_cycles z (y ∷ x ∷ live) = if nat_le (range x y) (range y z) then live_after_cycles z live else z ∷ y ∷ x ∷ live
+live_after_cycles z (y ∷ x ∷ live) =
+    if nat_le (range x y) (range y z) then live_after_cycles z live else z ∷ y ∷ x ∷ live
 
 -- Step 4 counts Y as one cycle.
 abbrev pub cycles_closed : ℕ → List ℕ → List Pair
@@ -59,7 +61,8 @@ abbrev pub repeating_cycles : List ℕ → ℕ → ℕ → ℕ
 repeating_cycles h lo hi = count_in lo hi (cycle_run [] (points (turned h)))
 
 abbrev pub AddsItsCycles : Type 0
-AddsItsCycles = (h : List ℕ) (lo hi : ℕ) → three_point (h ++ h) lo hi ≡ three_point h lo hi + 2 * repeating_cycles h lo hi
+AddsItsCycles =
+    (h : List ℕ) (lo hi : ℕ) → three_point (h ++ h) lo hi ≡ three_point h lo hi + 2 * repeating_cycles h lo hi
 
 -- The residue put behind itself has itself for its residue.
 abbrev pub ClosesFromResult : Type 0

@@ -12,7 +12,8 @@ pub record RepeatingValue : Type 0 where
   pub tally : Counts
 
 abbrev pub no_cycles : GridValue → RepeatingValue
-no_cycles grid = record { grid = grid; tally = record { classes = grid.classes; room = most_cells grid.classes; cells = [] } }
+no_cycles grid =
+    record { grid = grid; tally = record { classes = grid.classes; room = most_cells grid.classes; cells = [] } }
 
 pub record IsRepeating (v : RepeatingValue) : Type 0 where
   pub limits : IsGrid v.grid

@@ -25,7 +25,8 @@ pub one_more : (cells : List Cell) (k n sum more : ℕ) → 2 * total_of cells �
     → more ≡ count_of cells n (n + k) → sum + more ≤ 2 ^ 40
 one_more cells k n sum more few is next = omega (arith, counts_at_range cells k (suc n), is, next, few)
 
-repeat_text-short : (grid : GridValue) (name : List ℕ) (cycles : ℕ → ℕ → ℕ) → IsGrid grid → ((k : ℕ) → doubled_at cycles grid.classes k ≤ 2 ^ 41)
+repeat_text-short : (grid : GridValue) (name : List ℕ) (cycles : ℕ → ℕ → ℕ) → IsGrid grid →
+    ((k : ℕ) → doubled_at cycles grid.classes k ≤ 2 ^ 41)
     → length name ≤ 32 → length (repeat_text grid name cycles) ≤ 40 + (grid.classes - 1) * 32
 unfolding repeat_text
 repeat_text-short grid name cycles is few short =
@@ -54,5 +55,6 @@ pub repeat_text-same : (grid : GridValue) (name : List ℕ) (f g : ℕ → ℕ �
     → ((lo hi : ℕ) → lo < hi → hi < grid.classes → f lo hi ≡ g lo hi) → repeat_text grid name f ≡ repeat_text grid name g
 unfolding repeat_text
 repeat_text-same grid name f g some same =
-    ap (λ (lines : List ℕ). repeat_line name ++ lines) (range_lines-same grid.w2 (doubled_at f grid.classes) (doubled_at g grid.classes) (grid.classes - 1)
+    ap (λ (lines : List ℕ). repeat_line name ++ lines) (range_lines-same grid.w2 (doubled_at f grid.classes) (doubled_at g grid.classes)
+    (grid.classes - 1)
     (λ k from to. ap (λ (n : ℕ). 2 * n) (sum_same f g grid.classes k (grid.classes - k) from (omega (arith, some, to)) same)))

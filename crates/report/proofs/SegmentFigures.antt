@@ -27,7 +27,8 @@ use Rattle.segment.proofs.HalfUnits.{count_few, halves_stand, range_parts, range
 use Rattle.report.specs.Figures.{Agree, AreFew, figures, figures_of}
 
 -- one pair is counted at one lower level
-one_lower : (n k h : ℕ) (x : Pair) → (if nat_lt x.lo n then h else 0) + (if is_pair n (n + k) x then h else 0) ≤ (if nat_lt x.lo (suc n) then h else 0)
+one_lower : (n k h : ℕ) (x : Pair) → (if nat_lt x.lo n then h else 0) + (if is_pair n (n + k) x then h else 0) ≤
+    (if nat_lt x.lo (suc n) then h else 0)
 one_lower n k h x = grind (arith, nat_tests)
 
 at_most : (b : Bool) (h : ℕ) → (if b then h else 0) ≤ h
@@ -54,7 +55,8 @@ pub counts_at_range : (cells : List Cell) (k n : ℕ) → sum_at_range (count_of
 counts_at_range [] k n = omega (arith, none_at_range k n)
 counts_at_range (c ∷ cells) k n = omega (
   arith,
-  sums_up (count_of (c ∷ cells)) (λ lo hi. (if is_pair lo hi (pair_of c) then c.n else 0) + count_of cells lo hi) k n (λ lo hi. picked (is_pair lo hi (pair_of c)) c.n (count_of cells lo hi)),
+  sums_up (count_of (c ∷ cells)) (λ lo hi. (if is_pair lo hi (pair_of c) then c.n else 0) + count_of cells lo hi) k n
+      (λ lo hi. picked (is_pair lo hi (pair_of c)) c.n (count_of cells lo hi)),
   sum_at_range-added (λ lo hi. if is_pair lo hi (pair_of c) then c.n else 0) (count_of cells) k n,
   one_pair k n c.n (pair_of c),
   at_most (nat_lt c.lo n) c.n,
@@ -113,17 +115,39 @@ module _ (v : SegmentValue) (i : IsSegment v) where
       let a = i.span in
       let s = i.simple.agrees in
       record {
-        counts_are = record { samples = omega arith; used = omega (arith, used_few); missing = omega (arith, i.readings); refused = omega (arith, i.readings) };
+        counts_are = record {
+          samples = omega arith;
+          used = omega (arith, used_few);
+          missing = omega (arith, i.readings);
+          refused = omega (arith, i.readings);
+        };
         pairs = λ lo hi. omega (arith, count_few v.tally.cells lo hi, pairs_few lo hi v.reducer.residue, i.balance, i.used, used_few);
         half_units = λ k. by_range k (range_either k);
         crossings = λ l. omega (arith, i.crossed l, used_few);
-        peaks = λ l. omega (arith, at_most (nat_le v.simple.reference l) (slice_index v.simple.extremes l), get_or-le-sum v.simple.extremes l, s.few, i.used, used_few);
-        valleys = λ l. omega (arith, valley_few (nat_le v.simple.reference l) (slice_index v.simple.extremes l), get_or-le-sum v.simple.extremes l, s.few, i.used, used_few);
+        peaks = λ l. omega (
+          arith,
+          at_most (nat_le v.simple.reference l) (slice_index v.simple.extremes l),
+          get_or-le-sum v.simple.extremes
+              l,
+          s.few,
+          i.used,
+          used_few,
+        );
+        valleys = λ l. omega (
+          arith,
+          valley_few (nat_le v.simple.reference l) (slice_index v.simple.extremes l),
+          get_or-le-sum v.simple.extremes l,
+          s.few,
+          i.used,
+          used_few,
+        );
         ranges = λ k. omega (arith, get_or-le-sum v.simple.decided k, s.sum_of, open_few v.simple k, i.used, used_few);
       }
 
 module _ (v : SegmentValue) (gain : GainValue) (w : List ℤ) (s : Stands v gain w) (i : IsSegment v) where
-  counts_same : (a b c d a' b' c' d' : ℕ) → a ≡ a' → b ≡ b' → c ≡ c' → d ≡ d' → ◌≡◌ {A = SampleCounts} (record { samples = a; used = b; missing = c; refused = d }) (record { samples = a'; used = b'; missing = c'; refused = d' })
+  counts_same : (a b c d a' b' c' d' : ℕ) → a ≡ a' → b ≡ b' → c ≡ c' → d ≡ d' →
+      ◌≡◌ {A = SampleCounts} (record { samples = a; used = b; missing = c; refused = d })
+      (record { samples = a'; used = b'; missing = c'; refused = d' })
   counts_same a b c d a' b' c' d' e f g h = rw (e, f, g, h) refl
 
   pub figures_stand : Agree v.grid (figures_of v) (figures v.grid gain w)

@@ -21,16 +21,26 @@ leaves-headed p q head rest e = record {
   classes = ap (λ (r : PageValue). r.classes) e;
 }
 
-pub leaves-all : (p q : PageValue) (head : List ℕ) (line : ℕ → List ℕ) (n : ℕ) → q ≡ with_text p head → Leaves p q (lines_from line 0 (n - 0)) (head ++ lines_from line 0 n)
+pub leaves-all : (p q : PageValue) (head : List ℕ) (line : ℕ → List ℕ) (n : ℕ) → q ≡ with_text p head →
+    Leaves p q (lines_from line 0 (n - 0)) (head ++ lines_from line 0 n)
 leaves-all p q head line n e =
     let all : n ≡ n - 0 = omega arith in
     subst (λ m. Leaves p q (lines_from line 0 m) (head ++ lines_from line 0 n)) all (leaves-headed p q head (lines_from line 0 n) e)
 
 pub leaves-fits : (old p : PageValue) (line rest whole : List ℕ) → Leaves old p (line ++ rest) whole → Fits old whole → Fits p line
 leaves-fits old p line rest whole h fits =
-    omega (arith, ap length h.text, length-append p.bytes (line ++ rest), length-append line rest, length-append old.bytes whole, h.room, fits)
+    omega (
+      arith,
+      ap length h.text,
+      length-append p.bytes (line ++ rest),
+      length-append line rest,
+      length-append old.bytes whole,
+      h.room,
+      fits,
+    )
 
-pub leaves-step : (old p : PageValue) (line rest whole : List ℕ) → Leaves old p (line ++ rest) whole → Leaves old (with_text p line) rest whole
+pub leaves-step : (old p : PageValue) (line rest whole : List ℕ) → Leaves old p (line ++ rest) whole →
+    Leaves old (with_text p line) rest whole
 leaves-step old p line rest whole h = record { text = append_assoc p.bytes line rest ∙ h.text; room = h.room; classes = h.classes }
 
 pub leaves-done : (old p : PageValue) (whole : List ℕ) → Leaves old p [] whole → p ≡ with_text old whole
@@ -41,32 +51,45 @@ leaves-done old p whole h =
     same
 
 -- the lines of the keys that are left
-pub lines_from-first : (line : ℕ → List ℕ) (key end : ℕ) → key < end → lines_from line key (end - key) ≡ line key ++ lines_from line (key + 1) (end - (key + 1))
+pub lines_from-first : (line : ℕ → List ℕ) (key end : ℕ) → key < end →
+    lines_from line key (end - key) ≡ line key ++ lines_from line (key + 1) (end - (key + 1))
 lines_from-first line key end h = let n : end - key ≡ suc (end - (key + 1)) = omega arith in ap (λ m. lines_from line key m) n
 
 pub lines_from-none : (line : ℕ → List ℕ) (key end : ℕ) → end ≤ key → lines_from line key (end - key) ≡ []
 lines_from-none line key end h = let n : end - key ≡ zero = omega arith in ap (λ m. lines_from line key m) n
 
-pub range_lines-first : (width : ℕ) (counts : ℕ → ℕ) (k : ℕ) → 1 ≤ k → range_lines width counts k ≡ range_line (k * width) (counts k) ++ range_lines width counts (k - 1)
+pub range_lines-first : (width : ℕ) (counts : ℕ → ℕ) (k : ℕ) → 1 ≤ k →
+    range_lines width counts k ≡ range_line (k * width) (counts k) ++ range_lines width counts (k - 1)
 range_lines-first width counts zero h = absurd (omega arith)
-range_lines-first width counts (suc k) h = let e : suc k - 1 ≡ k = omega arith in ap (λ m. range_line (suc k * width) (counts (suc k)) ++ range_lines width counts m) (sym e)
+range_lines-first width counts (suc k) h =
+    let e : suc k - 1 ≡ k = omega arith in ap (λ m. range_line (suc k * width) (counts (suc k)) ++ range_lines width counts m) (sym e)
 
 -- a line of a key that comes next fits, and what is left then
-pub line-fits : (old p : PageValue) (line : ℕ → List ℕ) (key end : ℕ) (text whole : List ℕ) → key < end → text ≡ line key → Leaves old p (lines_from line key (end - key)) whole → Fits old whole → Fits p text
+pub line-fits : (old p : PageValue) (line : ℕ → List ℕ) (key end : ℕ) (text whole : List ℕ) → key < end → text ≡ line key →
+    Leaves old p (lines_from line key (end - key)) whole → Fits old whole → Fits p text
 line-fits old p line key end text whole h same left fits =
-    subst (λ t. Fits p t) (sym same) (leaves-fits old p (line key) (lines_from line (key + 1) (end - (key + 1))) whole (subst (λ r. Leaves old p r whole) (lines_from-first line key end h) left) fits)
+    subst (λ t. Fits p t) (sym same) (leaves-fits old p (line key) (lines_from line (key + 1) (end - (key + 1))) whole
+    (subst (λ r. Leaves old p r whole) (lines_from-first line key end h) left) fits)
 
-pub line-step : (old p q : PageValue) (line : ℕ → List ℕ) (key end : ℕ) (text whole : List ℕ) → key < end → text ≡ line key → q ≡ with_text p text → Leaves old p (lines_from line key (end - key)) whole → Leaves old q (lines_from line (key + 1) (end - (key + 1))) whole
+pub line-step : (old p q : PageValue) (line : ℕ → List ℕ) (key end : ℕ) (text whole : List ℕ) → key < end → text ≡ line key →
+    q ≡ with_text p text → Leaves old p (lines_from line key (end - key)) whole →
+    Leaves old q (lines_from line (key + 1) (end - (key + 1))) whole
 line-step old p q line key end text whole h same new left =
-    let next = leaves-step old p (line key) (lines_from line (key + 1) (end - (key + 1))) whole (subst (λ r. Leaves old p r whole) (lines_from-first line key end h) left) in
+    let next = leaves-step old p (line key) (lines_from line (key + 1) (end - (key + 1))) whole
+    (subst (λ r. Leaves old p r whole) (lines_from-first line key end h) left) in
     subst (λ r. Leaves old r (lines_from line (key + 1) (end - (key + 1))) whole) (sym (new ∙ ap (with_text p) same)) next
 
 -- the same of the ranges, the greatest first
-pub range-fits : (old p : PageValue) (width : ℕ) (counts : ℕ → ℕ) (k : ℕ) (text whole : List ℕ) → 1 ≤ k → text ≡ range_line (k * width) (counts k) → Leaves old p (range_lines width counts k) whole → Fits old whole → Fits p text
+pub range-fits : (old p : PageValue) (width : ℕ) (counts : ℕ → ℕ) (k : ℕ) (text whole : List ℕ) → 1 ≤ k →
+    text ≡ range_line (k * width) (counts k) → Leaves old p (range_lines width counts k) whole → Fits old whole → Fits p text
 range-fits old p width counts k text whole h same left fits =
-    subst (λ t. Fits p t) (sym same) (leaves-fits old p (range_line (k * width) (counts k)) (range_lines width counts (k - 1)) whole (subst (λ r. Leaves old p r whole) (range_lines-first width counts k h) left) fits)
+    subst (λ t. Fits p t) (sym same) (leaves-fits old p (range_line (k * width) (counts k)) (range_lines width counts (k - 1)) whole
+    (subst (λ r. Leaves old p r whole) (range_lines-first width counts k h) left) fits)
 
-pub range-step : (old p q : PageValue) (width : ℕ) (counts : ℕ → ℕ) (k : ℕ) (text whole : List ℕ) → 1 ≤ k → text ≡ range_line (k * width) (counts k) → q ≡ with_text p text → Leaves old p (range_lines width counts k) whole → Leaves old q (range_lines width counts (k - 1)) whole
+pub range-step : (old p q : PageValue) (width : ℕ) (counts : ℕ → ℕ) (k : ℕ) (text whole : List ℕ) → 1 ≤ k →
+    text ≡ range_line (k * width) (counts k) → q ≡ with_text p text → Leaves old p (range_lines width counts k) whole →
+    Leaves old q (range_lines width counts (k - 1)) whole
 range-step old p q width counts k text whole h same new left =
-    let next = leaves-step old p (range_line (k * width) (counts k)) (range_lines width counts (k - 1)) whole (subst (λ r. Leaves old p r whole) (range_lines-first width counts k h) left) in
+    let next = leaves-step old p (range_line (k * width) (counts k)) (range_lines width counts (k - 1)) whole
+    (subst (λ r. Leaves old p r whole) (range_lines-first width counts k h) left) in
     subst (λ r. Leaves old r (range_lines width counts (k - 1)) whole) (sym (new ∙ ap (with_text p) same)) next

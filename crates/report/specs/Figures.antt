@@ -59,7 +59,8 @@ counts_in samples = record {
 abbrev pub AreFewHalves : List ℕ → Type 0
 AreFewHalves halves = (k : ℕ) → slice_index halves k ≤ MAX_FIGURE
 
--- Pairs and ranges by the three-point count over the whole level history (ASTM E1049-85, 5.4.4), the others by 5.1 to 5.3.
+-- Pairs and ranges by the three-point count over the whole level history (ASTM E1049-85, 5.4.4), the others by 5.1 to
+-- 5.3.
 abbrev pub figures : GridValue → GainValue → List ℤ → Figures
 figures grid gain w = record {
   samples = counts_of grid gain w;

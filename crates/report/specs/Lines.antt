@@ -22,7 +22,8 @@ abbrev pub count_line : ℕ → ℕ → List ℕ
 count_line key count = if count == 0 then [] else decimal key ++ codes " " ++ decimal count ++ codes "\n"
 
 abbrev pub pair_line : ℕ → ℕ → ℕ → List ℕ
-pair_line lo hi count = if count == 0 then [] else decimal lo ++ codes " " ++ decimal hi ++ codes " " ++ halved count ++ codes "\n"
+pair_line lo hi count =
+    if count == 0 then [] else decimal lo ++ codes " " ++ decimal hi ++ codes " " ++ halved count ++ codes "\n"
 
 -- the lines of n keys from one on
 abbrev pub lines_from : (ℕ → List ℕ) → ℕ → ℕ → List ℕ

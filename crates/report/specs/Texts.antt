@@ -12,7 +12,8 @@ use Rattle.report.specs.declared.counts.SampleCounts.{SampleCounts}
 use Rattle.report.specs.Lines.{count_line, pair_line, lines_from, range_lines}
 
 abbrev pub samples_line : SampleCounts → List ℕ
-samples_line n = codes "samples " ++ decimal n.samples ++ codes " used " ++ decimal n.used ++ codes " missing " ++ decimal n.missing ++ codes " refused " ++ decimal n.refused ++ codes "\n"
+samples_line n = codes "samples " ++ decimal n.samples ++ codes " used " ++ decimal n.used ++ codes " missing " ++
+    decimal n.missing ++ codes " refused " ++ decimal n.refused ++ codes "\n"
 
 unfoldable pub table_text : GridValue → SampleCounts → (ℕ → ℕ) → List ℕ
 table_text grid n half_units = samples_line n ++ codes "rainflow\n" ++ range_lines grid.w2 half_units (grid.classes - 1)
@@ -40,7 +41,8 @@ abbrev pub gauge_line : List ℕ → List ℕ
 gauge_line name = codes "gauge " ++ name ++ codes "\n"
 
 unfoldable pub gauge_text : GridValue → List ℕ → Figures → List ℕ
-gauge_text grid name f = gauge_line name ++ table_text grid f.samples f.half_units ++ matrix grid f ++ crossings grid f ++ peaks grid f ++ valleys grid f ++ ranges grid f
+gauge_text grid name f = gauge_line name ++ table_text grid f.samples f.half_units ++ matrix grid f ++ crossings grid f
+    ++ peaks grid f ++ valleys grid f ++ ranges grid f
 
 -- the least number of billionths that is not below a fraction
 abbrev pub billionths : Frac → ℕ

@@ -35,7 +35,8 @@ by_printing P d w (TooLong g) is = absurd is
 by_printing P d w (Differs g x y z) is = absurd is
 
 -- of a configuration that is refused
-pub by_refusal : (P : Status → Type 0) → ((f : ConfigFault) → P (BadConfig f)) → P ReadFault → P OutOfMemory → (s : Status) → IsRefusal s → P s
+pub by_refusal : (P : Status → Type 0) → ((f : ConfigFault) → P (BadConfig f)) → P ReadFault → P OutOfMemory → (s : Status) →
+    IsRefusal s → P s
 by_refusal P c r m (BadConfig f) is = c f
 by_refusal P c r m ReadFault is = r
 by_refusal P c r m OutOfMemory is = m
@@ -60,7 +61,8 @@ refused_prints fault.OutOfMemory c figures old = refl
 pub unread_prints : (s : Status) → IsRefusal s → (c : Config) (figures : ℕ → Figures) (old : List ℕ) → Prints s c figures old old
 unread_prints s is c figures old = by_refusal (λ (x : Status). Prints x c figures old old) (λ f. refl) refl refl s is
 
-pub refused_answer : {X : Type 0} (c : Config) (image : Image) (see : X → ℕ × List ℕ) (f : ResumeFault) → Resumes {X = X} c.setup image see (Err f)
+pub refused_answer : {X : Type 0} (c : Config) (image : Image) (see : X → ℕ × List ℕ) (f : ResumeFault) →
+    Resumes {X = X} c.setup image see (Err f)
     → AnswersOver c image (store_status f)
 refused_answer c image see fault.NotAStore h = (fault.NotAStore, refl, h)
 refused_answer c image see (fault.Version v) h = (fault.Version v, refl, h)
@@ -83,7 +85,8 @@ pub printed_answer : (c : Config) (image : Image) (s : Status) → IsPrinting s 
 printed_answer c image s is reads = by_printing (AnswersOver c image) reads reads s is
 
 -- over a store that reads, nothing but a fault of the disk and want of memory is refused
-pub refused_complete : (X : Type 0) (f : ResumeFault) (before between now : ℕ) → IsUnharmed {X = X} (Err f) → DiskRose {X = X} before between (Err f)
+pub refused_complete : (X : Type 0) (f : ResumeFault) (before between now : ℕ) → IsUnharmed {X = X} (Err f) →
+    DiskRose {X = X} before between (Err f)
     → between ≤ now → (Rose before now → ⊥) → (store_status f ≡ Done) ⊎ (store_status f ≡ OutOfMemory)
 refused_complete X fault.NotAStore before between now u d le none = absurd u
 refused_complete X (fault.Version v) before between now u d le none = absurd u
@@ -92,9 +95,11 @@ refused_complete X (fault.Damaged index damage) before between now u d le none =
 refused_complete X fault.DiskFault before between now u d le none = absurd (none (omega (arith, d, le)))
 refused_complete X fault.OutOfMemory before between now u d le none = inr refl
 
-pub printed_complete : (s : Status) (before now : ℕ) → IsPrinting s → (s ≡ WriteFault → Rose before now) → (Rose before now → ⊥) → (s ≡ Done) ⊎ (s ≡ OutOfMemory)
+pub printed_complete : (s : Status) (before now : ℕ) → IsPrinting s → (s ≡ WriteFault → Rose before now) → (Rose before now → ⊥) →
+    (s ≡ Done) ⊎ (s ≡ OutOfMemory)
 printed_complete s before now is write none =
-    by_printing (λ (x : Status). (x ≡ WriteFault → Rose before now) → (x ≡ Done) ⊎ (x ≡ OutOfMemory)) (λ w. inl refl) (λ w. absurd (none (w refl))) s is write
+    by_printing (λ (x : Status). (x ≡ WriteFault → Rose before now) → (x ≡ Done) ⊎ (x ≡ OutOfMemory)) (λ w. inl refl)
+    (λ w. absurd (none (w refl))) s is write
 
 pub refused_disk : (X : Type 0) (f : ResumeFault) (before between now : ℕ) → DiskRose {X = X} before between (Err f) → between ≤ now
     → store_status f ≡ DiskFault → Rose before now
@@ -122,10 +127,12 @@ refused_no_write fault.DiskFault is = absurd cc
 refused_no_write fault.OutOfMemory is = absurd cc
 
 pub printing_other : (s : Status) → IsPrinting s → (s ≢ ReadFault) × (s ≢ DiskFault)
-printing_other = by_printing (λ s. (s ≢ ReadFault) × (s ≢ DiskFault)) ((λ is. absurd cc), (λ is. absurd cc)) ((λ is. absurd cc), (λ is. absurd cc))
+printing_other =
+    by_printing (λ s. (s ≢ ReadFault) × (s ≢ DiskFault)) ((λ is. absurd cc), (λ is. absurd cc)) ((λ is. absurd cc), (λ is. absurd cc))
 
 -- an answer over a configuration that was read
-pub over_config : (conf : Result Config ConfigFault) (c : Config) (image : Image) → conf ≡ Ok c → (s : Status) → AnswersOver c image s → ReportAnswers conf image s
+pub over_config : (conf : Result Config ConfigFault) (c : Config) (image : Image) → conf ≡ Ok c → (s : Status) → AnswersOver c image s →
+    ReportAnswers conf image s
 over_config conf c image is Done a = (c, is, a)
 over_config conf c image is WriteFault a = (c, is, a)
 over_config conf c image is (BadStore f) a = (c, is, a)
@@ -139,8 +146,10 @@ over_config conf c image is (Torn g b) a = absurd a
 over_config conf c image is (TooLong g) a = absurd a
 over_config conf c image is (Differs g x y z) a = absurd a
 
-pub unread_answer : (conf : Result Config ConfigFault) (image : Image) (s : Status) → IsRefusal s → MeansAs conf (Err s) → ReportAnswers conf image s
-unread_answer conf image s is = by_refusal (λ (x : Status). MeansAs conf (Err x) → ReportAnswers conf image x) (λ f m. m) (λ m. tt) (λ m. tt) s is
+pub unread_answer : (conf : Result Config ConfigFault) (image : Image) (s : Status) → IsRefusal s → MeansAs conf (Err s) →
+    ReportAnswers conf image s
+unread_answer conf image s is =
+    by_refusal (λ (x : Status). MeansAs conf (Err x) → ReportAnswers conf image x) (λ f m. m) (λ m. tt) (λ m. tt) s is
 
 -- a sound configuration is refused for a read that failed, or for want of memory
 pub unread_complete : (conf : Result Config ConfigFault) (image : Image) (s : Status) (before now : ℕ) → IsRefusal s → MeansAs conf (Err s)
@@ -153,4 +162,6 @@ unread_complete conf image s before now is m sound read none =
     clash e = absurd cc
 
 pub unread_other : (s : Status) → IsRefusal s → (s ≢ WriteFault) × (s ≢ DiskFault) × (IsPrinting s → ⊥)
-unread_other = by_refusal (λ s. (s ≢ WriteFault) × (s ≢ DiskFault) × (IsPrinting s → ⊥)) (λ f. ((λ is. absurd cc), (λ is. absurd cc), λ p. p)) ((λ is. absurd cc), (λ is. absurd cc), λ p. p) ((λ is. absurd cc), (λ is. absurd cc), λ p. p)
+unread_other = by_refusal (λ s. (s ≢ WriteFault) × (s ≢ DiskFault) × (IsPrinting s → ⊥))
+    (λ f. ((λ is. absurd cc), (λ is. absurd cc), λ p. p)) ((λ is. absurd cc), (λ is. absurd cc), λ p. p)
+    ((λ is. absurd cc), (λ is. absurd cc), λ p. p)

@@ -33,20 +33,24 @@ module _ (s : StoreValue) (bodies : List PartsValue) (seen : Image) (leaves : Im
   grid_is : (g : ℕ) (d : SegmentValue) → g < length s.held → (get_or s.held g d).grid ≡ s.head.setup.grid
   grid_is g d lt = (held_is s.head.setup.grid g bodies (get_or s.held g d) (on.held g d lt)).grid_is
 
-  stands_there : (w : ℕ → List ℤ) → AllStand s.head.setup w bodies → (g : ℕ) (d : SegmentValue) → g < length s.held → IsSegment (get_or s.held g d)
-      → Agree s.head.setup.grid (figures_of (get_or s.held g d)) (figures s.head.setup.grid (gain_at s.head.setup g) (take (get_or (ends_of s.held) g 0) (w g)))
+  stands_there : (w : ℕ → List ℤ) → AllStand s.head.setup w bodies → (g : ℕ) (d : SegmentValue) → g < length s.held →
+      IsSegment (get_or s.held g d)
+      → Agree s.head.setup.grid (figures_of (get_or s.held g d)) (figures s.head.setup.grid (gain_at s.head.setup g)
+      (take (get_or (ends_of s.held) g 0) (w g)))
   stands_there w all g d lt rules =
       let v : SegmentValue = get_or s.held g d in
       let h : List ℤ = take (get_or (ends_of s.held) g 0) (w g) in
       let gain : GainValue = gain_at s.head.setup g in
-      subst (λ (k : GridValue). Agree k (figures_of (get_or s.held g d)) (figures k (gain_at s.head.setup g) (take (get_or (ends_of s.held) g 0) (w g)))) (grid_is g d lt)
+      subst (λ (k : GridValue). Agree k (figures_of (get_or s.held g d)) (figures k (gain_at s.head.setup g)
+      (take (get_or (ends_of s.held) g 0) (w g)))) (grid_is g d lt)
       (figures_stand (get_or s.held g d) gain h (held_stand s bodies seen leaves on w all g d lt) rules)
 
   pub agrees_held : (c : Config) (w : ℕ → List ℤ) (n : List ℕ) → s.head.setup ≡ c.setup → ends_of s.held ≡ n → AllStand c.setup w bodies
       → Agrees c s.held (figures_by c (held_of w n))
   agrees_held c w n setup ends all g d lt rules =
       subst (λ (x : Setup). Agree x.grid (figures_of (get_or s.held g d)) (figures x.grid (gain_at x g) (take (get_or n g 0) (w g)))) setup
-      (subst (λ (e : List ℕ). Agree s.head.setup.grid (figures_of (get_or s.held g d)) (figures s.head.setup.grid (gain_at s.head.setup g) (take (get_or e g 0) (w g)))) ends
+      (subst (λ (e : List ℕ). Agree s.head.setup.grid (figures_of (get_or s.held g d))
+      (figures s.head.setup.grid (gain_at s.head.setup g) (take (get_or e g 0) (w g)))) ends
       (stands_there w (subst (λ (x : Setup). AllStand x w bodies) (sym setup) all) g d lt rules))
 
 abbrev pub kept_by : ℕ → SegmentValue → List PartsValue → Figures
@@ -64,22 +68,26 @@ kept_by classes v bodies = record (figures_of v) {
 abbrev pub kept_figures : Config → List SegmentValue → List PartsValue → ℕ → Figures
 kept_figures c held bodies g = kept_by c.setup.grid.classes (get_or held g (empty_at c.setup.grid 0 0 1)) (bodies_of g bodies)
 
-pub are_kept : (c : Config) (held : List SegmentValue) (bodies : List PartsValue) (g : ℕ) → IsKept c.setup.grid.classes (bodies_of g bodies) (kept_figures c held bodies g)
-are_kept c held bodies g = record { samples = refl; used = refl; missing = refl; refused = refl; pairs = λ lo hi. refl; half_units = λ k. refl }
+pub are_kept : (c : Config) (held : List SegmentValue) (bodies : List PartsValue) (g : ℕ) →
+    IsKept c.setup.grid.classes (bodies_of g bodies) (kept_figures c held bodies g)
+are_kept c held bodies g =
+    record { samples = refl; used = refl; missing = refl; refused = refl; pairs = λ lo hi. refl; half_units = λ k. refl }
 
 same_sums : (f g : ℕ → ℕ → ℕ) (k n : ℕ) → ((lo hi : ℕ) → f lo hi ≡ g lo hi) → sum_at_range f k n ≡ sum_at_range g k n
 same_sums f g k zero e = refl
 same_sums f g k (suc n) e = omega (arith, same_sums f g k n e, e n (n + k))
 
 counts_same : (a b c d a' b' c' d' : ℕ) → a ≡ a' → b ≡ b' → c ≡ c' → d ≡ d'
-    → ◌≡◌ {A = SampleCounts} (record { samples = a; used = b; missing = c; refused = d }) (record { samples = a'; used = b'; missing = c'; refused = d' })
+    → ◌≡◌ {A = SampleCounts} (record { samples = a; used = b; missing = c; refused = d })
+    (record { samples = a'; used = b'; missing = c'; refused = d' })
 counts_same a b c d a' b' c' d' e f g h = rw (e, f, g, h) refl
 
 agree_by : (grid : GridValue) (v u : SegmentValue) (bodies : List PartsValue) → v ≡ u → v.grid ≡ grid → v.from ≡ 0 → Keeps v bodies
     → Agree grid (figures_of v) (kept_by grid.classes u bodies)
 agree_by grid v u bodies same over from k = record {
   samples = counts_same _ _ _ _ _ _ _ _ (omega (arith, from, k.last)) k.used k.missing k.refused;
-  half_units = λ j one to. ap (λ (x : GridValue). sum_at_range (halves_of v) j (x.classes - j)) over ∙ same_sums (halves_of v) (kept_halves bodies) j (grid.classes - j) k.halves;
+  half_units = λ j one to. ap (λ (x : GridValue). sum_at_range (halves_of v) j (x.classes - j)) over ∙ same_sums (halves_of v)
+      (kept_halves bodies) j (grid.classes - j) k.halves;
   pairs = λ lo hi lt to. k.halves lo hi;
   crossings = λ l one to. ap (λ (x : SegmentValue). count_at x.crossings l) same;
   peaks = λ l to. ap (λ (x : SegmentValue). peak_count x.simple l) same;

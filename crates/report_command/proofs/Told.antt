@@ -16,7 +16,8 @@ rose_more a b c rose le = omega (arith, rose, le)
 
 pub last_after : (a b c : ℕ) (told told2 told3 : Lines) (line : List ℕ) → a ≤ b → told2 ≡ told → Rose b c ⊎ (told3 ≡ told2 ++ line ∷ [])
     → Rose a c ⊎ (told3 ≡ told ++ line ∷ [])
-last_after a b c told told2 told3 line le same h = ⊎_elim {C = Rose a c ⊎ (told3 ≡ told ++ line ∷ [])} (λ rose. inl (rose_before a b c le rose))
+last_after a b c told told2 told3 line le same h =
+    ⊎_elim {C = Rose a c ⊎ (told3 ≡ told ++ line ∷ [])} (λ rose. inl (rose_before a b c le rose))
     (λ more. inr (more ∙ ap (λ (l : Lines). l ++ line ∷ []) same)) h
 
 pub ok_same : (r : Result Config ConfigFault) (a b : Config) → r ≡ Ok a → r ≡ Ok b → a ≡ b

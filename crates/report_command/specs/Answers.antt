@@ -1,5 +1,5 @@
--- Which answer `report` has. Each has its cause in the configuration and the store; a fault of the outside has a clause of its own, and
--- want of memory none.
+-- Which answer `report` has. Each has its cause in the configuration and the store; a fault of the outside has a clause
+-- of its own, and want of memory none.
 --   store_status    the answer for a store that is not resumed
 --   AnswersOver     over what a read of the store gives
 --   ReportAnswers   by the configuration

@@ -69,8 +69,10 @@ module _ {C : Type 0} where
     pub workers_few : (1 ≤ length workers) × (length workers ≤ MAX_WORKERS)
     pub pool : (p.units ≡ 16 * length readers) × (p.inside ≡ 16 * length readers)
     pub board : (b.grid ≡ p.grid) × (b.block ≡ p.block) × (length b.rows ≡ length readers)
-    pub each_reader : (g : ℕ) (d : Reader C) → g < length readers → RestingReader p (length workers) g (slice_index_or readers g d)
-    pub each_worker : (v : ℕ) (d : Worker) → v < length workers → RestingWorker (length readers) v (slice_index_or workers v d)
+    pub each_reader : (g : ℕ) (d : Reader C) → g < length readers →
+        RestingReader p (length workers) g (slice_index_or readers g d)
+    pub each_worker : (v : ℕ) (d : Worker) → v < length workers →
+        RestingWorker (length readers) v (slice_index_or workers v d)
     pub rings : (v g : ℕ) (d : Worker) (e : Reader C) → v < length workers → g < length readers
         → IsEven (slice_index_or workers v d) (slice_index_or readers g e) g v
     pub returns_long : length returns ≡ length workers

@@ -35,7 +35,8 @@ pub record RingDone (block workers : ℕ) (flow : RoundOfFlow) (old new : Prepar
 
 module _ {C : Type 0} where
   -- A lane after a round. Its source is back, and `at` and `end` say what it gave.
-  pub record LaneDone (tells : Type 0) (left : C → List ℕ) (faults : C → ℕ) (block : ℕ) (old new : Lane C) : Type 0 where
+  pub record LaneDone (tells : Type 0) (left : C → List ℕ) (faults : C → ℕ) (block : ℕ)
+      (old new : Lane C) : Type 0 where
     pub before : C
     pub now : C
     pub was : old.src ≡ Some before
@@ -44,7 +45,8 @@ module _ {C : Type 0} where
     pub gain : new.gain ≡ old.gain
     pub samples : (old.at ≤ new.at) × (new.at ≤ old.at + 16 * block)
     pub limit : new.at ≤ MAX_SAMPLES
-    pub gives : old.end ≡ More → tells → Gives (16 * block) (MAX_SAMPLES - old.at) (left before) (new.at - old.at) new.end (left now)
+    pub gives : old.end ≡ More → tells →
+        Gives (16 * block) (MAX_SAMPLES - old.at) (left before) (new.at - old.at) new.end (left now)
     pub cause : old.end ≡ More → new.end ≡ ReadFault → Rose (faults before) (faults now)
     pub later : faults before ≤ faults now
     pub ended : old.end ≢ More → (new.at ≡ old.at) × (new.end ≡ old.end) × (now ≡ before)
@@ -52,7 +54,8 @@ module _ {C : Type 0} where
   -- The front of a lane stands for the whole samples that it gave, which are the next ones that its source had left.
   pub record FrontDone (tells : Type 0) (left : C → List ℕ) (old new : Lane C) (front : SegmentValue) : Type 0 where
     pub name : name_of front ≡ named old.gauge old.at new.at
-    pub stands : (src : C) → old.src ≡ Some src → tells → Stands front old.gain (take (new.at - old.at) (samples (left src)))
+    pub stands : (src : C) → old.src ≡ Some src → tells →
+        Stands front old.gain (take (new.at - old.at) (samples (left src)))
 
   -- the flow of a round: it starts where the lanes stood, and there is as much of each recording as the lane has given
   abbrev pub flow_of : List (Lane C) → List (Lane C) → RoundOfFlow
@@ -71,8 +74,10 @@ module _ {C : Type 0} where
         → LaneDone tells left faults old.block (slice_index_or lanes_old g d) (slice_index_or lanes_new g d)
     pub front : (g : ℕ) (d : Lane C) (front : SegmentValue) → g < old.gauges → IsFront new.board g front
         → FrontDone tells left (slice_index_or lanes_old g d) (slice_index_or lanes_new g d) front
-    pub rings : (g v : ℕ) → g < old.gauges → v < old.workers → RingDone old.block old.workers (flow_of lanes_old lanes_new) old new g v
+    pub rings : (g v : ℕ) → g < old.gauges → v < old.workers →
+        RingDone old.block old.workers (flow_of lanes_old lanes_new) old new g v
     pub flow : IsRound old.block old.workers (flow_of lanes_old lanes_new) old.gauges
     pub arrivals : AreArrivals old.block old.workers (flow_of lanes_old lanes_new) old.gauges new.board.arrivals
     -- each sample that a lane gave is named once, and no other
-    pub once : (g i : ℕ) → g < old.gauges → hits g i new.board.arrivals ≡ between (at_of lanes_old g) (at_of lanes_new g) i
+    pub once : (g i : ℕ) → g < old.gauges →
+        hits g i new.board.arrivals ≡ between (at_of lanes_old g) (at_of lanes_new g) i

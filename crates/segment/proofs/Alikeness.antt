@@ -46,9 +46,17 @@ module _ (K : ℕ) (g s : EndPoints) (i : IsEnds K g) (j : IsEnds K s) (a : Alik
   open_turn : 2 ≤ g.points → IsTurn p g.first g.second → Opened g s (put p g) (put q s)
   open_turn n t =
       let l = a.long n in
-      let u : IsTurn q s.first s.second = subst (λ w. IsTurn q w s.second) (sym a.first) (turn_side p q g.first g.second s.second t d (a.second n)) in
+      let u : IsTurn q s.first s.second = subst (λ w. IsTurn q w s.second) (sym a.first)
+      (turn_side p q g.first g.second s.second t d (a.second n)) in
       opened_to (put_turn p g n t) (put_turn q s l u)
-      (record { balance = omega arith; short = λ w. let c = a.short (omega arith) in omega arith; many = omega arith; last = a.last; before = a.before n; three = λ w. a.first })
+      (record {
+        balance = omega arith;
+        short = λ w. let c = a.short (omega arith) in omega arith;
+        many = omega arith;
+        last = a.last;
+        before = a.before n;
+        three = λ w. a.first;
+      })
 
   passes : 2 ≤ g.points → IsBetween p g.first g.second → IsBetween q s.first s.second
   passes n t = subst (λ w. IsBetween q w s.second) (sym a.first) (between_side p q g.first g.second s.second t d (a.second n))
@@ -62,24 +70,48 @@ module _ (K : ℕ) (g s : EndPoints) (i : IsEnds K g) (j : IsEnds K s) (a : Alik
       let f : s.points ≡ 2 = omega arith in
       let u = passes (omega arith) t in
       let v = last_of_two g i n p t in
-      let w : IsBetween q g.first g.last = subst (λ z. IsBetween q z g.last) a.first (subst (λ z. IsBetween q s.first z) a.last (last_of_two s j f q u)) in
+      let w : IsBetween q g.first g.last = subst (λ z. IsBetween q z g.last) a.first
+      (subst (λ z. IsBetween q s.first z) a.last (last_of_two s j f q u)) in
       opened_to (put_two p g n t) (put_two q s f u)
-      (record { balance = omega arith; short = λ z. c; many = omega arith; last = a.last; before = far_side p q g.first g.last v w; three = λ z. absurd (omega arith) })
+      (record {
+        balance = omega arith;
+        short = λ z. c;
+        many = omega arith;
+        last = a.last;
+        before = far_side p q g.first g.last v w;
+        three = λ z. absurd (omega arith);
+      })
 
   open_both : 3 ≤ g.points → 3 ≤ s.points → IsBetween p g.first g.second → Opened g s (put p g) (put q s)
   open_both n m t =
       let u = passes (omega arith) t in
       opened_to (put_passed p g n t) (put_passed q s m u)
-      (record { balance = omega arith; short = λ z. a.short z; many = omega arith; last = a.last; before = a.before (omega arith); three = λ z. a.three z })
+      (record {
+        balance = omega arith;
+        short = λ z. a.short z;
+        many = omega arith;
+        last = a.last;
+        before = a.before (omega arith);
+        three = λ z. a.three z;
+      })
 
   open_one : 4 ≤ g.points → s.points ≡ 2 → IsBetween p g.first g.second → Opened g s (put p g) (put q s)
   open_one n m t =
       let u = passes (omega arith) t in
-      let w : IsBetween q g.first g.last = subst (λ z. IsBetween q z g.last) a.first (subst (λ z. IsBetween q s.first z) a.last (last_of_two s j m q u)) in
+      let w : IsBetween q g.first g.last = subst (λ z. IsBetween q z g.last) a.first
+      (subst (λ z. IsBetween q s.first z) a.last (last_of_two s j m q u)) in
       let b : OnSide g.last g.before g.first = subst (λ z. OnSide g.last g.before z) ((j.two m).0 ∙ a.first) (a.before (omega arith)) in
       let n' : 3 ≤ g.points = omega arith in
       opened_to (put_passed p g n' t) (put_two q s m u)
-      (record { balance = omega arith; short = λ z. absurd (omega arith); many = omega arith; last = a.last; before = near_side q g.first g.last g.before b w; three = λ z. absurd (omega arith) })
+      (record {
+        balance = omega arith;
+        short = λ z. absurd (omega arith);
+        many = omega arith;
+        last = a.last;
+        before = near_side q g.first
+            g.last g.before b w;
+        three = λ z. absurd (omega arith);
+      })
 
   open_more : 3 ≤ g.points → IsBetween p g.first g.second → ((s.points < 3) ⊎ (3 ≤ s.points)) → Opened g s (put p g) (put q s)
   open_more n t (inr m) = open_both n m t
@@ -131,7 +163,8 @@ module _ (K : ℕ) (e r : EndPoints) (i : IsEnds K e) (j : IsEnds K r) (a : Alik
           long = λ z. w.many;
           first = (put_first x r d).0 ∙ sym (put_first x e c).0;
           last = w.last;
-          second = λ z. subst (λ b. OnSide b (put x e).second (put x r).second) (sym (put_first x e c).0) (side_both x e.first _ _ s.0 (subst (λ b. OnSide x b (put x r).second) a.first t.0));
+          second = λ z. subst (λ b. OnSide b (put x e).second (put x r).second) (sym (put_first x e c).0)
+              (side_both x e.first _ _ s.0 (subst (λ b. OnSide x b (put x r).second) a.first t.0));
           before = λ z. w.before;
           three = w.three;
         };
@@ -143,7 +176,15 @@ module _ (K : ℕ) (e r : EndPoints) (i : IsEnds K e) (j : IsEnds K r) (a : Alik
       let c = a.short (omega arith) in
       let l : r.points ≡ 0 = omega arith in
       put_to (put_none x e n) (put_none x r l) (record {
-        alike = record { short = λ z. refl; long = λ z. absurd (omega arith); first = refl; last = refl; second = λ z. absurd (omega arith); before = λ z. absurd (omega arith); three = λ z. absurd (omega arith) };
+        alike = record {
+          short = λ z. refl;
+          long = λ z. absurd (omega arith);
+          first = refl;
+          last = refl;
+          second = λ z. absurd (omega arith);
+          before = λ z. absurd (omega arith);
+          three = λ z. absurd (omega arith);
+        };
         balance = omega arith;
       })
 
@@ -152,7 +193,8 @@ module _ (K : ℕ) (e r : EndPoints) (i : IsEnds K e) (j : IsEnds K r) (a : Alik
   some n (inr m) = let c = a.long m in omega arith
 
   put_some : 1 ≤ e.points → ((x ≡ e.first) ⊎ (x ≢ e.first)) → Put e r (put x e) (put x r)
-  put_some n (inl m) = put_to (put_equal x e n m) (put_equal x r (some n (cases_lt e.points 2)) (m ∙ sym a.first)) (record { alike = a; balance = omega arith })
+  put_some n (inl m) = put_to (put_equal x e n m) (put_equal x r (some n (cases_lt e.points 2)) (m ∙ sym a.first))
+      (record { alike = a; balance = omega arith })
   put_some n (inr m) = put_open n m (some n (cases_lt e.points 2)) (λ q. m (q ∙ a.first))
 
   put_any : ((e.points < 1) ⊎ (1 ≤ e.points)) → Put e r (put x e) (put x r)
@@ -173,7 +215,8 @@ met_to {e} {r} {f} {s} {h} {k} {h'} {k'} p q o = subst (λ w. Met e r f s w k') 
 side_next : (a x n m : ℕ) → OnSide a x n → OnSide a n m → OnSide a x m
 side_next a x n m s t = grind arith
 
-module _ (K : ℕ) (e r f s : EndPoints) (ie : IsEnds K e) (ir : IsEnds K r) (jf : IsEnds K f) (js : IsEnds K s) (a : Alike e r) (b : Alike f s) where
+module _ (K : ℕ) (e r f s : EndPoints) (ie : IsEnds K e) (ir : IsEnds K r) (jf : IsEnds K f) (js : IsEnds K s) (a : Alike e r)
+    (b : Alike f s) where
   one_put : Put f s (put e.last f) (put r.last s)
   one_put = put_to refl (ap (λ w. put w s) a.last) (put_alike K f s jf js b e.last)
 
@@ -181,10 +224,12 @@ module _ (K : ℕ) (e r f s : EndPoints) (ie : IsEnds K e) (ir : IsEnds K r) (jf
   ends_one = put_ends K r.last s js ir.below.3
 
   meet_zero : e.points ≡ 0 → Met e r f s (meets e f) (meets r s)
-  meet_zero n = let c = a.short (omega arith) in let l : r.points ≡ 0 = omega arith in met_to (meets_zero e f n) (meets_zero r s l) (record { alike = b; balance = omega arith })
+  meet_zero n = let c = a.short (omega arith) in let l : r.points ≡ 0 = omega arith in met_to (meets_zero e f n) (meets_zero r s l)
+      (record { alike = b; balance = omega arith })
 
   meet_one : e.points ≡ 1 → Met e r f s (meets e f) (meets r s)
-  meet_one n = let c = a.short (omega arith) in let l : r.points ≡ 1 = omega arith in let o = one_put.balance in met_to (meets_one e f n) (meets_one r s l) (record { alike = one_put.alike; balance = omega arith })
+  meet_one n = let c = a.short (omega arith) in let l : r.points ≡ 1 = omega arith in let o = one_put.balance in
+      met_to (meets_one e f n) (meets_one r s l) (record { alike = one_put.alike; balance = omega arith })
 
   opens : 2 ≤ e.points → Opened (put e.last f) (put r.last s) (put e.before (put e.last f)) (put r.before (put r.last s))
   opens n =
@@ -194,7 +239,8 @@ module _ (K : ℕ) (e r f s : EndPoints) (ie : IsEnds K e) (ir : IsEnds K r) (jf
       let p = put_first e.last f c in
       let q = put_first r.last s d in
       let i = put_ends K e.last f jf ie.below.3 in
-      opened K g (put r.last s) i ends_one one_put.alike e.before r.before (subst (λ w. OnSide w e.before r.before) (sym p.0) (a.before n)) p.1 (λ w. (ie.differ n).1 (w ∙ p.0)) (λ w. (ir.differ (a.long n)).1 (w ∙ q.0)) (case_of K e.before g i)
+      opened K g (put r.last s) i ends_one one_put.alike e.before r.before (subst (λ w. OnSide w e.before r.before) (sym p.0) (a.before n))
+      p.1 (λ w. (ie.differ n).1 (w ∙ p.0)) (λ w. (ir.differ (a.long n)).1 (w ∙ q.0)) (case_of K e.before g i)
 
   balances : (h k : EndPoints) → Opened (put e.last f) (put r.last s) h k → h.points + s.points ≡ f.points + k.points
   balances h k o = omega (arith, o.balance, one_put.balance)
@@ -208,7 +254,8 @@ module _ (K : ℕ) (e r f s : EndPoints) (ie : IsEnds K e) (ir : IsEnds K r) (jf
       let w = put_alike K (put e.last f) (put r.last s) i ends_one one_put.alike e.before in
       let o = one_put.balance in
       let v = w.balance in
-      met_to (meets_two e f n) (meets_two r s l ∙ ap (λ z. put z (put r.last s)) (sym m)) (record { alike = w.alike; balance = omega arith })
+      met_to (meets_two e f n) (meets_two r s l ∙ ap (λ z. put z (put r.last s)) (sym m))
+      (record { alike = w.alike; balance = omega arith })
 
   meet_long_long : 3 ≤ e.points → 3 ≤ r.points → Met e r f s (meets e f) (meets r s)
   meet_long_long n l =
@@ -240,7 +287,8 @@ module _ (K : ℕ) (e r f s : EndPoints) (ie : IsEnds K e) (ir : IsEnds K r) (jf
       let x = balances _ _ o in
       let k = put r.before (put r.last s) in
       let h = ir.two l in
-      let v : OnSide e.first r.second k.second = subst (λ w. OnSide w r.second k.second) (h.0 ∙ a.first) (subst (λ w. OnSide r.before w k.second) h.1 u.side) in
+      let v : OnSide e.first r.second k.second = subst (λ w. OnSide w r.second k.second) (h.0 ∙ a.first)
+      (subst (λ w. OnSide r.before w k.second) h.1 u.side) in
       met_to (meets_long e f n) (meets_two r s l) (record {
         alike = record {
           short = λ z. let c = a.short (omega arith) in absurd (omega arith);

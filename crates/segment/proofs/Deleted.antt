@@ -27,13 +27,28 @@ fit_before a b c d f = grind arith
 side_self : (a b : ℕ) → a ≢ b → OnSide a b b
 side_self a b n = grind arith
 
-end_side : (x : ℕ) (l : List ℕ) (d : ℕ) → IsZigzag (d ∷ x ∷ l) → OnSide (last_point (d ∷ x ∷ l)) (last_but_one (d ∷ x ∷ l)) (last_but_one (d ∷ x ∷ l))
+end_side : (x : ℕ) (l : List ℕ) (d : ℕ) → IsZigzag (d ∷ x ∷ l) →
+    OnSide (last_point (d ∷ x ∷ l)) (last_but_one (d ∷ x ∷ l)) (last_but_one (d ∷ x ∷ l))
 end_side x [] d z = side_self x d (λ e. ends_differ z (sym e))
 end_side x (y ∷ l) d z = end_side y l x (zig_tail z)
 
 here_same : (a b c d : ℕ) (q : List ℕ) → IsZigzag (a ∷ b ∷ c ∷ d ∷ q) → Encloses a b c d → Same (a ∷ b ∷ c ∷ d ∷ q) (a ∷ d ∷ q)
-here_same a b c d [] z f = record { long = omega arith; many = omega arith; first = refl; second = fit_second a b c d f; last = refl; before = fit_before a b c d f }
-here_same a b c d (x ∷ q) z f = record { long = omega arith; many = omega arith; first = refl; second = fit_second a b c d f; last = refl; before = end_side x q d (zig_tail (zig_tail (zig_tail z))) }
+here_same a b c d [] z f = record {
+  long = omega arith;
+  many = omega arith;
+  first = refl;
+  second = fit_second a b c d f;
+  last = refl;
+  before = fit_before a b c d f;
+}
+here_same a b c d (x ∷ q) z f = record {
+  long = omega arith;
+  many = omega arith;
+  first = refl;
+  second = fit_second a b c d f;
+  last = refl;
+  before = end_side x q d (zig_tail (zig_tail (zig_tail z)));
+}
 
 past_same : (h : ℕ) (l m : List ℕ) → IsZigzag (h ∷ l) → Same l m → Same (h ∷ l) (h ∷ m)
 past_same h [] m z s = absurd (let o = s.long in omega arith)

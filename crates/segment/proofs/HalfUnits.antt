@@ -25,7 +25,8 @@ same_sums f g k zero e = refl
 same_sums f g k (suc n) e = omega (arith, same_sums f g k n e, e n (n + k))
 
 -- over all pairs of classes so far apart
-pub range_stands : (v : SegmentValue) (gain : GainValue) (w : List ℤ) (k : ℕ) → StandsFor v (history v.grid gain w) → k < v.grid.classes → sum_at_range (halves_of v) k (v.grid.classes - k) ≡ half_units (history v.grid gain w) k
+pub range_stands : (v : SegmentValue) (gain : GainValue) (w : List ℤ) (k : ℕ) → StandsFor v (history v.grid gain w) → k < v.grid.classes →
+    sum_at_range (halves_of v) k (v.grid.classes - k) ≡ half_units (history v.grid gain w) k
 range_stands v gain w k s inside =
     let h = history v.grid gain w in
     let n : v.grid.classes - k + k ≡ v.grid.classes = omega arith in
@@ -38,16 +39,28 @@ picked false n m t h = omega arith
 
 pub count_few : (cells : List Cell) (lo hi : ℕ) → count_of cells lo hi ≤ total_of cells
 count_few [] lo hi = omega arith
-count_few (c ∷ cells) lo hi = omega (arith, picked (is_pair lo hi (pair_of c)) c.n (count_of cells lo hi) (total_of cells) (count_few cells lo hi), sum_by-cons (λ (d : Cell). d.n) c cells)
+count_few (c ∷ cells) lo hi = omega (
+  arith,
+  picked (is_pair lo hi (pair_of c)) c.n (count_of cells lo hi) (total_of cells)
+      (count_few cells lo hi),
+  sum_by-cons (λ (d : Cell). d.n) c cells,
+)
 
-pub halves_few : (v : SegmentValue) (n m : ℕ) (lo hi : ℕ) → 2 * total_of v.tally.cells ≤ 2 ^ 40 → m ≤ 2 ^ 41 → n ≡ count_of v.tally.cells lo hi → 2 * n + m ≤ 2 ^ 42
+pub halves_few : (v : SegmentValue) (n m : ℕ) (lo hi : ℕ) → 2 * total_of v.tally.cells ≤ 2 ^ 40 → m ≤ 2 ^ 41 →
+    n ≡ count_of v.tally.cells lo hi → 2 * n + m ≤ 2 ^ 42
 halves_few v n m lo hi h k e = omega (arith, count_few v.tally.cells lo hi)
 
 -- cycles and neighbours apart
 pub range_parts : (v : SegmentValue) (k : ℕ) → All (λ level. level < v.grid.classes) v.reducer.residue → k < v.grid.classes →
-    sum_at_range (doubled_cycles v) k (v.grid.classes - k) + half_units_at_range k (neighbours v.reducer.residue) ≡ sum_at_range (halves_of v) k (v.grid.classes - k)
+    sum_at_range (doubled_cycles v) k (v.grid.classes - k) + half_units_at_range k (neighbours v.reducer.residue) ≡ sum_at_range
+    (halves_of v) k (v.grid.classes - k)
 range_parts v k below inside =
     let r = neighbours v.reducer.residue in
     let n : v.grid.classes - k + k ≡ v.grid.classes = omega arith in
-    let all = neighbours_within (v.grid.classes - k + k) v.reducer.residue (subst (λ m. All (λ level. level < m) v.reducer.residue) (sym n) below) in
-    omega (arith, sum_at_range-added (doubled_cycles v) (λ lo hi. half_units_of_pair lo hi r) k (v.grid.classes - k), sum_is k (v.grid.classes - k) r all)
+    let all = neighbours_within (v.grid.classes - k + k) v.reducer.residue
+    (subst (λ m. All (λ level. level < m) v.reducer.residue) (sym n) below) in
+    omega (
+      arith,
+      sum_at_range-added (doubled_cycles v) (λ lo hi. half_units_of_pair lo hi r) k (v.grid.classes - k),
+      sum_is k (v.grid.classes - k) r all,
+    )

@@ -12,9 +12,11 @@ use Rattle.segment.specs.Segment.{SegmentValue}
 use Rattle.segment.specs.Figures.{SameKept, residues, last_end}
 
 -- the residue for the two residues, where the cycles gained count two half units
-pub joined_halves : (r s n : List ℕ) (k : ℕ) (c m : ℕ → ℕ → ℕ) → AddsCycles (points (r ++ s)) c n m → IsResidue k n → (q : List ℕ) (lo hi : ℕ) → 2 * m lo hi + three_point (n ++ q) lo hi ≡ 2 * c lo hi + three_point (r ++ (s ++ q)) lo hi
+pub joined_halves : (r s n : List ℕ) (k : ℕ) (c m : ℕ → ℕ → ℕ) → AddsCycles (points (r ++ s)) c n m → IsResidue k n →
+    (q : List ℕ) (lo hi : ℕ) → 2 * m lo hi + three_point (n ++ q) lo hi ≡ 2 * c lo hi + three_point (r ++ (s ++ q)) lo hi
 joined_halves r s n k c m u i q lo hi =
-    let t = takes_half_units [] (r ++ s) q (λ a b. count_in a b u.pairs) n (record { pairs = u.pairs; by = u.by; counts = λ a b. refl; irreducible = i.irreducible }) lo hi in
+    let t = takes_half_units [] (r ++ s) q (λ a b. count_in a b u.pairs) n
+    (record { pairs = u.pairs; by = u.by; counts = λ a b. refl; irreducible = i.irreducible }) lo hi in
     omega (arith, t, u.counts lo hi, ap (λ l. three_point l lo hi) (append_assoc r s q))
 
 two_last : (x v w : SegmentValue) (l : List SegmentValue) → x.to ≡ w.to → last_end (x ∷ l) ≡ last_end (v ∷ w ∷ l)
@@ -24,8 +26,11 @@ two_last x v w (y ∷ l) e = refl
 two_sums : (f : SegmentValue → ℕ) (x v w : SegmentValue) (l : List SegmentValue) → f x ≡ f v + f w → sum_by f (x ∷ l) ≡ sum_by f (v ∷ w ∷ l)
 two_sums f x v w l e = omega (arith, e, sum_by-cons f x l, sum_by-cons f v (w ∷ l), sum_by-cons f w l)
 
-pub same_kept : (x v w : SegmentValue) → x.to ≡ w.to → x.used ≡ v.used + w.used → x.missing ≡ v.missing + w.missing → x.refused ≡ v.refused + w.refused →
-    ((q : List ℕ) (lo hi : ℕ) → 2 * count_of x.tally.cells lo hi + three_point (x.reducer.residue ++ q) lo hi ≡ 2 * (count_of v.tally.cells lo hi + count_of w.tally.cells lo hi) + three_point (v.reducer.residue ++ (w.reducer.residue ++ q)) lo hi) → (l : List SegmentValue) → SameKept (x ∷ l) (v ∷ w ∷ l)
+pub same_kept : (x v w : SegmentValue) → x.to ≡ w.to → x.used ≡ v.used + w.used → x.missing ≡ v.missing + w.missing →
+    x.refused ≡ v.refused + w.refused →
+    ((q : List ℕ) (lo hi : ℕ) → 2 * count_of x.tally.cells lo hi + three_point (x.reducer.residue ++ q) lo hi ≡ 2 *
+    (count_of v.tally.cells lo hi + count_of w.tally.cells lo hi) + three_point (v.reducer.residue ++ (w.reducer.residue ++ q)) lo hi) →
+    (l : List SegmentValue) → SameKept (x ∷ l) (v ∷ w ∷ l)
 same_kept x v w a b c d f l = record {
   last = two_last x v w l a;
   used = two_sums (λ y. y.used) x v w l b;

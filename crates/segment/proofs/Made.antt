@@ -33,7 +33,8 @@ bins_below u bs k a = by bs a
 
     by : (bs : List Bin) → All (λ b. b.n < u) bs → count_at k bs ≤ u - 1
     by [] a = omega arith
-    by (b ∷ bs) a = let n = All-head (λ b. b.n < u) b bs a in pick (k == b.key) b.n (count_at k bs) (omega (arith, n)) (by bs (All-tail (λ b. b.n < u) b bs a))
+    by (b ∷ bs) a = let n = All-head (λ b. b.n < u) b bs a in pick (k == b.key) b.n (count_at k bs) (omega (arith, n))
+        (by bs (All-tail (λ b. b.n < u) b bs a))
 
 side_of_turn : (p x n q : ℕ) → p ≡ q → IsTurn x q n → OnSide p x n
 side_of_turn p x n q e h = grind arith
@@ -47,7 +48,8 @@ few_cases n = grind arith
 -- the ends of a residue, where the points' ends lie beside it
 module _ (k : ℕ) (e : EndPoints) (r : List ℕ) (i : IsEnded k e r) where
   first_same : ((e.points ≡ 0) ⊎ ((e.points ≡ 1) ⊎ (2 ≤ e.points))) → (ends_of r).first ≡ e.first
-  first_same (inl z) = let n = i.short (omega (arith, z)) in none_first r (omega (arith, n, z)) ∙ sym (ap (λ (v : EndPoints). v.first) (i.none z))
+  first_same (inl z) = let n = i.short (omega (arith, z)) in none_first r (omega (arith, n, z))
+      ∙ sym (ap (λ (v : EndPoints). v.first) (i.none z))
     where
       none_first : (r : List ℕ) → length r ≡ 0 → slice_index r 0 ≡ 0
       none_first [] h = refl
@@ -56,7 +58,8 @@ module _ (k : ℕ) (e : EndPoints) (r : List ℕ) (i : IsEnded k e r) where
   first_same (inr (inr m)) = sym (i.more m).first_is
 
   last_same : ((e.points ≡ 0) ⊎ ((e.points ≡ 1) ⊎ (2 ≤ e.points))) → (ends_of r).last ≡ e.last
-  last_same (inl z) = let n = i.short (omega (arith, z)) in none_last r (omega (arith, n, z)) ∙ sym (ap (λ (v : EndPoints). v.last) (i.none z))
+  last_same (inl z) = let n = i.short (omega (arith, z)) in none_last r (omega (arith, n, z))
+      ∙ sym (ap (λ (v : EndPoints). v.last) (i.none z))
     where
       none_last : (r : List ℕ) → length r ≡ 0 → (ends_of r).last ≡ 0
       none_last [] h = refl
@@ -64,7 +67,8 @@ module _ (k : ℕ) (e : EndPoints) (r : List ℕ) (i : IsEnded k e r) where
   last_same (inr (inl z)) =
       let n = i.short (omega (arith, z)) in sym (last_place r 0 (omega (arith, n, z))) ∙ sym (ap (λ (v : EndPoints). v.last) (i.one z))
   last_same (inr (inr m)) =
-      let n = long_enough e.points (length r) m i.short i.long in sym (last_place r (length r - 1) (omega (arith, n))) ∙ sym (i.more m).last_is
+      let n = long_enough e.points (length r) m i.short i.long in sym (last_place r (length r - 1) (omega (arith, n)))
+      ∙ sym (i.more m).last_is
 
   pub alike_are : Alike e (ends_of r)
   alike_are = record {
@@ -97,21 +101,38 @@ made_of g p n t r x c = record {
   simple = c;
 }
 
-module _ (g : GridValue) (p : PartsValue) (n : ℕ) (t : Counts) (r : ReducerValue) (x : CrossingsValue) (c : SimpleValue) (grid : IsGrid g) (s : AreSegment g p)
+module _ (g : GridValue) (p : PartsValue) (n : ℕ) (t : Counts) (r : ReducerValue) (x : CrossingsValue) (c : SimpleValue) (grid : IsGrid g)
+    (s : AreSegment g p)
     (longest : n ≡ longest_of p.name) (cells : t ≡ record { classes = g.classes; room = room_for g.classes n; cells = p.cells })
     (residue : r ≡ record { classes = g.classes; residue = p.residue })
-    (x_grid : (x.classes ≡ g.classes) × (x.reference ≡ g.reference)) (crossed : (l : ℕ) → crossing_count x l ≡ count_at l p.crossings) (x_ends : HasEnds x p.ends)
+    (x_grid : (x.classes ≡ g.classes) × (x.reference ≡ g.reference)) (crossed : (l : ℕ) → crossing_count x l ≡ count_at l p.crossings)
+    (x_ends : HasEnds x p.ends)
     (c_grid : (c.classes ≡ g.classes) × (c.reference ≡ g.reference)) (rules : IsSimple c) (ends : c.ends ≡ p.ends)
-    (ranges : (k : ℕ) → range_count c k ≡ count_at k p.ranges) (peaks : (l : ℕ) → peak_count c l ≡ count_at l p.peaks) (valleys : (l : ℕ) → valley_count c l ≡ count_at l p.valleys) where
+    (ranges : (k : ℕ) → range_count c k ≡ count_at k p.ranges) (peaks : (l : ℕ) → peak_count c l ≡ count_at l p.peaks)
+    (valleys : (l : ℕ) → valley_count c l ≡ count_at l p.valleys) where
   abbrev made : EndPoints → List ℕ → List Cell → List Bin → List Bin → List Bin → List Bin → PartsValue
-  made e r cells a b v k = record { name = p.name; used = p.used; missing = p.missing; refused = p.refused; ends = e; residue = r; cells = cells; crossings = a; peaks = b; valleys = v; ranges = k }
+  made e r cells a b v k = record {
+    name = p.name;
+    used = p.used;
+    missing = p.missing;
+    refused = p.refused;
+    ends = e;
+    residue = r;
+    cells = cells;
+    crossings = a;
+    peaks = b;
+    valleys = v;
+    ranges = k;
+  }
 
-  same : (e : EndPoints) (r : List ℕ) (cells : List Cell) (a b v k : List Bin) → e ≡ p.ends → r ≡ p.residue → cells ≡ p.cells → a ≡ p.crossings → b ≡ p.peaks → v ≡ p.valleys → k ≡ p.ranges
+  same : (e : EndPoints) (r : List ℕ) (cells : List Cell) (a b v k : List Bin) → e ≡ p.ends → r ≡ p.residue → cells ≡ p.cells →
+      a ≡ p.crossings → b ≡ p.peaks → v ≡ p.valleys → k ≡ p.ranges
       → made e r cells a b v k ≡ p
   same e r cells a b v k e0 e1 e2 e3 e4 e5 e6 =
       ap (λ y. made y r cells a b v k) e0 ∙ ap (λ y. made p.ends y cells a b v k) e1 ∙ ap (λ y. made p.ends p.residue y a b v k) e2
       ∙ ap (λ y. made p.ends p.residue p.cells y b v k) e3 ∙ ap (λ y. made p.ends p.residue p.cells p.crossings y v k) e4
-      ∙ ap (λ y. made p.ends p.residue p.cells p.crossings p.peaks y k) e5 ∙ ap (λ y. made p.ends p.residue p.cells p.crossings p.peaks p.valleys y) e6
+      ∙ ap (λ y. made p.ends p.residue p.cells p.crossings p.peaks y k) e5
+      ∙ ap (λ y. made p.ends p.residue p.cells p.crossings p.peaks p.valleys y) e6
 
   pub parts_are : parts_of (made_of g p n t r x c) ≡ p
   parts_are =
@@ -142,10 +163,17 @@ module _ (g : GridValue) (p : PartsValue) (n : ℕ) (t : Counts) (r : ReducerVal
         readings = omega (arith, q.readings);
         used = omega (arith, points, q.points);
         none = λ z. q.no_points (omega (arith, z, points));
-        balance = omega (arith, points, q.cycles, ap (λ (v : ReducerValue). length v.residue) residue, ap (λ (v : Counts). total_of v.cells) cells);
+        balance = omega (
+          arith,
+          points,
+          q.cycles,
+          ap (λ (v : ReducerValue). length v.residue) residue,
+          ap (λ (v : Counts). total_of v.cells) cells,
+        );
         crossed = λ l. omega (arith, crossed l, bins_below p.used p.crossings l q.crossings);
         simple = rules;
         ends = subst (HasEnds x) (sym ends) x_ends;
         residue = subst (IsResidue g.classes) (sym (ap (λ (v : ReducerValue). v.residue) residue)) s.residue;
-        alike = subst (λ e. Alike e (ends_of r.residue)) (sym ends) (subst (λ l. Alike p.ends (ends_of l)) (sym (ap (λ (v : ReducerValue). v.residue) residue)) (alike_are g.classes p.ends p.residue s.ended));
+        alike = subst (λ e. Alike e (ends_of r.residue)) (sym ends) (subst (λ l. Alike p.ends (ends_of l))
+            (sym (ap (λ (v : ReducerValue). v.residue) residue)) (alike_are g.classes p.ends p.residue s.ended));
       }

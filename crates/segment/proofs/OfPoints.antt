@@ -29,13 +29,39 @@ side_self : (a b : ℕ) → a ≢ b → OnSide a b b
 side_self a b n = grind arith
 
 self_alike : (k : ℕ) (e : EndPoints) → IsEnds k e → Alike e e
-self_alike k e i = record { short = λ q. refl; long = λ q. q; first = refl; last = refl; second = λ q. side_self e.first e.second (i.differ q).0; before = λ q. side_self e.last e.before (λ p. (i.differ q).1 (sym p)); three = λ q. refl }
+self_alike k e i = record {
+  short = λ q. refl;
+  long = λ q. q;
+  first = refl;
+  last = refl;
+  second = λ q. side_self e.first e.second
+      (i.differ q).0;
+  before = λ q. side_self e.last e.before (λ p. (i.differ q).1 (sym p));
+  three = λ q. refl;
+}
 
-pub block_rules : (v : SegmentValue) (p : List ℕ) (u m f : ℕ) (t : Tallied) (q : ReducerValue) (x : CrossingsValue) (z : SimpleValue) → IsSegment v → points p ≡ p → All (λ l. l < v.grid.classes) p → length p ≤ u → (length p ≡ 0 → u ≡ 0) → v.from + (u + m + f) ≤ MAX_SAMPLES → u + m + f ≤ v.longest →
-    AddsCycles p (λ lo hi. 0) q.residue (count_of t.cells) → 2 * total_of t.cells + length q.residue ≡ length p → IsResidue q.classes q.residue → q.classes ≡ v.reducer.classes → t.classes ≡ v.tally.classes → t.room ≡ v.tally.room →
-    (x.classes ≡ v.crossings.classes) × (x.reference ≡ v.crossings.reference) → x.some ≡ is_some p → x.first ≡ first_of p → x.last ≡ last_point p → ((l : ℕ) → count_at x l ≡ crossings v.crossings.reference l p) →
+pub block_rules : (v : SegmentValue) (p : List ℕ) (u m f : ℕ) (t : Tallied) (q : ReducerValue) (x : CrossingsValue) (z : SimpleValue) →
+    IsSegment v → points p ≡ p → All (λ l. l < v.grid.classes) p → length p ≤ u → (length p ≡ 0 → u ≡ 0) →
+    v.from + (u + m + f) ≤ MAX_SAMPLES → u + m + f ≤ v.longest →
+    AddsCycles p (λ lo hi. 0) q.residue (count_of t.cells) → 2 * total_of t.cells + length q.residue ≡ length p →
+    IsResidue q.classes q.residue → q.classes ≡ v.reducer.classes → t.classes ≡ v.tally.classes → t.room ≡ v.tally.room →
+    (x.classes ≡ v.crossings.classes) × (x.reference ≡ v.crossings.reference) → x.some ≡ is_some p → x.first ≡ first_of p →
+    x.last ≡ last_point p → ((l : ℕ) → count_at x l ≡ crossings v.crossings.reference l p) →
     (z.classes ≡ v.simple.classes) × (z.reference ≡ v.simple.reference) → z.ends ≡ ends_of p → IsSimple z →
-    IsSegment (record { grid = v.grid; gauge = v.gauge; from = v.from; to = v.from + (u + m + f); longest = v.longest; used = u; missing = m; refused = f; tally = t; reducer = q; crossings = x; simple = z })
+    IsSegment (record {
+      grid = v.grid;
+      gauge = v.gauge;
+      from = v.from;
+      to = v.from + (u + m + f);
+      longest = v.longest;
+      used = u;
+      missing = m;
+      refused = f;
+      tally = t;
+      reducer = q;
+      crossings = x;
+      simple = z;
+    })
 block_rules v p u m f t q x z i own_p below few none room long s b r qc tc rc xg xs xf xl xn zg ze zc =
     let o = i.over in
     let k = v.grid.classes in
@@ -46,7 +72,14 @@ block_rules v p u m f t q x z i own_p below few none room long s b r qc tc rc xg
     let n = ap (λ w. w.points) ze in
     let c = i.longest in
     record {
-      over = record { limits = o.limits; tally = tc ∙ o.tally; room = rc ∙ o.room; reducer = qc ∙ o.reducer; crossings = (xg.0 ∙ o.crossings.0, xg.1 ∙ o.crossings.1); simple = (zg.0 ∙ o.simple.0, zg.1 ∙ o.simple.1) };
+      over = record {
+        limits = o.limits;
+        tally = tc ∙ o.tally;
+        room = rc ∙ o.room;
+        reducer = qc ∙ o.reducer;
+        crossings = (xg.0 ∙ o.crossings.0, xg.1 ∙ o.crossings.1);
+        simple = (zg.0 ∙ o.simple.0, zg.1 ∙ o.simple.1);
+      };
       span = (omega arith, room);
       longest = (c.0, c.1, omega arith);
       readings = omega arith;
@@ -61,10 +94,13 @@ block_rules v p u m f t q x z i own_p below few none room long s b r qc tc rc xg
     }
 
 pub closes_result : (p r : List ℕ) (c : ℕ → ℕ → ℕ) (k : ℕ) → AddsCycles p (λ lo hi. 0) r c → IsResidue k r → IsFourPointResult p c r
-closes_result p r c k s i = record { pairs = s.pairs; by = s.by; counts = λ lo hi. omega (arith, s.counts lo hi); irreducible = i.irreducible }
+closes_result p r c k s i =
+    record { pairs = s.pairs; by = s.by; counts = λ lo hi. omega (arith, s.counts lo hi); irreducible = i.irreducible }
 
-pub points_below : (grid : GridValue) (gain : GainValue) (w : List ℤ) (p : List ℕ) (k : ℕ) → p ≡ points (history grid gain w) → grid.classes ≡ k → All (λ l. l < k) p
-points_below grid gain w p k e n = subst (λ j. All (λ l. l < j) p) n (subst (All (λ l. l < grid.classes)) (sym e) (All-points (λ l. l < grid.classes) (history grid gain w) (history_below grid gain w)))
+pub points_below : (grid : GridValue) (gain : GainValue) (w : List ℤ) (p : List ℕ) (k : ℕ) → p ≡ points (history grid gain w) →
+    grid.classes ≡ k → All (λ l. l < k) p
+points_below grid gain w p k e n = subst (λ j. All (λ l. l < j) p) n (subst (All (λ l. l < grid.classes)) (sym e)
+    (All-points (λ l. l < grid.classes) (history grid gain w) (history_below grid gain w)))
 
 pub points_own : (h p : List ℕ) → p ≡ points h → points p ≡ p
 points_own h p e = ap points e ∙ own (zig_points h) ∙ sym e

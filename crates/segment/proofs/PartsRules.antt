@@ -37,17 +37,21 @@ many_open n x h = grind (arith, nat_tests)
 
 -- the tables of extremes and of ranges, in sums
 module _ (v : SimpleValue) (s : IsSimple v) where
-  peaks_sum : sum_of (bins_from (peak_count v) v.reference (v.classes - v.reference)) ≡ sum_from (slice_index v.extremes) v.reference (v.classes - v.reference)
+  peaks_sum : sum_of (bins_from (peak_count v) v.reference (v.classes - v.reference)) ≡ sum_from (slice_index v.extremes) v.reference
+      (v.classes - v.reference)
   peaks_sum =
       listed_sum (peak_count v) v.reference (v.classes - v.reference)
-      ∙ sum_same (peak_count v) (slice_index v.extremes) v.reference (v.classes - v.reference) (λ k from to. at_or_above v.reference k (slice_index v.extremes k) from)
+      ∙ sum_same (peak_count v) (slice_index v.extremes) v.reference (v.classes - v.reference)
+      (λ k from to. at_or_above v.reference k (slice_index v.extremes k) from)
 
   valleys_sum : sum_of (bins_from (valley_count v) 0 v.reference) ≡ sum_from (slice_index v.extremes) 0 v.reference
   valleys_sum =
       listed_sum (valley_count v) 0 v.reference
-      ∙ sum_same (valley_count v) (slice_index v.extremes) 0 v.reference (λ k from to. under v.reference k (slice_index v.extremes k) (omega (arith, to)))
+      ∙ sum_same (valley_count v) (slice_index v.extremes) 0 v.reference (λ k from to. under v.reference k (slice_index v.extremes k)
+      (omega (arith, to)))
 
-  pub extremes_sum : sum_of (bins_from (peak_count v) v.reference (v.classes - v.reference)) + sum_of (bins_from (valley_count v) 0 v.reference) ≤ v.ends.points - 2
+  pub extremes_sum : sum_of (bins_from (peak_count v) v.reference (v.classes - v.reference)) + sum_of
+      (bins_from (valley_count v) 0 v.reference) ≤ v.ends.points - 2
   extremes_sum =
       let parts = sum_parts (slice_index v.extremes) 0 v.reference (v.classes - v.reference) in
       let all : v.reference + (v.classes - v.reference) ≡ length v.extremes = omega (arith, s.extremes, s.reference.1) in
@@ -69,14 +73,17 @@ module _ (v : SimpleValue) (s : IsSimple v) where
       let all : 1 + (v.classes - 1) ≡ length v.decided = omega (arith, s.decided, s.classes.0) in
       omega (arith, parts, ap (sum_from (slice_index v.decided) 0) all, table_sum v.decided, s.none_at_zero, s.agrees.sum_of)
 
-  open_sum : ((v.ends.points < 2) ⊎ (2 ≤ v.ends.points)) → v.ends.points - 2 + sum_from (λ k. open_at k v.ends) 1 (v.classes - 1) ≡ v.ends.points - 1
+  open_sum : ((v.ends.points < 2) ⊎ (2 ≤ v.ends.points)) →
+      v.ends.points - 2 + sum_from (λ k. open_at k v.ends) 1 (v.classes - 1) ≡ v.ends.points - 1
   open_sum (inl few) =
-      let none = sum_same (λ k. open_at k v.ends) (λ k. 0) 1 (v.classes - 1) (λ k from to. few_open v.ends.points (is_at k (last_range v.ends)) few) in
+      let none = sum_same (λ k. open_at k v.ends) (λ k. 0) 1 (v.classes - 1)
+      (λ k from to. few_open v.ends.points (is_at k (last_range v.ends)) few) in
       omega (arith, few, none, sum_zero 1 (v.classes - 1))
   open_sum (inr many) =
       let w = s.ends.below in
       let r = range_within v.classes v.ends.before v.ends.last w.2 w.3 (s.ends.differ many).1 in
-      let one = sum_same (λ k. open_at k v.ends) (λ k. is_at k (last_range v.ends)) 1 (v.classes - 1) (λ k from to. many_open v.ends.points (is_at k (last_range v.ends)) many) in
+      let one = sum_same (λ k. open_at k v.ends) (λ k. is_at k (last_range v.ends)) 1 (v.classes - 1)
+      (λ k from to. many_open v.ends.points (is_at k (last_range v.ends)) many) in
       omega (arith, many, one, sum_one (last_range v.ends) 1 (v.classes - 1) r.0 (omega (arith, r.1)))
 
   pub ranges_sum : sum_of (bins_from (range_count v) 1 (v.classes - 1)) ≡ v.ends.points - 1
@@ -90,8 +97,10 @@ module _ (v : SimpleValue) (s : IsSimple v) where
       )
 
   -- a range is counted by its bin
-  told : (a b : ℕ) → a < v.classes → b < v.classes → a ≢ b → count_at (range a b) (bins_from (range_count v) 1 (v.classes - 1)) ≡ range_count v (range a b)
-  told a b p q n = let r = range_within v.classes a b p q n in bins_count (range_count v) 1 (v.classes - 1) (range a b) r.0 (omega (arith, r.1))
+  told : (a b : ℕ) → a < v.classes → b < v.classes → a ≢ b →
+      count_at (range a b) (bins_from (range_count v) 1 (v.classes - 1)) ≡ range_count v (range a b)
+  told a b p q n = let r = range_within v.classes a b p q n in bins_count (range_count v) 1 (v.classes - 1) (range a b) r.0
+      (omega (arith, r.1))
 
   open_here : (k : ℕ) (e : EndPoints) → 2 ≤ e.points → k ≡ last_range e → open_at k e ≡ 1
   open_here k e many same = grind (arith, nat_tests)
@@ -124,13 +133,16 @@ turn_of_side p x n q e h = grind arith
 abbrev made : ℕ → ℕ → ℕ → ℕ → ℕ → EndPoints
 made n a b c d = record { points = n; first = a; second = b; before = c; last = d }
 
-ends_five : (n a b c d : ℕ) (e : EndPoints) → e.points ≡ n → e.first ≡ a → e.second ≡ b → e.before ≡ c → e.last ≡ d → e ≡ record { points = n; first = a; second = b; before = c; last = d }
+ends_five : (n a b c d : ℕ) (e : EndPoints) → e.points ≡ n → e.first ≡ a → e.second ≡ b → e.before ≡ c → e.last ≡ d →
+    e ≡ record { points = n; first = a; second = b; before = c; last = d }
 ends_five n a b c d e p q r s t =
-    ap (λ m. made m e.first e.second e.before e.last) p ∙ ap (λ m. made n m e.second e.before e.last) q ∙ ap (λ m. made n a m e.before e.last) r
+    ap (λ m. made m e.first e.second e.before e.last) p ∙ ap (λ m. made n m e.second e.before e.last) q
+    ∙ ap (λ m. made n a m e.before e.last) r
     ∙ ap (λ m. made n a b m e.last) s ∙ ap (made n a b c) t
 
 module _ (k : ℕ) (e : EndPoints) (r : List ℕ) (i : IsEnds k e) (a : Alike e (ends_of r)) where
-  beside : 2 ≤ e.points → HasEndsBeside k e (slice_index r 0) (slice_index r 1) (slice_index r (length r - 2)) (slice_index r (length r - 1))
+  beside : 2 ≤ e.points → HasEndsBeside k e (slice_index r 0) (slice_index r 1) (slice_index r (length r - 2))
+      (slice_index r (length r - 1))
   beside m =
       let long = a.long m in
       let last = last_place r (length r - 1) (omega (arith, long)) in
@@ -139,7 +151,8 @@ module _ (k : ℕ) (e : EndPoints) (r : List ℕ) (i : IsEnds k e) (a : Alike e 
         first_is = sym a.first;
         last_is = sym (last ∙ a.last);
         second_side = turn_of_side e.first e.second (slice_index r 1) (slice_index r 0) a.first (a.second m);
-        before_side = turn_of_side e.last e.before (slice_index r (length r - 2)) (slice_index r (length r - 1)) (last ∙ a.last) (subst (OnSide e.last e.before) (sym before) (a.before m));
+        before_side = turn_of_side e.last e.before (slice_index r (length r - 2)) (slice_index r (length r - 1)) (last ∙ a.last)
+            (subst (OnSide e.last e.before) (sym before) (a.before m));
         second_below = i.below.1;
         before_below = i.below.2;
         two = λ z.
@@ -192,11 +205,15 @@ module _ (v : SegmentValue) (s : IsSegment v) where
     cycles = omega (arith, s.balance);
     crossings = listed_below (crossing_count v.crossings) v.used 1 (v.grid.classes - 1) s.crossed;
     extremes =
-        subst (λ r. sum_of (bins_from (peak_count v.simple) r (v.grid.classes - r)) + sum_of (bins_from (valley_count v.simple) 0 r) ≤ v.simple.ends.points - 2) reference_is
-        (subst (λ k. sum_of (bins_from (peak_count v.simple) v.simple.reference (k - v.simple.reference)) + sum_of (bins_from (valley_count v.simple) 0 v.simple.reference)
+        subst (λ r. sum_of (bins_from (peak_count v.simple) r (v.grid.classes - r)) + sum_of (bins_from (valley_count v.simple) 0 r) ≤
+        v.simple.ends.points - 2) reference_is
+        (subst (λ k. sum_of (bins_from (peak_count v.simple) v.simple.reference (k - v.simple.reference)) + sum_of
+        (bins_from (valley_count v.simple) 0 v.simple.reference)
         ≤ v.simple.ends.points - 2) classes_are (extremes_sum v.simple s.simple));
-    ranges = subst (λ k. sum_of (bins_from (range_count v.simple) 1 (k - 1)) ≡ v.simple.ends.points - 1) classes_are (ranges_sum v.simple s.simple);
-    end_ranges = λ two. subst (λ k. CountsEnds v.simple.ends (bins_from (range_count v.simple) 1 (k - 1))) classes_are (ends_counted v.simple s.simple two);
+    ranges = subst (λ k. sum_of (bins_from (range_count v.simple) 1 (k - 1)) ≡ v.simple.ends.points - 1) classes_are
+        (ranges_sum v.simple s.simple);
+    end_ranges = λ two. subst (λ k. CountsEnds v.simple.ends (bins_from (range_count v.simple) 1 (k - 1))) classes_are
+        (ends_counted v.simple s.simple two);
   }
 
   -- the rules of a segment are those of its parts
@@ -205,7 +222,8 @@ module _ (v : SegmentValue) (s : IsSegment v) where
     ordered = ordered_parts cells;
     summed = summed_parts;
     residue = s.residue;
-    ended = subst (λ k. IsEnded k v.simple.ends v.reducer.residue) classes_are (ended v.simple.classes v.simple.ends v.reducer.residue s.simple.ends s.alike);
+    ended = subst (λ k. IsEnded k v.simple.ends v.reducer.residue) classes_are
+        (ended v.simple.classes v.simple.ends v.reducer.residue s.simple.ends s.alike);
   }
 
 -- of any segment, whose tally is one

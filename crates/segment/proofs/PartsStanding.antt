@@ -47,38 +47,50 @@ some_points (x ∷ p) = grind (arith, nat_tests)
 
 -- what the lists of the parts tell is what the segment tells
 module _ (v : SegmentValue) (i : IsSegment v) where
-  crossing_listed : (l : ℕ) → 1 ≤ l → l < v.grid.classes → listed_at l (bins_from (count_at v.crossings) 1 (v.grid.classes - 1)) ≡ count_at v.crossings l
+  crossing_listed : (l : ℕ) → 1 ≤ l → l < v.grid.classes →
+      listed_at l (bins_from (count_at v.crossings) 1 (v.grid.classes - 1)) ≡ count_at v.crossings l
   crossing_listed l from to = bins_count (count_at v.crossings) 1 (v.grid.classes - 1) l from (omega (arith, from, to))
 
-  peak_listed : (l : ℕ) → l < v.grid.classes → listed_at l (bins_from (peak_count v.simple) v.grid.reference (v.grid.classes - v.grid.reference)) ≡ peak_count v.simple l
+  peak_listed : (l : ℕ) → l < v.grid.classes →
+      listed_at l (bins_from (peak_count v.simple) v.grid.reference (v.grid.classes - v.grid.reference)) ≡ peak_count v.simple l
   peak_listed l to = by (cases_lt l v.grid.reference)
     where
-      by : ((l < v.grid.reference) ⊎ (v.grid.reference ≤ l)) → listed_at l (bins_from (peak_count v.simple) v.grid.reference (v.grid.classes - v.grid.reference)) ≡ peak_count v.simple l
+      by : ((l < v.grid.reference) ⊎ (v.grid.reference ≤ l)) →
+          listed_at l (bins_from (peak_count v.simple) v.grid.reference (v.grid.classes - v.grid.reference)) ≡ peak_count v.simple l
       by (inl under) =
-          let order = bins_ordered (peak_count v.simple) v.grid.reference v.grid.classes (v.grid.classes - v.grid.reference) (omega (arith, i.over.limits.reference_to)) in
+          let order = bins_ordered (peak_count v.simple) v.grid.reference v.grid.classes (v.grid.classes - v.grid.reference)
+          (omega (arith, i.over.limits.reference_to)) in
           count_below v.grid.reference v.grid.classes l _ order under
           ∙ sym (below_peak v.simple.reference l (slice_index v.simple.extremes l) (omega (arith, under, i.over.simple.1)))
       by (inr over) = bins_count (peak_count v.simple) v.grid.reference (v.grid.classes - v.grid.reference) l over (omega (arith, over, to))
 
-  valley_listed : (l : ℕ) → l < v.grid.classes → listed_at l (bins_from (valley_count v.simple) 0 v.grid.reference) ≡ valley_count v.simple l
+  valley_listed : (l : ℕ) → l < v.grid.classes →
+      listed_at l (bins_from (valley_count v.simple) 0 v.grid.reference) ≡ valley_count v.simple l
   valley_listed l to = by (cases_lt l v.grid.reference)
     where
-      by : ((l < v.grid.reference) ⊎ (v.grid.reference ≤ l)) → listed_at l (bins_from (valley_count v.simple) 0 v.grid.reference) ≡ valley_count v.simple l
+      by : ((l < v.grid.reference) ⊎ (v.grid.reference ≤ l)) →
+          listed_at l (bins_from (valley_count v.simple) 0 v.grid.reference) ≡ valley_count v.simple l
       by (inl under) = bins_count (valley_count v.simple) 0 v.grid.reference l (omega arith) (omega (arith, under))
       by (inr over) =
           let order = bins_ordered (valley_count v.simple) 0 v.grid.reference v.grid.reference (omega arith) in
           count_above 0 v.grid.reference l _ order over
           ∙ sym (above_valley v.simple.reference l (slice_index v.simple.extremes l) (omega (arith, over, i.over.simple.1)))
 
-  range_listed : (k : ℕ) → k < v.grid.classes → listed_at k (bins_from (range_count v.simple) 1 (v.grid.classes - 1)) ≡ range_count v.simple k
+  range_listed : (k : ℕ) → k < v.grid.classes →
+      listed_at k (bins_from (range_count v.simple) 1 (v.grid.classes - 1)) ≡ range_count v.simple k
   range_listed k to = by k to (cases_lt k 1)
     where
-      by : (k : ℕ) → k < v.grid.classes → ((k < 1) ⊎ (1 ≤ k)) → listed_at k (bins_from (range_count v.simple) 1 (v.grid.classes - 1)) ≡ range_count v.simple k
+      by : (k : ℕ) → k < v.grid.classes → ((k < 1) ⊎ (1 ≤ k)) →
+          listed_at k (bins_from (range_count v.simple) 1 (v.grid.classes - 1)) ≡ range_count v.simple k
       by k to (inl none) =
           let order = bins_ordered (range_count v.simple) 1 v.grid.classes (v.grid.classes - 1) (omega (arith, to)) in
           let zero_is : k ≡ 0 = omega (arith, none) in
           count_below 1 v.grid.classes k _ order none
-          ∙ sym (ap (range_count v.simple) zero_is ∙ omega (arith, i.simple.none_at_zero, no_open v.simple.ends (λ m. (i.simple.ends.differ m).1)))
+          ∙ sym (ap (range_count v.simple) zero_is ∙ omega (
+            arith,
+            i.simple.none_at_zero,
+            no_open v.simple.ends (λ m. (i.simple.ends.differ m).1),
+          ))
       by k to (inr some) = bins_count (range_count v.simple) 1 (v.grid.classes - 1) k some (omega (arith, some, to))
 
   module _ (gain : GainValue) (w : List ℤ) where
@@ -96,9 +108,12 @@ module _ (v : SegmentValue) (i : IsSegment v) where
           ends = c.ends;
           result = s.history.result;
           crossings_are = λ l from to.
-              crossing_listed l from to ∙ s.history.crossings.counts l from (omega (arith, to, i.over.crossings.0)) ∙ ap (λ r. crossings r l h) i.over.crossings.1;
-          peaks_are = λ l to. peak_listed l to ∙ peak_counts v.simple h l (omega (arith, to, i.over.simple.0)) c ∙ ap (λ r. peaks_at r l (points h)) i.over.simple.1;
-          valleys_are = λ l to. valley_listed l to ∙ valley_counts v.simple h l (omega (arith, to, i.over.simple.0)) c ∙ ap (λ r. valleys_at r l (points h)) i.over.simple.1;
+              crossing_listed l from to ∙ s.history.crossings.counts l from (omega (arith, to, i.over.crossings.0))
+              ∙ ap (λ r. crossings r l h) i.over.crossings.1;
+          peaks_are = λ l to. peak_listed l to ∙ peak_counts v.simple h l (omega (arith, to, i.over.simple.0)) c
+              ∙ ap (λ r. peaks_at r l (points h)) i.over.simple.1;
+          valleys_are = λ l to. valley_listed l to ∙ valley_counts v.simple h l (omega (arith, to, i.over.simple.0)) c
+              ∙ ap (λ r. valleys_at r l (points h)) i.over.simple.1;
           ranges_are = λ k to. range_listed k to ∙ range_counts v.simple h k (omega (arith, to, i.over.simple.0)) c;
         }
 
@@ -111,7 +126,8 @@ module _ (v : SegmentValue) (i : IsSegment v) where
           last = i.ends.2 ∙ ap (λ (e : EndPoints). e.last) p.ends;
           counts = λ l from to.
               let within : l < v.grid.classes = omega (arith, to, i.over.crossings.0) in
-              sym (crossing_listed l from within) ∙ p.crossings_are l from within ∙ sym (crossings_points v.grid.reference l h) ∙ ap (λ r. crossings r l (points h)) (sym i.over.crossings.1);
+              sym (crossing_listed l from within) ∙ p.crossings_are l from within ∙ sym (crossings_points v.grid.reference l h)
+              ∙ ap (λ r. crossings r l (points h)) (sym i.over.crossings.1);
         })
       where
         first_points : (p : List ℕ) → slice_index p 0 ≡ first_of p
@@ -127,7 +143,8 @@ module _ (v : SegmentValue) (i : IsSegment v) where
       extremes = λ l to. extreme l (omega (arith, to, i.over.simple.0)) (cases_lt l v.simple.reference);
     }
       where
-        extreme : (l : ℕ) → l < v.grid.classes → ((l < v.simple.reference) ⊎ (v.simple.reference ≤ l)) → slice_index v.simple.extremes l ≡ extremes_at v.simple.reference l (points h)
+        extreme : (l : ℕ) → l < v.grid.classes → ((l < v.simple.reference) ⊎ (v.simple.reference ≤ l)) →
+            slice_index v.simple.extremes l ≡ extremes_at v.simple.reference l (points h)
         extreme l to (inl under) =
             sym (at_valley v.simple.reference l (slice_index v.simple.extremes l) under) ∙ sym (valley_listed l to) ∙ p.valleys_are l to
             ∙ ap (λ r. valleys_at r l (points h)) (sym i.over.simple.1) ∙ valleys_are v.simple.reference l (points h) under

@@ -55,7 +55,9 @@ module _ (k : ℕ) (e : EndPoints) (r : List ℕ) (some : 1 ≤ k) (res : IsResi
           (is.three z).1 ∙ sym (is.three z).0,
           let l = i.short (omega (arith, z)) in
               let t = three_turn r (omega (arith, l, z)) (zig_own r res.own) in
-              subst (λ x. IsTurn x e.second e.last) (sym is.first_is) (subst (λ y. IsTurn (slice_index r 0) y e.last) (sym (is.three z).0) (subst (λ y. IsTurn (slice_index r 0) (slice_index r 1) y) (sym (is.last_is ∙ at_place r (length r - 1) 2 (omega (arith, l, z)))) t)),
+              subst (λ x. IsTurn x e.second e.last) (sym is.first_is) (subst (λ y. IsTurn (slice_index r 0) y e.last) (sym (is.three z).0)
+              (subst (λ y. IsTurn (slice_index r 0) (slice_index r 1) y) (sym
+              (is.last_is ∙ at_place r (length r - 1) 2 (omega (arith, l, z)))) t)),
         );
         below = (omega (arith, is.first_is, first), is.second_below, is.before_below, omega (arith, is.last_is, last));
       }
@@ -63,7 +65,8 @@ module _ (k : ℕ) (e : EndPoints) (r : List ℕ) (some : 1 ≤ k) (res : IsResi
   ends_by : ((e.points ≡ 0) ⊎ ((e.points ≡ 1) ⊎ (2 ≤ e.points))) → IsEnds k e
   ends_by (inl z) =
       let is = i.none z in
-      let a = ap (λ (v : EndPoints). v.first) is in let b = ap (λ (v : EndPoints). v.second) is in let c = ap (λ (v : EndPoints). v.before) is in let d = ap (λ (v : EndPoints). v.last) is in
+      let a = ap (λ (v : EndPoints). v.first) is in let b = ap (λ (v : EndPoints). v.second) is in let c = ap (λ (v : EndPoints). v.before)
+      is in let d = ap (λ (v : EndPoints). v.last) is in
       record {
         none = λ h. (a, b, c, d);
         one = λ h. absurd (omega (arith, z, h));
@@ -76,7 +79,8 @@ module _ (k : ℕ) (e : EndPoints) (r : List ℕ) (some : 1 ≤ k) (res : IsResi
       let is = i.one z in
       let l = i.short (omega (arith, z)) in
       let level = res.within 0 0 (omega (arith, l, z)) in
-      let a = ap (λ (v : EndPoints). v.first) is in let b = ap (λ (v : EndPoints). v.second) is in let c = ap (λ (v : EndPoints). v.before) is in let d = ap (λ (v : EndPoints). v.last) is in
+      let a = ap (λ (v : EndPoints). v.first) is in let b = ap (λ (v : EndPoints). v.second) is in let c = ap (λ (v : EndPoints). v.before)
+      is in let d = ap (λ (v : EndPoints). v.last) is in
       record {
         none = λ h. absurd (omega (arith, z, h));
         one = λ h. (b, c, d ∙ sym a);
@@ -90,7 +94,8 @@ module _ (k : ℕ) (e : EndPoints) (r : List ℕ) (some : 1 ≤ k) (res : IsResi
   pub ends_are : IsEnds k e
   ends_are = ends_by (few_cases e.points)
 
-pub can_load : (g : GridValue) (p : PartsValue) → IsGrid g → AreSegment g p → CanLoad g.classes g.reference p.ends p.peaks p.valleys p.ranges
+pub can_load : (g : GridValue) (p : PartsValue) → IsGrid g → AreSegment g p →
+    CanLoad g.classes g.reference p.ends p.peaks p.valleys p.ranges
 can_load g p grid s =
     let t = s.summed in
     record {
@@ -114,9 +119,16 @@ pub can_cross : (g : GridValue) (p : PartsValue) → IsGrid g → AreSegment g p
 can_cross g p grid s =
     let t = s.summed in
     let e = ends_are g.classes p.ends p.residue (omega (arith, grid.classes_from)) s.residue s.ended in
-    record { first = e.below.0; last = e.below.3; bins_are = s.ordered.crossings; few = few_bins p.used p.crossings (omega (arith, t.readings, t.span.1)) t.crossings }
+    record {
+      first = e.below.0;
+      last = e.below.3;
+      bins_are = s.ordered.crossings;
+      few = few_bins p.used p.crossings
+          (omega (arith, t.readings, t.span.1)) t.crossings;
+    }
 
 -- a residue that was taken
-pub loaded_residue : (k : ℕ) (r : List ℕ) (b : Bool) (m old : ReducerValue) → IsTrue b → MatchBool b (m ≡ record { classes = k; residue = r }) (m ≡ old) → m ≡ record { classes = k; residue = r }
+pub loaded_residue : (k : ℕ) (r : List ℕ) (b : Bool) (m old : ReducerValue) → IsTrue b →
+    MatchBool b (m ≡ record { classes = k; residue = r }) (m ≡ old) → m ≡ record { classes = k; residue = r }
 loaded_residue k r true m old e h = h
 loaded_residue k r false m old e h = absurd (false≢true e)

@@ -24,7 +24,10 @@ pub record Left (e f : EndPoints) (r : List ℕ) (u : ℕ) : Type 0 where
   pub alike : Alike (meets e f) (ends_of r)
   pub balance : length r + 2 * u ≡ (meets e f).points
 
-pub left : (K : ℕ) (e f : EndPoints) (r s n : List ℕ) (c d : ℕ → ℕ → ℕ) (t u v : ℕ) → IsEnds K e → IsEnds K f → IsEnds K (ends_of r) → IsEnds K (ends_of s) → Alike e (ends_of r) → Alike f (ends_of s) → points r ≡ r → points s ≡ s → length r + 2 * t ≡ e.points → length s + 2 * u ≡ f.points → AddsCycles (points (r ++ s)) c n d → 2 * v + length n ≡ 2 * (t + u) + length (points (r ++ s)) → Left e f n v
+pub left : (K : ℕ) (e f : EndPoints) (r s n : List ℕ) (c d : ℕ → ℕ → ℕ) (t u v : ℕ) → IsEnds K e → IsEnds K f → IsEnds K (ends_of r) →
+    IsEnds K (ends_of s) → Alike e (ends_of r) → Alike f (ends_of s) → points r ≡ r → points s ≡ s → length r + 2 * t ≡ e.points →
+    length s + 2 * u ≡ f.points → AddsCycles (points (r ++ s)) c n d → 2 * v + length n ≡ 2 * (t + u) + length (points (r ++ s)) →
+    Left e f n v
 left K e f r s n c d t u v ie jf ir js a b p q x y j o =
     let m = meets_alike K e (ends_of r) f (ends_of s) ie ir jf js a b in
     let h = meets_histories r s (ends_of r) (ends_of s) (ap ends_of (sym p)) (ap ends_of (sym q)) in

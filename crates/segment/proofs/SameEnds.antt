@@ -93,16 +93,21 @@ module _ (k : ℕ) (e f : EndPoints) (i : IsEnds k e) (j : IsEnds k f) where
   none_last : f.points ≡ 0 → e.points ≡ 0 → f.last ≡ e.last
   none_last n m = (j.none n).3 ∙ sym (i.none m).3
 
-some_by : (m n p : ℕ) (a b c : Bool) → a ≡ not (m == 0) → b ≡ not (n == 0) → c ≡ (a || b) → (m ≡ 0 → p ≡ n) → (1 ≤ m → 1 ≤ p) → c ≡ not (p == 0)
+some_by : (m n p : ℕ) (a b c : Bool) → a ≡ not (m == 0) → b ≡ not (n == 0) → c ≡ (a || b) → (m ≡ 0 → p ≡ n) → (1 ≤ m → 1 ≤ p) →
+    c ≡ not (p == 0)
 some_by m n p a b c f g h k l = grind (arith, nat_tests)
 
-first_by : (m x left right g : ℕ) (a : Bool) → a ≡ not (m == 0) → x ≡ (if a then left else right) → (m ≡ 0 → g ≡ right) → (1 ≤ m → g ≡ left) → x ≡ g
+first_by : (m x left right g : ℕ) (a : Bool) → a ≡ not (m == 0) → x ≡ (if a then left else right) → (m ≡ 0 → g ≡ right) →
+    (1 ≤ m → g ≡ left) → x ≡ g
 first_by m x left right g a f h k l = grind (arith, nat_tests)
 
-last_by : (m n x left right g : ℕ) (b : Bool) → b ≡ not (n == 0) → x ≡ (if b then right else left) → (m ≡ 0 → g ≡ right) → (1 ≤ m → 1 ≤ n → g ≡ right) → (1 ≤ m → n ≡ 0 → g ≡ left) → (n ≡ 0 → m ≡ 0 → right ≡ left) → x ≡ g
+last_by : (m n x left right g : ℕ) (b : Bool) → b ≡ not (n == 0) → x ≡ (if b then right else left) → (m ≡ 0 → g ≡ right) →
+    (1 ≤ m → 1 ≤ n → g ≡ right) → (1 ≤ m → n ≡ 0 → g ≡ left) → (n ≡ 0 → m ≡ 0 → right ≡ left) → x ≡ g
 last_by m n x left right g b f h k l o z = grind (arith, nat_tests)
 
-pub joined_ends : (k : ℕ) (v w x : CrossingsValue) (e f g : EndPoints) → IsEnds k e → IsEnds k f → HasEnds v e → HasEnds w f → x.some ≡ (v.some || w.some) → x.first ≡ (if v.some then v.first else w.first) → x.last ≡ (if w.some then w.last else v.last) → g ≡ meets e f → HasEnds x g
+pub joined_ends : (k : ℕ) (v w x : CrossingsValue) (e f g : EndPoints) → IsEnds k e → IsEnds k f → HasEnds v e → HasEnds w f →
+    x.some ≡ (v.some || w.some) → x.first ≡ (if v.some then v.first else w.first) → x.last ≡ (if w.some then w.last else v.last) →
+    g ≡ meets e f → HasEnds x g
 joined_ends k v w x e f g i j a b some first last is =
     let t = joint k e f i j in
     let at_first = first ∙ ap (λ n. if v.some then n else w.first) a.1 ∙ ap (λ n. if v.some then e.first else n) b.1 in
@@ -110,7 +115,8 @@ joined_ends k v w x e f g i j a b some first last is =
     subst (HasEnds x) (sym is) (
       some_by e.points f.points (meets e f).points v.some w.some x.some a.0 b.0 some (λ z. ap (λ n. n.points) (t.none z)) t.some,
       first_by e.points x.first e.first f.first (meets e f).first v.some a.0 at_first (λ z. ap (λ n. n.first) (t.none z)) t.first,
-      last_by e.points f.points x.last e.last f.last (meets e f).last w.some b.0 at_last (λ z. ap (λ n. n.last) (t.none z)) t.last t.left (none_last k e f i j),
+      last_by e.points f.points x.last e.last f.last (meets e f).last w.some b.0 at_last (λ z. ap (λ n. n.last) (t.none z)) t.last t.left
+          (none_last k e f i j),
     )
 
 some_more : (m p : ℕ) (c : Bool) → c ≡ true → (m ≡ 0 → p ≡ 1) → (1 ≤ m → 1 ≤ p) → c ≡ not (p == 0)
@@ -119,7 +125,8 @@ some_more m p c h k l = grind (arith, nat_tests)
 last_more : (m x y g : ℕ) → x ≡ y → (m ≡ 0 → g ≡ y) → (1 ≤ m → g ≡ y) → x ≡ g
 last_more m x y g h k l = grind arith
 
-pub pushed_ends : (k y : ℕ) (v x : CrossingsValue) (e g : EndPoints) → IsEnds k e → IsEnds k (one y) → HasEnds v e → x.some ≡ true → x.first ≡ (if v.some then v.first else y) → x.last ≡ y → g ≡ ends_push y e → HasEnds x g
+pub pushed_ends : (k y : ℕ) (v x : CrossingsValue) (e g : EndPoints) → IsEnds k e → IsEnds k (one y) → HasEnds v e → x.some ≡ true →
+    x.first ≡ (if v.some then v.first else y) → x.last ≡ y → g ≡ ends_push y e → HasEnds x g
 pushed_ends k y v x e g i j a some first last is =
     let t = joint k e (one y) i j in
     let f : EndPoints = one y in
@@ -130,7 +137,8 @@ pushed_ends k y v x e g i j a some first last is =
       last_more e.points x.last y (meets e (one y)).last last (λ z. ap (λ n. n.last) (t.none z)) (λ s. t.last s (omega arith)),
     )
 
-pub listed_ends : (p : List ℕ) (x : CrossingsValue) (e : EndPoints) → x.some ≡ is_some p → x.first ≡ first_of p → x.last ≡ last_point p → e ≡ ends_of p → HasEnds x e
+pub listed_ends : (p : List ℕ) (x : CrossingsValue) (e : EndPoints) → x.some ≡ is_some p → x.first ≡ first_of p → x.last ≡ last_point p →
+    e ≡ ends_of p → HasEnds x e
 listed_ends p x e some first last is = subst (HasEnds x) (sym is) (by p some first last)
   where
     some_of : (n : ℕ) → true ≡ not (suc n == 0)

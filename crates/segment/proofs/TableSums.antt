@@ -31,13 +31,22 @@ module _ (count : ℕ → ℕ) (key keys : ℕ) where
   next_some : 0 < count key → bins_from count key (suc keys) ≡ record { key = key; n = count key } ∷ bins_from count (key + 1) keys
   next_some lt = some (count key) (bins_from count (key + 1) keys) (record { key = key; n = count key } ∷ bins_from count (key + 1) keys) lt
 
-  listed_by : ((0 < count key) ⊎ (count key ≤ 0)) → sum_of (bins_from count (key + 1) keys) ≡ sum_from count (key + 1) keys → sum_of (bins_from count key (suc keys)) ≡ sum_from count key (suc keys)
-  listed_by (inl lt) next = omega (arith, ap sum_of (next_some lt), sum_by-cons (λ b. b.n) (record { key = key; n = count key }) (bins_from count (key + 1) keys), next)
+  listed_by : ((0 < count key) ⊎ (count key ≤ 0)) → sum_of (bins_from count (key + 1) keys) ≡ sum_from count (key + 1) keys →
+      sum_of (bins_from count key (suc keys)) ≡ sum_from count key (suc keys)
+  listed_by (inl lt) next = omega (
+    arith,
+    ap sum_of (next_some lt),
+    sum_by-cons (λ b. b.n) (record { key = key; n = count key })
+        (bins_from count (key + 1) keys),
+    next,
+  )
   listed_by (inr le) next = omega (arith, ap sum_of (next_none (omega arith)), next, le)
 
-  all_by : (m : ℕ) → count key ≤ m - 1 → ((0 < count key) ⊎ (count key ≤ 0)) → All (λ b. b.n < m) (bins_from count (key + 1) keys) → All (λ b. b.n < m) (bins_from count key (suc keys))
+  all_by : (m : ℕ) → count key ≤ m - 1 → ((0 < count key) ⊎ (count key ≤ 0)) → All (λ b. b.n < m) (bins_from count (key + 1) keys) →
+      All (λ b. b.n < m) (bins_from count key (suc keys))
   all_by m h (inl lt) next =
-      subst (All (λ b. b.n < m)) (sym (next_some lt)) (All-cons (λ (b : Bin). b.n < m) (record { key = key; n = count key }) (bins_from count (key + 1) keys) (omega (arith, h, lt)) next)
+      subst (All (λ b. b.n < m)) (sym (next_some lt)) (All-cons (λ (b : Bin). b.n < m) (record { key = key; n = count key })
+      (bins_from count (key + 1) keys) (omega (arith, h, lt)) next)
   all_by m h (inr le) next = subst (All (λ b. b.n < m)) (sym (next_none (omega arith))) next
 
 pub listed_sum : (count : ℕ → ℕ) (key keys : ℕ) → sum_of (bins_from count key keys) ≡ sum_from count key keys
@@ -51,14 +60,16 @@ listed_below count m key (suc keys) h = all_by count key keys m (h key) (cases_l
 
 pub sum_same : (f g : ℕ → ℕ) (a n : ℕ) → ((k : ℕ) → a ≤ k → k < a + n → f k ≡ g k) → sum_from f a n ≡ sum_from g a n
 sum_same f g a zero h = refl
-sum_same f g a (suc n) h = omega (arith, h a (omega arith) (omega arith), sum_same f g (a + 1) n (λ k p q. h k (omega (arith, p)) (omega (arith, q))))
+sum_same f g a (suc n) h =
+    omega (arith, h a (omega arith) (omega arith), sum_same f g (a + 1) n (λ k p q. h k (omega (arith, p)) (omega (arith, q))))
 
 sum_shift : (f g : ℕ → ℕ) (a n : ℕ) → ((k : ℕ) → f (k + 1) ≡ g k) → sum_from f (a + 1) n ≡ sum_from g a n
 sum_shift f g a zero h = refl
 sum_shift f g a (suc n) h = omega (arith, h a, sum_shift f g (a + 1) n h)
 
 pub sum_parts : (f : ℕ → ℕ) (a m n : ℕ) → sum_from f a (m + n) ≡ sum_from f a m + sum_from f (a + m) n
-sum_parts f a zero n = let e : 0 + n ≡ n = omega arith in let g : a + 0 ≡ a = omega arith in omega (arith, ap (sum_from f a) e, ap (λ b. sum_from f b n) g)
+sum_parts f a zero n =
+    let e : 0 + n ≡ n = omega arith in let g : a + 0 ≡ a = omega arith in omega (arith, ap (sum_from f a) e, ap (λ b. sum_from f b n) g)
 sum_parts f a (suc m) n =
     let e : suc m + n ≡ suc (m + n) = omega arith in
     let g : a + 1 + m ≡ a + suc m = omega arith in
@@ -87,7 +98,8 @@ sum_past : (p a n : ℕ) → p < a → sum_from (λ k. is_at k p) a n ≡ 0
 sum_past p a zero h = refl
 sum_past p a (suc n) h = omega (arith, at_other a p (λ e. omega (arith, e, h)), sum_past p (a + 1) n (omega (arith, h)))
 
-one_by : (p a n : ℕ) → a ≤ p → p < a + suc n → (a + 1 ≤ p → p < a + 1 + n → sum_from (λ k. is_at k p) (a + 1) n ≡ 1) → ((a ≡ p) ⊎ (a ≡ p → ⊥)) → sum_from (λ k. is_at k p) a (suc n) ≡ 1
+one_by : (p a n : ℕ) → a ≤ p → p < a + suc n → (a + 1 ≤ p → p < a + 1 + n → sum_from (λ k. is_at k p) (a + 1) n ≡ 1) →
+    ((a ≡ p) ⊎ (a ≡ p → ⊥)) → sum_from (λ k. is_at k p) a (suc n) ≡ 1
 one_by p a n from to next (inl e) = omega (arith, at_here a p e, sum_past p (a + 1) n (omega (arith, e)))
 one_by p a n from to next (inr d) = omega (arith, at_other a p d, next (further a p d from) (omega (arith, to)))
   where

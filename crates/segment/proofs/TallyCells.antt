@@ -21,14 +21,18 @@ ascending_drop (suc i) [] a = a
 ascending_drop (suc i) (c ∷ cs) a = ascending_drop i cs (ascending_tail c cs a)
 
 -- one cell more before others
-count_more : (c : Cell) (cs : List Cell) (a b : ℕ) → IsAscending (c ∷ cs) → count_of (c ∷ cs) a b ≡ count_of cs a b + one_of a b c.lo c.hi c.n
+count_more : (c : Cell) (cs : List Cell) (a b : ℕ) → IsAscending (c ∷ cs) →
+    count_of (c ∷ cs) a b ≡ count_of cs a b + one_of a b c.lo c.hi c.n
 count_more c cs a b asc =
-    put_first c.lo c.hi c.n a b cs (λ i d h. λ e. behind_differs (ascending_head c cs asc i d h) (sym e.0, sym e.1)) (same_or_not c.lo c.hi a b)
+    put_first c.lo c.hi c.n a b cs (λ i d h. λ e. behind_differs (ascending_head c cs asc i d h) (sym e.0, sym e.1))
+    (same_or_not c.lo c.hi a b)
 
 -- the next cell of a list is added
 pub tally_step : (i : ℕ) (cs : List Cell) (d : Cell) (old new : Counts) → IsAscending cs → i < length cs
-    → ((a b : ℕ) → count_of new.cells a b ≡ count_of old.cells a b + one_of a b (slice_index_or cs i d).lo (slice_index_or cs i d).hi (slice_index_or cs i d).n)
-    → ((a b : ℕ) → count_of old.cells a b + count_of (drop i cs) a b ≡ count_of cs a b) → (a b : ℕ) → count_of new.cells a b + count_of (drop (i + 1) cs) a b ≡ count_of cs a b
+    → ((a b : ℕ) → count_of new.cells a b ≡ count_of old.cells a b + one_of a b (slice_index_or cs i d).lo (slice_index_or cs i d).hi
+    (slice_index_or cs i d).n)
+    → ((a b : ℕ) → count_of old.cells a b + count_of (drop i cs) a b ≡ count_of cs a b) → (a b : ℕ) →
+    count_of new.cells a b + count_of (drop (i + 1) cs) a b ≡ count_of cs a b
 tally_step i cs d old new asc lt added so_far a b =
     let here : drop i cs ≡ slice_index_or cs i d ∷ drop (i + 1) cs = drop_more cs i d lt in
     let more = count_more (slice_index_or cs i d) (drop (i + 1) cs) a b (subst IsAscending here (ascending_drop i cs asc)) in
@@ -53,7 +57,8 @@ none_left (suc i) [] h = refl
 none_left (suc i) (c ∷ cs) h = none_left i cs (omega (arith, h))
 
 -- there is a place for each: of the greatest room for every pair, of a lesser one for half of the samples
-pub place_left : (t : Counts) (longest i n lo hi m : ℕ) → t.room ≡ room_for t.classes longest → length t.cells ≤ i → i < n → 2 * n ≤ longest → HasPlace t lo hi m
+pub place_left : (t : Counts) (longest i n lo hi m : ℕ) → t.room ≡ room_for t.classes longest → length t.cells ≤ i → i < n →
+    2 * n ≤ longest → HasPlace t lo hi m
 place_left t longest i n lo hi m room few lt half = by (least (most_cells t.classes) (longest / 2))
   where
     least : (a b : ℕ) → (min a b ≡ a) ⊎ (min a b ≡ b)
@@ -76,7 +81,8 @@ room_most k longest = least (most_cells k) (longest / 2)
     least a b = omega arith
 
 -- a tally that counts what the cells count is the tally of these cells
-pub tally_is : (k longest i : ℕ) (t : Counts) (cs : List Cell) → IsCounts t → t.classes ≡ k → t.room ≡ room_for k longest → AreCells k cs → total_of cs ≤ MAX_TOTAL → 2 * length cs ≤ longest
+pub tally_is : (k longest i : ℕ) (t : Counts) (cs : List Cell) → IsCounts t → t.classes ≡ k → t.room ≡ room_for k longest → AreCells k cs →
+    total_of cs ≤ MAX_TOTAL → 2 * length cs ≤ longest
     → length cs ≤ i → ((a b : ℕ) → count_of t.cells a b + count_of (drop i cs) a b ≡ count_of cs a b)
     → t ≡ record { classes = k; room = room_for k longest; cells = cs }
 tally_is k longest i t cs g e r a small half done h =

@@ -1,6 +1,7 @@
 -- The ends of a segment's points, and those of its residue.
 --   OnSide   two levels lie on one side of a third
---   Alike    the same ends, with their neighbours on the same sides, and as many levels where there are at most three points
+--   Alike    the same ends, with their neighbours on the same sides, and as many levels where there are at most three
+--            points
 use Rattle.std.specs.Prelude.{ℕ, ◌≤◌, ◌<◌, ◌≡◌, ◌⊎◌}
 use Rattle.turning_points.specs.EndPoints.{EndPoints}
 

@@ -23,7 +23,8 @@ doubled_cycles v lo hi = 2 * count_of v.tally.cells lo hi
 abbrev pub halves_of : SegmentValue → ℕ → ℕ → ℕ
 halves_of v lo hi = doubled_cycles v lo hi + half_units_of_pair lo hi (neighbours v.reducer.residue)
 
-pub record Fig (grid : GridValue) (gain : GainValue) (samples : List ℤ) (count used missing refused : ℕ) (halves : ℕ → ℕ → ℕ) (half_units crossed peaks valleys ranges : ℕ → ℕ) : Type 0 where
+pub record Fig (grid : GridValue) (gain : GainValue) (samples : List ℤ) (count used missing refused : ℕ)
+    (halves : ℕ → ℕ → ℕ) (half_units crossed peaks valleys ranges : ℕ → ℕ) : Type 0 where
   pub counted : count ≡ length samples
   pub are_used : used ≡ length (history grid gain samples)
   pub are_missing : missing ≡ missing_count grid gain samples

@@ -10,7 +10,8 @@ use Rattle.segment.specs.Segment.{SegmentValue}
 
 abbrev pub bins_from : (ℕ → ℕ) → ℕ → ℕ → List Bin
 bins_from count key zero = []
-bins_from count key (suc keys) = if count key == 0 then bins_from count (key + 1) keys else record { key = key; n = count key } ∷ bins_from count (key + 1) keys
+bins_from count key (suc keys) = if count key == 0 then bins_from count (key + 1) keys
+    else record { key = key; n = count key } ∷ bins_from count (key + 1) keys
 
 abbrev pub parts_of : SegmentValue → PartsValue
 parts_of v = record {

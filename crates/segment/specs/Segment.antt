@@ -95,4 +95,5 @@ abbrev pub SameStart : SegmentValue → SegmentValue → Type 0
 SameStart v w = (w.grid ≡ v.grid) × (w.gauge ≡ v.gauge) × (w.from ≡ v.from) × (w.longest ≡ v.longest)
 
 abbrev pub AddsReadings : SegmentValue → SegmentValue → SegmentValue → Type 0
-AddsReadings v w x = (x.used ≡ v.used + w.used) × (x.missing ≡ v.missing + w.missing) × (x.refused ≡ v.refused + w.refused)
+AddsReadings v w x =
+    (x.used ≡ v.used + w.used) × (x.missing ≡ v.missing + w.missing) × (x.refused ≡ v.refused + w.refused)

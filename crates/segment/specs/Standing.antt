@@ -1,5 +1,6 @@
 -- What the parts of a segment stand for.
---   PartsStand   parts over a grid stand for samples under a gain: a segment that keeps the rules and has these parts does exactly then
+--   PartsStand   parts over a grid stand for samples under a gain: a segment that keeps the rules and has these parts
+--                does exactly then
 use Rattle.std.specs.Prelude.{◌≡◌, ◌+◌, ◌<◌, ◌≤◌, ℕ, ℤ, List, length}
 use Rattle.calibration.specs.Gain.{GainValue}
 use Rattle.calibration.specs.Grid.{GridValue}
@@ -20,7 +21,10 @@ pub record PartsStand (grid : GridValue) (gain : GainValue) (p : PartsValue) (sa
   pub refused : p.refused ≡ refused_count grid gain samples
   pub ends : p.ends ≡ ends_of (points (history grid gain samples))
   pub result : IsFourPointResult (points (history grid gain samples)) (count_of p.cells) p.residue
-  pub crossings_are : (l : ℕ) → 1 ≤ l → l < grid.classes → count_at l p.crossings ≡ crossings grid.reference l (history grid gain samples)
-  pub peaks_are : (l : ℕ) → l < grid.classes → count_at l p.peaks ≡ peaks_at grid.reference l (points (history grid gain samples))
-  pub valleys_are : (l : ℕ) → l < grid.classes → count_at l p.valleys ≡ valleys_at grid.reference l (points (history grid gain samples))
+  pub crossings_are : (l : ℕ) → 1 ≤ l → l < grid.classes →
+      count_at l p.crossings ≡ crossings grid.reference l (history grid gain samples)
+  pub peaks_are : (l : ℕ) → l < grid.classes →
+      count_at l p.peaks ≡ peaks_at grid.reference l (points (history grid gain samples))
+  pub valleys_are : (l : ℕ) → l < grid.classes →
+      count_at l p.valleys ≡ valleys_at grid.reference l (points (history grid gain samples))
   pub ranges_are : (k : ℕ) → k < grid.classes → count_at k p.ranges ≡ ranges_at k (points (history grid gain samples))

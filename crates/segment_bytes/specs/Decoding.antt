@@ -1,6 +1,7 @@
 -- What decoding answers.
 --   all_of       a body and nothing after it
---   parts_in     the parts, or the first fault of the bytes: a field that does not fit, bytes after the body, rows out of order
+--   parts_in     the parts, or the first fault of the bytes: a field that does not fit, bytes after the body, rows out
+--                of order
 --   decoded      the parts of a segment, or the first fault: of the bytes, or the first broken rule
 --   IsBodyOf     the bytes are the body of a segment
 --   NoPrefix     in one layout no body is a proper front of another
@@ -30,12 +31,14 @@ or_fault None p = Ok p
 or_fault (Some rule) p = Err (fault_of rule)
 
 unfoldable pub all_of : {L : Type 0} → Reader L → List ℕ → Result (Body L) BytesFault
-all_of list0 bytes = body_at list0 (length bytes) bytes >>= λ x. if length x.1 == 0 then Ok x.0 else Err (Trailing (length x.1))
+all_of list0 bytes =
+    body_at list0 (length bytes) bytes >>= λ x. if length x.1 == 0 then Ok x.0 else Err (Trailing (length x.1))
 
 -- the parts that fill the bytes; rows are in order
 unfoldable pub parts_in : Layout → GridValue → List ℕ → Result PartsValue BytesFault
 parts_in One g bytes = all_of (counted w32 cell_at) bytes >>= λ x. Ok (joined x)
-parts_in Two g bytes = all_of (counted w16 row_at) bytes >>= λ x. or_fault (order_broken 0 (wrong_row 0 g.classes 0 x.1.1.0))
+parts_in Two g bytes =
+    all_of (counted w16 row_at) bytes >>= λ x. or_fault (order_broken 0 (wrong_row 0 g.classes 0 x.1.1.0))
     (joined (flat x))
 
 -- the parts that keep all rules, or the first fault

@@ -1,5 +1,5 @@
--- The body of a segment's parts: how it is written, and how it is read from left to right. What writes and reads list 0, the cells, is a
--- parameter of both, for the layouts differ in it alone.
+-- The body of a segment's parts: how it is written, and how it is read from left to right. What writes and reads list
+-- 0, the cells, is a parameter of both, for the layouts differ in it alone.
 --   Body        a body's numbers and lists, over what stands as list 0
 --   body_of     the bytes of parts, in a layout
 --   body_at     a body is read, with the first field that does not fit
@@ -97,7 +97,8 @@ list0 Two p = listed w16 row (rows_of p.cells)
 -- ---- how it is read
 
 abbrev pub cell_at : Reader Cell
-cell_at = seen_as (λ x. record { lo = x.0; hi = x.1.0; n = x.1.1 }) (both (number_at w16) (both (number_at w16) (number_at w64)))
+cell_at = seen_as (λ x. record { lo = x.0; hi = x.1.0; n = x.1.1 })
+    (both (number_at w16) (both (number_at w16) (number_at w64)))
 
 abbrev pub bin_at : Reader Bin
 bin_at = seen_as (λ x. record { key = x.0; n = x.1 }) (both (number_at w16) (number_at w64))
@@ -106,7 +107,8 @@ abbrev pub row_at : Reader RowValue
 row_at = seen_as (λ x. record { lo = x.0; bins = x.1 }) (both (number_at w16) (counted w16 bin_at))
 
 unfoldable pub six_at : Reader Six
-six_at = both (number_at w16) (both (number_at w64) (both (number_at w64) (both (number_at w64) (both (number_at w64) (number_at w64)))))
+six_at = both (number_at w16) (both (number_at w64) (both (number_at w64)
+    (both (number_at w64) (both (number_at w64) (number_at w64)))))
 
 unfoldable pub ends_at : Reader EndPoints
 ends_at = seen_as (λ x. record { points = x.0; first = x.1.0; second = x.1.1.0; before = x.1.1.1.0; last = x.1.1.1.1 })
@@ -138,7 +140,8 @@ FitsSix x = (x.0 < 2 ^ 16) × ((x.1.0 < 2 ^ 64) × ((x.1.1.0 < 2 ^ 64) ×
     ((x.1.1.1.0 < 2 ^ 64) × ((x.1.1.1.1.0 < 2 ^ 64) × (x.1.1.1.1.1 < 2 ^ 64)))))
 
 abbrev pub FitsEnds : EndPoints → Type 0
-FitsEnds e = (e.points < 2 ^ 64) × ((e.first < 2 ^ 16) × ((e.second < 2 ^ 16) × ((e.before < 2 ^ 16) × (e.last < 2 ^ 16))))
+FitsEnds e =
+    (e.points < 2 ^ 64) × ((e.first < 2 ^ 16) × ((e.second < 2 ^ 16) × ((e.before < 2 ^ 16) × (e.last < 2 ^ 16))))
 
 abbrev pub FitsBack : {L : Type 0} → (L → Type 0) → Back L → Type 0
 FitsBack F x = FitsList (2 ^ 16) (λ n. n < 2 ^ 16) x.0 × (F x.1.0 ×

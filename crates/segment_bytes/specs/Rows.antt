@@ -38,7 +38,8 @@ rows_of (c ∷ cs) = before_rows c (rows_of cs)
 
 abbrev pub AreRowsFrom : ℕ → ℕ → List RowValue → Type 0
 AreRowsFrom from classes [] = Unit {0}
-AreRowsFrom from classes (r ∷ rs) = (from ≤ r.lo) × (0 < length r.bins) × AreBinsFrom (r.lo + 1) classes r.bins × AreRowsFrom
+AreRowsFrom from classes (r ∷ rs) =
+    (from ≤ r.lo) × (0 < length r.bins) × AreBinsFrom (r.lo + 1) classes r.bins × AreRowsFrom
     (r.lo + 1) classes rs
 
 abbrev pub or_next : Option ℕ → Option ℕ → Option ℕ

@@ -3,7 +3,8 @@
 --   bins_of     the counts of a list that are not 0, with their keys from one on
 --   cells_after the cells of a list from a pair on
 --   row_bins    the cells of a lower level, as bins; row_of: as a row
---   Table       the tables of a segment that a body has as bins: their counts, their first key and how many keys they have
+--   Table       the tables of a segment that a body has as bins: their counts, their first key and how many keys they
+--               have
 use Rattle.std.specs.Prelude.{◌≡◌, ◌+◌, ◌-◌, ◌++◌, ◌==◌, if◌then◌else◌, ℕ, List, [], ◌∷◌, length, take}
 use Rattle.tally.specs.declared.cells.Cell.{Cell}
 use Rattle.tally.specs.declared.cells.Bin.{Bin}

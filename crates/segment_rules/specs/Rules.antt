@@ -20,8 +20,8 @@ pub record AreCells (classes : ℕ) (cells : List Cell) : Type 0 where
   pub each : All (IsCell classes) cells
   pub ascending : IsAscending cells
 
--- the order rule: entries ascend strictly, and none counts nothing. Boundaries and ranges lie from 1 on, peaks from the reference on, and
--- valleys below it
+-- the order rule: entries ascend strictly, and none counts nothing. Boundaries and ranges lie from 1 on, peaks from the
+-- reference on, and valleys below it
 pub record IsOrdered (g : GridValue) (p : PartsValue) : Type 0 where
   pub cells : AreCells g.classes p.cells
   pub crossings : AreBinsFrom 1 g.classes p.crossings
@@ -49,8 +49,8 @@ pub record IsSummed (p : PartsValue) : Type 0 where
   -- 8: the first range and the last are counted
   pub end_ranges : 2 ≤ p.ends.points → CountsEnds p.ends p.ranges
 
--- ends of two or more points, where first, second, before and last are the first two and the last two levels of the residue: the outer ones
--- are the ends, and the inner ones lie on the same side of them
+-- ends of two or more points, where first, second, before and last are the first two and the last two levels of the
+-- residue: the outer ones are the ends, and the inner ones lie on the same side of them
 pub record HasEndsBeside (classes : ℕ) (e : EndPoints) (first second before last : ℕ) : Type 0 where
   pub first_is : e.first ≡ first
   pub last_is : e.last ≡ last

@@ -63,7 +63,8 @@ has_no_cycle [] = true
 has_no_cycle (a ∷ []) = true
 has_no_cycle (a ∷ b ∷ []) = true
 has_no_cycle (a ∷ b ∷ c ∷ []) = true
-has_no_cycle (a ∷ b ∷ c ∷ d ∷ l) = (nat_lt (range a b) (range b c) || nat_lt (range c d) (range b c)) && has_no_cycle (b ∷ c ∷ d ∷ l)
+has_no_cycle (a ∷ b ∷ c ∷ d ∷ l) =
+    (nat_lt (range a b) (range b c) || nat_lt (range c d) (range b c)) && has_no_cycle (b ∷ c ∷ d ∷ l)
 
 abbrev pub is_residue : ℕ → List ℕ → Bool
 is_residue classes r = list_all (λ x. nat_lt x classes) r && (is_own r && has_no_cycle r)
@@ -72,7 +73,8 @@ abbrev pub has_length : ℕ → ℕ → Bool
 has_length points n = if nat_le points 3 then n == points else nat_le 2 n
 
 abbrev pub are_levels : EndPoints → ℕ → ℕ → ℕ → ℕ → Bool
-are_levels e first second before last = (e.first == first && e.second == second) && (e.before == before && e.last == last)
+are_levels e first second before last =
+    (e.first == first && e.second == second) && (e.before == before && e.last == last)
 
 abbrev pub has_ends_beside : ℕ → EndPoints → ℕ → ℕ → ℕ → ℕ → Bool
 has_ends_beside classes e first second before last =
@@ -86,7 +88,8 @@ abbrev pub has_ends : ℕ → EndPoints → List ℕ → Bool
 has_ends classes e r =
     if e.points == 0 then are_levels e 0 0 0 0 else
     if e.points == 1 then are_levels e (slice_index r 0) 0 0 (slice_index r 0) else
-    has_ends_beside classes e (slice_index r 0) (slice_index r 1) (slice_index r (length r - 2)) (slice_index r (length r - 1))
+    has_ends_beside classes e (slice_index r 0) (slice_index r 1) (slice_index r (length r - 2))
+    (slice_index r (length r - 1))
 
 -- ---- the first broken rule
 

@@ -45,10 +45,12 @@ rest v q = record v {
 residues_push : (bodies : List PartsValue) (p : PartsValue) (q : List ℕ) → flat_map (λ b. b.residue) (bodies ++ p ∷ []) ++ q
     ≡ flat_map (λ b. b.residue) bodies ++ (p.residue ++ q)
 residues_push bodies p q =
-    ap (λ l. l ++ q) (flat_map-append (λ (b : PartsValue). b.residue) bodies (p ∷ []) ∙ ap (λ l. flat_map (λ (b : PartsValue). b.residue) bodies ++ l) (append-nil p.residue))
+    ap (λ l. l ++ q) (flat_map-append (λ (b : PartsValue). b.residue) bodies (p ∷ [])
+    ∙ ap (λ l. flat_map (λ (b : PartsValue). b.residue) bodies ++ l) (append-nil p.residue))
     ∙ append_assoc (flat_map (λ (b : PartsValue). b.residue) bodies) p.residue q
 
-keeps_more : (u right v : SegmentValue) (bodies : List PartsValue) → KeepsBefore u bodies → Joined u right v → KeepsBefore v (bodies ++ parts_of right ∷ [])
+keeps_more : (u right v : SegmentValue) (bodies : List PartsValue) → KeepsBefore u bodies → Joined u right v →
+    KeepsBefore v (bodies ++ parts_of right ∷ [])
 keeps_more u right v bodies k j = record {
   last = j.end ∙ sym (last_push bodies (parts_of right));
   used = omega (arith, j.readings.0, k.used, sum_by_push (λ (b : PartsValue). b.used) bodies (parts_of right));
@@ -83,20 +85,32 @@ module _ (grid : GridValue) (g : ℕ) where
   keeps_before : (bodies : List PartsValue) (v : SegmentValue) → IsHeld grid g bodies v → KeepsBefore v (bodies_of g bodies)
   keeps_before bodies v none = record { last = refl; used = refl; missing = refl; refused = refl; halves = λ q lo hi. refl }
   keeps_before bodies v (other {bodies = before} p n h) =
-      let same = filter-append (λ (b : PartsValue). b.name.gauge == g) before (p ∷ []) ∙ ap (λ l. bodies_of g before ++ l) (not_of p g n) ∙ append-nil (bodies_of g before) in
+      let same = filter-append (λ (b : PartsValue). b.name.gauge == g) before (p ∷ []) ∙ ap (λ l. bodies_of g before ++ l) (not_of p g n)
+      ∙ append-nil (bodies_of g before) in
       subst (KeepsBefore v) (sym same) (keeps_before before v h)
   keeps_before bodies v (joined {bodies = before} {v = u} right gauge over rules h j) =
-      let more = filter-append (λ (b : PartsValue). b.name.gauge == g) before (parts_of right ∷ []) ∙ ap (λ l. bodies_of g before ++ l) (is_of (parts_of right) g gauge) in
+      let more = filter-append (λ (b : PartsValue). b.name.gauge == g) before (parts_of right ∷ []) ∙ ap (λ l. bodies_of g before ++ l)
+      (is_of (parts_of right) g gauge) in
       subst (KeepsBefore v) (sym more) (keeps_more u right v (bodies_of g before) (keeps_before before u h) j)
 
 -- twice the cycles, and what the residue counts by itself
-halves_kept : (v : SegmentValue) → IsSegment v → (lo hi : ℕ) → halves_of v lo hi ≡ 2 * count_of v.tally.cells lo hi + three_point v.reducer.residue lo hi
+halves_kept : (v : SegmentValue) → IsSegment v → (lo hi : ℕ) →
+    halves_of v lo hi ≡ 2 * count_of v.tally.cells lo hi + three_point v.reducer.residue lo hi
 halves_kept v i lo hi =
     let r = v.reducer.residue in
     let own = i.residue in
-    omega (arith, counts_its_result r (λ lo hi. 0) r (record { pairs = []; by = own.own; counts = λ lo hi. refl; irreducible = own.irreducible }) lo hi)
+    omega (
+      arith,
+      counts_its_result r (λ lo hi. 0) r (record {
+        pairs = [];
+        by = own.own;
+        counts = λ lo hi. refl;
+        irreducible = own.irreducible;
+      }) lo hi,
+    )
 
-pub keeps_by : (grid : GridValue) (g : ℕ) (bodies : List PartsValue) (v : SegmentValue) → IsHeld grid g bodies v → IsSegment v → Keeps v (bodies_of g bodies)
+pub keeps_by : (grid : GridValue) (g : ℕ) (bodies : List PartsValue) (v : SegmentValue) → IsHeld grid g bodies v → IsSegment v →
+    Keeps v (bodies_of g bodies)
 keeps_by grid g bodies v h rules =
     let k = keeps_before grid g bodies v h in
     let r = v.reducer.residue in

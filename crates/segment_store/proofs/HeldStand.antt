@@ -40,7 +40,8 @@ module _ (setup : Setup) (w : ℕ → List ℤ) (g : ℕ) where
       let part : PartsStand right.grid gain (parts_of right) (take (right.to - u.to) (drop u.to (w g))) =
       subst (λ k. PartsStand k gain (parts_of right) (take (right.to - u.to) (drop u.to (w g)))) (sym over)
       (subst (λ n. PartsStand setup.grid gain (parts_of right) (take (right.to - n) (drop n (w g)))) j.next
-      (subst (λ k. PartsStand setup.grid (gain_at setup k) (parts_of right) (take (right.to - right.from) (drop right.from (w k)))) gauge both.1)) in
+      (subst (λ k. PartsStand setup.grid (gain_at setup k) (parts_of right) (take (right.to - right.from) (drop right.from (w k))))
+      gauge both.1)) in
       let to : u.to + (right.to - u.to) ≡ v.to = omega (arith, j.end, j.next, rules.span.0) in
       subst (Stands v gain) (sym (take-add u.to (right.to - u.to) (w g)) ∙ ap (λ n. take n (w g)) to)
       (j.stands gain _ _ left (parts_tell right rules gain _ part))

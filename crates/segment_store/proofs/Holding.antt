@@ -114,4 +114,5 @@ ends-more held v g to e = map-append (λ (x : SegmentValue). x.to) held (v ∷ [
 
 -- of a store's gauges
 pub kept_is : (s : State) → IsKept s → (g : ℕ) (v : SegmentValue) → g < length s.held → v ≡ get_or s.held g v → IsOf s.head.setup.grid g v
-kept_is s k g v lt is = subst (IsOf s.head.setup.grid g) (sym is) (held_is s.head.setup.grid g k.joined.0 (get_or s.held g v) (k.joined.1 g v lt))
+kept_is s k g v lt is =
+    subst (IsOf s.head.setup.grid g) (sym is) (held_is s.head.setup.grid g k.joined.0 (get_or s.held g v) (k.joined.1 g v lt))

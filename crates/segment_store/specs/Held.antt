@@ -25,7 +25,8 @@ pub data IsHeld (grid : GridValue) (g : ℕ) : List PartsValue → SegmentValue 
   none : IsHeld grid g [] (empty_at grid g 0 MAX_SAMPLES)
   other : {bodies : List PartsValue} {v : SegmentValue} (p : PartsValue) → p.name.gauge ≢ g → IsHeld grid g bodies v
       → IsHeld grid g (bodies ++ p ∷ []) v
-  joined : {bodies : List PartsValue} {v w : SegmentValue} (right : SegmentValue) → right.gauge ≡ g → right.grid ≡ grid → IsSegment right
+  joined : {bodies : List PartsValue} {v w : SegmentValue} (right : SegmentValue) → right.gauge ≡ g →
+      right.grid ≡ grid → IsSegment right
       → IsHeld grid g bodies v → Joined v right w → IsHeld grid g (bodies ++ parts_of right ∷ []) w
 
 abbrev pub AreHeld : GridValue → List PartsValue → List SegmentValue → Type 0

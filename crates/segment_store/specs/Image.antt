@@ -1,7 +1,8 @@
 -- Which images read, and as what.
 --   stored        a body with its length, and the digest of both
 --   open_bodies   open gates, each with its body
---   IsBody        a body that a store of this setup may have; IsNext: it may come next, where each gauge is held up to its end
+--   IsBody        a body that a store of this setup may have; IsNext: it may come next, where each gauge is held up to
+--                 its end
 --   Tiles         the bodies of each gauge follow one another without a gap
 --   Reads         an image reads with this head as these bodies, of which those of each gauge end there
 use Rattle.std.specs.Prelude.{◌≡◌, ◌≢◌, ◌<◌, ℕ, List, [], ◌∷◌, ◌++◌, length, slice_index, slice_set, replicate}

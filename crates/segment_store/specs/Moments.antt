@@ -1,6 +1,7 @@
 -- A store on its station, and what a moment of a put is.
 --   StoreValue   what contracts see of a store
---   IsAt         what a read gives reads as these bodies, a crash leaves nothing else, and the next gate is at this place
+--   IsAt         what a read gives reads as these bodies, a crash leaves nothing else, and the next gate is at this
+--                place
 --   IsOn         so it is of a store, which has these bodies joined and counted
 --   IsThere      so it is with some bodies
 --   InPut        a moment of a put; InWrite: of a write; Kept: of a call that writes nothing
@@ -41,7 +42,8 @@ IsThere s seen leaves = (bodies : List PartsValue) × IsOn s bodies seen leaves
 -- the lines are those told so far, and the image reads as the bodies, with one more or without it
 abbrev pub InPut : Lines → HeadValue → List PartsValue → List ℕ → PartsValue → IsMoment
 InPut told head bodies ends p lines c =
-    (lines ≡ told) × (Reads head bodies ends c ⊎ (IsNext head.setup ends p × Reads head (bodies ++ p ∷ []) (extended ends p) c))
+    (lines ≡ told) × (Reads head bodies ends c ⊎ (IsNext head.setup ends p × Reads head (bodies ++ p ∷ [])
+    (extended ends p) c))
 
 -- the lines are those told so far, and the image is one that a crash could leave, with a write of n bytes there torn
 abbrev pub InWrite : Lines → (Image → Type 0) → ℕ → ℕ → IsMoment

@@ -33,13 +33,15 @@ WalksAs l s limit image see (Ok x) = Walks l s limit image 0 (start_of s) (nothi
 WalksAs l s limit image see (Err NotAStore) = ⊥
 WalksAs l s limit image see (Err (Version v)) = ⊥
 WalksAs l s limit image see (Err (Differs field kept found)) = ⊥
-WalksAs l s limit image see (Err (Damaged index d)) = Walks l s limit image 0 (start_of s) (nothing_held s) (Err (index, d))
+WalksAs l s limit image see (Err (Damaged index d)) =
+    Walks l s limit image 0 (start_of s) (nothing_held s) (Err (index, d))
 WalksAs l s limit image see (Err DiskFault) = Unit {0}
 WalksAs l s limit image see (Err OutOfMemory) = Unit {0}
 
 -- in the order of the file
 abbrev pub Resumes : {X : Type 0} → Setup → Image → (X → ℕ × List ℕ) → Result X ResumeFault → Type 0
-Resumes s image see (Ok x) = (head_fault s image ≡ None) × Walks (layout_in image) s (max_body (layout_in image) s.grid.classes) image 0
+Resumes s image see (Ok x) =
+    (head_fault s image ≡ None) × Walks (layout_in image) s (max_body (layout_in image) s.grid.classes) image 0
     (start_of s) (nothing_held s) (Ok (see x))
 Resumes s image see (Err NotAStore) = head_fault s image ≡ Some heads.NotAStore
 Resumes s image see (Err (Version v)) = head_fault s image ≡ Some (heads.Version v)

@@ -14,7 +14,8 @@ use Rattle.segment_store.specs.declared.damage.Stop.TheVariants as stops
 use Rattle.store_head.specs.Head.{IsSetup}
 use Rattle.segment_store.specs.Image.{open_bodies, Tiles, IsBody}
 
-pub record StartsAt (l : Layout) (setup : Setup) (limit : ℕ) (image : Image) (at : ℕ) (ends : List ℕ) (bodies : List PartsValue)
+pub record StartsAt (l : Layout) (setup : Setup) (limit : ℕ) (image : Image) (at : ℕ) (ends : List ℕ)
+    (bodies : List PartsValue)
     (last : List ℕ) (gate : ℕ) (front rest : List ℕ) : Type 0 where
   pub is_setup : IsSetup setup
   pub whole : image ≡ front ++ (open_bodies l bodies ++ gate ∷ rest)

@@ -1,5 +1,6 @@
 -- What resuming finds in an image, in the order of the file.
---   field_at, length_at, bytes_at, kept_at, found_at   the body whose gate stands there: its length, its bytes, its digest
+--   field_at, length_at, bytes_at, kept_at, found_at   the body whose gate stands there: its length, its bytes, its
+--                                                      digest
 --   Checks    what bytes with a digest are, where each gauge is held up to its end
 --   Finds     what stands behind an open gate
 --   Walks     from one gate to the next, until one is closed, or a body is damaged
@@ -47,7 +48,8 @@ pub record IsWhole (limit : ℕ) (image : Image) (at : ℕ) : Type 0 where
   pub reaches : at + length_at image at + 38 ≤ length image
 
 -- what these bytes are, where each gauge is held up to its end
-pub data Checks (l : Layout) (setup : Setup) (ends : List ℕ) (bytes kept found : List ℕ) : Result PartsValue Damage → Type 0 where
+pub data Checks (l : Layout) (setup : Setup) (ends : List ℕ) (bytes kept found : List ℕ) : Result PartsValue Damage →
+    Type 0 where
   digest : found ≢ kept → Checks l setup ends bytes kept found (Err (damages.Digest kept found))
   no_body : {f : BytesFault} → found ≡ kept → decoded l setup.grid bytes ≡ Err f
       → Checks l setup ends bytes kept found (Err (damages.Bytes f))
@@ -57,28 +59,38 @@ pub data Checks (l : Layout) (setup : Setup) (ends : List ℕ) (bytes kept found
       → p.name.to ≤ p.name.from → Checks l setup ends bytes kept found (Err damages.Empty)
   apart : {p : PartsValue} → found ≡ kept → decoded l setup.grid bytes ≡ Ok p → p.name.gauge < length setup.gains
       → p.name.from < p.name.to → p.name.from ≢ slice_index ends p.name.gauge
-      → Checks l setup ends bytes kept found (Err (damages.Join (refusals.NotNext (slice_index ends p.name.gauge) p.name.from)))
-  sound : {p : PartsValue} → found ≡ kept → IsBodyOf l setup.grid p bytes → p.name.gauge < length setup.gains → p.name.from < p.name.to
+      → Checks l setup ends bytes kept found (Err (damages.Join
+      (refusals.NotNext (slice_index ends p.name.gauge) p.name.from)))
+  sound : {p : PartsValue} → found ≡ kept → IsBodyOf l setup.grid p bytes → p.name.gauge < length setup.gains →
+      p.name.from < p.name.to
       → p.name.from ≡ slice_index ends p.name.gauge → Checks l setup ends bytes kept found (Ok p)
 
 -- what stands behind an open gate
-pub data Finds (l : Layout) (setup : Setup) (limit : ℕ) (image : Image) (ends : List ℕ) (at : ℕ) : Result PartsValue Damage → Type 0 where
+pub data Finds (l : Layout) (setup : Setup) (limit : ℕ) (image : Image) (ends : List ℕ) (at : ℕ) : Result PartsValue
+    Damage → Type 0 where
   no_length : length image < at + 5 → Finds l setup limit image ends at (Err (damages.Cut (length image)))
   too_long : at + 5 ≤ length image → limit < length_at image at
       → Finds l setup limit image ends at (Err (damages.Length (length_at image at)))
   no_gate : at + 5 ≤ length image → length_at image at ≤ limit → length image < at + length_at image at + 38
       → Finds l setup limit image ends at (Err (damages.Cut (length image)))
   whole : {r : Result PartsValue Damage} → IsWhole limit image at
-      → Checks l setup ends (bytes_at image at) (kept_at image at) (found_at image at) r → Finds l setup limit image ends at r
+      → Checks l setup ends (bytes_at image at) (kept_at image at) (found_at image at) r →
+      Finds l setup limit image ends at r
 
--- from one gate to the next, until one is closed: its place and the ends, or the number of the first body that is damaged
-pub data Walks (l : Layout) (setup : Setup) (limit : ℕ) (image : Image) : ℕ → ℕ → List ℕ → Result (ℕ × List ℕ) (ℕ × Damage) → Type 0 where
-  shut : {index at : ℕ} {ends : List ℕ} → slice_index image at ≢ 1 → Walks l setup limit image index at ends (Ok (at, ends))
-  damaged : {index at : ℕ} {ends : List ℕ} {d : Damage} → slice_index image at ≡ 1 → Finds l setup limit image ends at (Err d)
+-- from one gate to the next, until one is closed: its place and the ends, or the number of the first body that is
+-- damaged
+pub data Walks (l : Layout) (setup : Setup) (limit : ℕ) (image : Image) : ℕ → ℕ → List ℕ →
+    Result (ℕ × List ℕ) (ℕ × Damage) → Type 0 where
+  shut : {index at : ℕ} {ends : List ℕ} → slice_index image at ≢ 1 →
+      Walks l setup limit image index at ends (Ok (at, ends))
+  damaged : {index at : ℕ} {ends : List ℕ} {d : Damage} → slice_index image at ≡ 1 →
+      Finds l setup limit image ends at (Err d)
       → Walks l setup limit image index at ends (Err (index, d))
-  more : {index at : ℕ} {ends : List ℕ} {p : PartsValue} {r : Result (ℕ × List ℕ) (ℕ × Damage)} → slice_index image at ≡ 1
+  more : {index at : ℕ} {ends : List ℕ} {p : PartsValue} {r : Result (ℕ × List ℕ) (ℕ × Damage)} →
+      slice_index image at ≡ 1
       → Finds l setup limit image ends at (Ok p) →
-      Walks l setup limit image (index + 1) (at + length_at image at + 37) (extended ends p) r → Walks l setup limit image index at ends r
+      Walks l setup limit image (index + 1) (at + length_at image at + 37) (extended ends p) r →
+      Walks l setup limit image index at ends r
 
 -- what a call answered is one of these, unless memory ran out or the disk failed
 abbrev pub Told : {X : Type 0} → (X → PartsValue) → (Result PartsValue Damage → Type 0) → Result X Stop → Type 0
@@ -93,7 +105,8 @@ StopsAs faults.OutOfMemory stop = stop ≡ stops.Memory
 StopsAs f stop = stop ≡ stops.Damaged (damages.Bytes f)
 
 -- how a walk ends, unless memory ran out or the disk failed
-abbrev pub Ends : {X : Type 0} → (X → ℕ × List ℕ) → (Result (ℕ × List ℕ) (ℕ × Damage) → Type 0) → Result X (ℕ × Stop) → Type 0
+abbrev pub Ends : {X : Type 0} → (X → ℕ × List ℕ) → (Result (ℕ × List ℕ) (ℕ × Damage) → Type 0) →
+    Result X (ℕ × Stop) → Type 0
 Ends view P (Ok x) = P (Ok (view x))
 Ends view P (Err (index, stops.Memory)) = Unit {0}
 Ends view P (Err (index, stops.Disk)) = Unit {0}

@@ -41,7 +41,8 @@ printing_named DiskFault p = absurd p
 printing_named (Differs gauge what held found) p = absurd p
 
 -- the last line has the name of the status's gauge
-pub line_told : {P : Type 0} (read : Result Config ConfigFault) (c : Config) (s : Status) (name : List ℕ) (told told2 : Lines) → read ≡ Ok c → name ≡ name_for c s
+pub line_told : {P : Type 0} (read : Result Config ConfigFault) (c : Config) (s : Status) (name : List ℕ) (told told2 : Lines) →
+    read ≡ Ok c → name ≡ name_for c s
     → P ⊎ (told2 ≡ told ++ fault_line s name ∷ []) → P ⊎ EndsIn (fault_line s (name_by read s)) told2
 line_told read c s name told told2 is named (inl p) = inl p
 line_told read c s name told told2 is named (inr last) =
@@ -63,7 +64,8 @@ no_name c DiskFault k = absurd k
 no_name c (TooLong gauge) k = absurd k
 no_name c (Differs gauge what held found) k = absurd k
 
-pub refused_told : {P : Type 0} (read : Result Config ConfigFault) (s : Status) (told told2 : Lines) → IsRefusal s → P ⊎ (told2 ≡ told ++ fault_line s [] ∷ [])
+pub refused_told : {P : Type 0} (read : Result Config ConfigFault) (s : Status) (told told2 : Lines) → IsRefusal s →
+    P ⊎ (told2 ≡ told ++ fault_line s [] ∷ [])
     → P ⊎ EndsIn (fault_line s (name_by read s)) told2
 refused_told read s told told2 k (inl p) = inl p
 refused_told (Ok c) s told told2 k (inr last) = inr (told, last ∙ ap (λ (n : List ℕ). told ++ fault_line s n ∷ []) (sym (no_name c s k)))

@@ -19,7 +19,8 @@ given_kind gauge refusal.ReadFault = tt
 given_kind gauge refusal.OutOfMemory = tt
 
 -- the answer is that of the first that is not sound
-own : (g : ℕ) (s : Status) (state : FileState) (rest : List FileState) → s ≢ Done → s ≡ answer_for g state → s ≡ answer_from g (state ∷ rest)
+own : (g : ℕ) (s : Status) (state : FileState) (rest : List FileState) → s ≢ Done → s ≡ answer_for g state →
+    s ≡ answer_from g (state ∷ rest)
 unfolding answer_from
 own g s NoFile rest other is = is
 own g s Sound rest other is = absurd (other is)
@@ -27,7 +28,8 @@ own g s (BadHead fault) rest other is = is
 own g s (TornEnd bytes) rest other is = is
 own g s TooManySamples rest other is = is
 
-refused_here : (g : ℕ) (s : Status) (state : FileState) (rest : List FileState) → IsReadStatus s → MayAnswerFor g s state → MayAnswer (answer_from g (state ∷ rest)) s
+refused_here : (g : ℕ) (s : Status) (state : FileState) (rest : List FileState) → IsReadStatus s → MayAnswerFor g s state →
+    MayAnswer (answer_from g (state ∷ rest)) s
 refused_here g (Recording gauge fault) state rest k may = own g (Recording gauge fault) state rest (λ no. absurd (cc)) may
 refused_here g (Torn gauge bytes) state rest k may = own g (Torn gauge bytes) state rest (λ no. absurd (cc)) may
 refused_here g (TooLong gauge) state rest k may = own g (TooLong gauge) state rest (λ no. absurd (cc)) may
@@ -50,26 +52,33 @@ module _ (gauges : List Gauge) (files : Files) (g : ℕ) (gauge : Gauge) (lt : g
   next : drop g gauges ≡ gauge ∷ drop (g + 1) gauges
   next = at_drop_more (λ (l : List Gauge). l) gauges g gauge lt ∙ ap (λ (x : Gauge). x ∷ drop (g + 1) gauges) (sym is)
 
-  pub read_more : (read : List (List ℤ)) (w : List ℤ) → read ++ recordings_of (drop g gauges) files ≡ recordings_of gauges files → w ≡ samples_of (files gauge.file)
+  pub read_more : (read : List (List ℤ)) (w : List ℤ) → read ++ recordings_of (drop g gauges) files ≡ recordings_of gauges files →
+      w ≡ samples_of (files gauge.file)
       → (read ++ w ∷ []) ++ recordings_of (drop (g + 1) gauges) files ≡ recordings_of gauges files
   read_more read w was has =
       append_assoc read (w ∷ []) (recordings_of (drop (g + 1) gauges) files)
-      ∙ ap (λ (l : List (List ℤ)). read ++ l) (ap (λ (x : List ℤ). x ∷ recordings_of (drop (g + 1) gauges) files) has ∙ sym (ap (λ (l : List Gauge). recordings_of l files) next)) ∙ was
+      ∙ ap (λ (l : List (List ℤ)). read ++ l) (ap (λ (x : List ℤ). x ∷ recordings_of (drop (g + 1) gauges) files) has
+      ∙ sym (ap (λ (l : List Gauge). recordings_of l files) next)) ∙ was
 
   pub sound_more : (asked : Status) → answer_from g (states_of (drop g gauges) files) ≡ asked → file_state (files gauge.file) ≡ Sound
       → answer_from (g + 1) (states_of (drop (g + 1) gauges) files) ≡ asked
   sound_more asked was sound =
-      sym (sound_here g (file_state (files gauge.file)) (states_of (drop (g + 1) gauges) files) sound) ∙ sym (ap (λ (l : List Gauge). answer_from g (states_of l files)) next) ∙ was
+      sym (sound_here g (file_state (files gauge.file)) (states_of (drop (g + 1) gauges) files) sound)
+      ∙ sym (ap (λ (l : List Gauge). answer_from g (states_of l files)) next) ∙ was
 
-  pub refused : (asked s : Status) → answer_from g (states_of (drop g gauges) files) ≡ asked → IsReadStatus s → MayAnswerFor g s (file_state (files gauge.file)) → MayAnswer asked s
+  pub refused : (asked s : Status) → answer_from g (states_of (drop g gauges) files) ≡ asked → IsReadStatus s →
+      MayAnswerFor g s (file_state (files gauge.file)) → MayAnswer asked s
   refused asked s was k may =
       subst (λ (a : Status). MayAnswer a s) (sym (ap (λ (l : List Gauge). answer_from g (states_of l files)) next) ∙ was)
       (refused_here g s (file_state (files gauge.file)) (states_of (drop (g + 1) gauges) files) k may)
 
-pub read_all : (gauges : List Gauge) (files : Files) (g : ℕ) (read : List (List ℤ)) → length gauges ≤ g → read ++ recordings_of (drop g gauges) files ≡ recordings_of gauges files
+pub read_all : (gauges : List Gauge) (files : Files) (g : ℕ) (read : List (List ℤ)) → length gauges ≤ g →
+    read ++ recordings_of (drop g gauges) files ≡ recordings_of gauges files
     → read ≡ recordings_of gauges files
-read_all gauges files g read le was = sym (append-nil read) ∙ ap (λ (l : List Gauge). read ++ recordings_of l files) (sym (drop_all g gauges le)) ∙ was
+read_all gauges files g read le was =
+    sym (append-nil read) ∙ ap (λ (l : List Gauge). read ++ recordings_of l files) (sym (drop_all g gauges le)) ∙ was
 
-pub sound_all : (gauges : List Gauge) (files : Files) (g : ℕ) (asked : Status) → length gauges ≤ g → answer_from g (states_of (drop g gauges) files) ≡ asked → asked ≡ Done
+pub sound_all : (gauges : List Gauge) (files : Files) (g : ℕ) (asked : Status) → length gauges ≤ g →
+    answer_from g (states_of (drop g gauges) files) ≡ asked → asked ≡ Done
 unfolding answer_from
 sound_all gauges files g asked le was = sym was ∙ ap (λ (l : List Gauge). answer_from g (states_of l files)) (drop_all g gauges le)

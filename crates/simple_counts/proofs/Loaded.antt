@@ -42,131 +42,174 @@ leb_false n e = grind (arith, nat_tests)
 abbrev pub IsGrid : ℕ → ℕ → Type 0
 IsGrid classes reference = ((MIN_CLASSES ≤ classes) × (classes ≤ MAX_CLASSES)) × ((1 ≤ reference) × (reference < classes))
 
-module _ (classes reference : ℕ) (e : EndPoints) (peaks valleys ranges : List Bin) (c : CanLoad classes reference e peaks valleys ranges) where
-  all : List ℕ
-  all = filled 0 (replicate classes 0) ranges
+module _ (classes reference : ℕ) (e : EndPoints) (peaks valleys ranges : List Bin) (c : CanLoad classes reference e peaks valleys ranges)
+  where
+    all : List ℕ
+    all = filled 0 (replicate classes 0) ranges
 
-  all_at : (i : ℕ) → get_or (filled 0 (replicate classes 0) ranges) i 0 ≡ count_at i ranges
-  all_at = table_at 1 classes classes ranges c.ranges_are (omega arith)
+    all_at : (i : ℕ) → get_or (filled 0 (replicate classes 0) ranges) i 0 ≡ count_at i ranges
+    all_at = table_at 1 classes classes ranges c.ranges_are (omega arith)
 
-  pub last_there : 2 ≤ e.points → 1 ≤ get_or (filled 0 (replicate classes 0) ranges) (last_range e) 0
-  last_there le = let n = (c.counted le).last in omega (arith, n, all_at (last_range e))
+    pub last_there : 2 ≤ e.points → 1 ≤ get_or (filled 0 (replicate classes 0) ranges) (last_range e) 0
+    last_there le = let n = (c.counted le).last in omega (arith, n, all_at (last_range e))
 
-  pub last_within : last_range e < classes
-  last_within = apart classes e.before e.last c.ends.below.2 c.ends.below.3
+    pub last_within : last_range e < classes
+    last_within = apart classes e.before e.last c.ends.below.2 c.ends.below.3
 
-  decided_by : (b : Bool) → leb 2 e.points ≡ b → Decided classes e ranges (cond b (lower (filled 0 (replicate classes 0) ranges) (last_range e)) (filled 0 (replicate classes 0) ranges))
-  decided_by true is =
-      let le = leb_true e.points is in
-      let long = table_long 0 classes ranges in
-      let within : last_range e < length (filled 0 (replicate classes 0) ranges) = omega (arith, long, last_within) in
-      record {
-        long = length-set (filled 0 (replicate classes 0) ranges) (last_range e) (get_or (filled 0 (replicate classes 0) ranges) (last_range e) 0 - 1) ∙ long;
-        at = λ i. omega (arith, lower_at (filled 0 (replicate classes 0) ranges) (last_range e) i within (last_there le), opened_at (leb 2 e.points) (is_at i (last_range e)) is, all_at i);
-        total = omega (arith, sum_lower (filled 0 (replicate classes 0) ranges) (last_range e) within (last_there le), table_sum 1 classes classes ranges c.ranges_are (omega arith), c.sides, le);
-      }
-  decided_by false is =
-      record {
-        long = table_long 0 classes ranges;
-        at = λ i. omega (arith, closed_at (leb 2 e.points) (is_at i (last_range e)) is, all_at i);
-        total = omega (arith, table_sum 1 classes classes ranges c.ranges_are (omega arith), c.sides, leb_false e.points is);
-      }
+    decided_by : (b : Bool) → leb 2 e.points ≡ b →
+        Decided classes e ranges (cond b (lower (filled 0 (replicate classes 0) ranges) (last_range e))
+        (filled 0 (replicate classes 0) ranges))
+    decided_by true is =
+        let le = leb_true e.points is in
+        let long = table_long 0 classes ranges in
+        let within : last_range e < length (filled 0 (replicate classes 0) ranges) = omega (arith, long, last_within) in
+        record {
+          long = length-set (filled 0 (replicate classes 0) ranges) (last_range e)
+              (get_or (filled 0 (replicate classes 0) ranges) (last_range e) 0 - 1) ∙ long;
+          at = λ i. omega (
+            arith,
+            lower_at (filled 0 (replicate classes 0) ranges) (last_range e) i within (last_there le),
+            opened_at (leb 2 e.points) (is_at i (last_range e)) is,
+            all_at i,
+          );
+          total = omega (
+            arith,
+            sum_lower (filled 0 (replicate classes 0) ranges) (last_range e) within (last_there le),
+            table_sum 1 classes classes ranges c.ranges_are (omega arith),
+            c.sides,
+            le,
+          );
+        }
+    decided_by false is =
+        record {
+          long = table_long 0 classes ranges;
+          at = λ i. omega (arith, closed_at (leb 2 e.points) (is_at i (last_range e)) is, all_at i);
+          total = omega (arith, table_sum 1 classes classes ranges c.ranges_are (omega arith), c.sides, leb_false e.points is);
+        }
 
-  decided : Decided classes e ranges (decided_of classes e ranges)
-  decided = decided_by (leb 2 e.points) refl
+    decided : Decided classes e ranges (decided_of classes e ranges)
+    decided = decided_by (leb 2 e.points) refl
 
-  first_left : (o : ℕ) → 3 ≤ e.points → (o ≡ cond (leb 2 e.points) (is_at (first_range e) (last_range e)) 0) → o + 1 ≤ count_at (first_range e) ranges
-  first_left o le is = by (cases_eq (last_range e) (first_range e))
-    where
-      counts : CountsEnds e ranges
-      counts = c.counted (omega (arith, le))
-
-      one : (b : Bool) (x y : ℕ) → x ≢ y → ◌≡◌ {A = ℕ} (cond b (is_at y x) 0) 0
-      one b x y n = grind (arith, nat_tests)
-
-      most : (b : Bool) (x y : ℕ) → ◌≤◌ (cond b (is_at y x) 0) 1
-      most b x y = grind (arith, nat_tests)
-
-      by : ((last_range e ≡ first_range e) ⊎ (last_range e ≢ first_range e)) → o + 1 ≤ count_at (first_range e) ranges
-      by (inl same) = let s = counts.separate le (sym same) in omega (arith, s, is, most (leb 2 e.points) (last_range e) (first_range e))
-      by (inr n) = let s = counts.first in omega (arith, s, is, one (leb 2 e.points) (last_range e) (first_range e) n)
-
-  pub loaded_ranges : (k : ℕ) → range_count (loaded_of classes reference e peaks valleys ranges) k ≡ count_at k ranges
-  loaded_ranges k = decided.at k
-
-  -- peaks and valleys
-
-  module _ (grid : IsGrid classes reference) where
-    low : List ℕ
-    low = filled 0 (replicate classes 0) valleys
-
-    low_at : (i : ℕ) → get_or (filled 0 (replicate classes 0) valleys) i 0 ≡ count_at i valleys
-    low_at = table_at 0 reference classes valleys c.valleys_are (omega (arith, grid.1.1))
-
-    low_long : length (filled 0 (replicate classes 0) valleys) ≡ classes
-    low_long = table_long 0 classes valleys
-
-    low_none : (p : ℕ) → reference + 0 ≤ p → get_or (filled 0 (replicate classes 0) valleys) p 0 ≡ 0
-    low_none p le = low_at p ∙ count_above 0 reference p valleys c.valleys_are (omega (arith, le))
-
-    extremes_at : (i : ℕ) → get_or (filled 0 (filled 0 (replicate classes 0) valleys) peaks) i 0 ≡ count_at i valleys + count_at i peaks
-    extremes_at i = omega (arith, filled_at 0 reference classes (filled 0 (replicate classes 0) valleys) peaks c.peaks_are (omega (arith, low_long)) low_none i, low_at i, placed_counts i peaks)
-
-    extremes_sum : sum (filled 0 (filled 0 (replicate classes 0) valleys) peaks) ≡ sum_of valleys + sum_of peaks
-    extremes_sum = omega (arith, filled_sum 0 reference classes (filled 0 (replicate classes 0) valleys) peaks c.peaks_are (omega (arith, low_long)) low_none, table_sum 0 reference classes valleys c.valleys_are (omega (arith, grid.1.1)))
-
-    -- the whole
-
-    pub loaded_counted : IsSimple (loaded_of classes reference e peaks valleys ranges)
-    loaded_counted = record {
-      classes = grid.0;
-      reference = grid.1;
-      decided = decided.long;
-      extremes = filled_long 0 (filled 0 (replicate classes 0) valleys) peaks ∙ low_long;
-      ends = c.ends;
-      agrees = record {
-        sum_of = omega (arith, decided.total);
-        first = λ le. let a = first_left (open_at (first_range e) e) le refl in omega (arith, a, decided.at (first_range e));
-        above = λ k. omega arith;
-        few = omega (arith, extremes_sum, c.extremes);
-      };
-      few = c.few;
-      none_at_zero = omega (arith, decided.at 0, count_below 1 classes 0 ranges c.ranges_are (omega arith));
-    }
-
-    pub loaded_peaks : (l : ℕ) → peak_count (loaded_of classes reference e peaks valleys ranges) l ≡ count_at l peaks
-    loaded_peaks l = by (leb reference l) refl
+    first_left : (o : ℕ) → 3 ≤ e.points → (o ≡ cond (leb 2 e.points) (is_at (first_range e) (last_range e)) 0) →
+        o + 1 ≤ count_at (first_range e) ranges
+    first_left o le is = by (cases_eq (last_range e) (first_range e))
       where
-        at_or_above : (r l : ℕ) → leb r l ≡ true → r ≤ l
-        at_or_above r l e = grind (arith, nat_tests)
+        counts : CountsEnds e ranges
+        counts = c.counted (omega (arith, le))
 
-        under : (r l : ℕ) → leb r l ≡ false → l < r
-        under r l e = grind (arith, nat_tests)
+        one : (b : Bool) (x y : ℕ) → x ≢ y → ◌≡◌ {A = ℕ} (cond b (is_at y x) 0) 0
+        one b x y n = grind (arith, nat_tests)
 
-        by : (b : Bool) → leb reference l ≡ b → cond b (get_or (filled 0 (filled 0 (replicate classes 0) valleys) peaks) l 0) 0 ≡ count_at l peaks
-        by true is = omega (arith, extremes_at l, count_above 0 reference l valleys c.valleys_are (at_or_above reference l is))
-        by false is = sym (count_below reference classes l peaks c.peaks_are (under reference l is))
+        most : (b : Bool) (x y : ℕ) → ◌≤◌ (cond b (is_at y x) 0) 1
+        most b x y = grind (arith, nat_tests)
 
-    pub loaded_valleys : (l : ℕ) → valley_count (loaded_of classes reference e peaks valleys ranges) l ≡ count_at l valleys
-    loaded_valleys l = by (leb reference l) refl
-      where
-        at_or_above : (r l : ℕ) → leb r l ≡ true → r ≤ l
-        at_or_above r l e = grind (arith, nat_tests)
+        by : ((last_range e ≡ first_range e) ⊎ (last_range e ≢ first_range e)) → o + 1 ≤ count_at (first_range e) ranges
+        by (inl same) = let s = counts.separate le (sym same) in omega (arith, s, is, most (leb 2 e.points) (last_range e) (first_range e))
+        by (inr n) = let s = counts.first in omega (arith, s, is, one (leb 2 e.points) (last_range e) (first_range e) n)
 
-        under : (r l : ℕ) → leb r l ≡ false → l < r
-        under r l e = grind (arith, nat_tests)
+    pub loaded_ranges : (k : ℕ) → range_count (loaded_of classes reference e peaks valleys ranges) k ≡ count_at k ranges
+    loaded_ranges k = decided.at k
 
-        by : (b : Bool) → leb reference l ≡ b → cond b 0 (get_or (filled 0 (filled 0 (replicate classes 0) valleys) peaks) l 0) ≡ count_at l valleys
-        by true is = sym (count_above 0 reference l valleys c.valleys_are (at_or_above reference l is))
-        by false is = omega (arith, extremes_at l, count_below reference classes l peaks c.peaks_are (under reference l is))
+    -- peaks and valleys
+
+    module _ (grid : IsGrid classes reference) where
+      low : List ℕ
+      low = filled 0 (replicate classes 0) valleys
+
+      low_at : (i : ℕ) → get_or (filled 0 (replicate classes 0) valleys) i 0 ≡ count_at i valleys
+      low_at = table_at 0 reference classes valleys c.valleys_are (omega (arith, grid.1.1))
+
+      low_long : length (filled 0 (replicate classes 0) valleys) ≡ classes
+      low_long = table_long 0 classes valleys
+
+      low_none : (p : ℕ) → reference + 0 ≤ p → get_or (filled 0 (replicate classes 0) valleys) p 0 ≡ 0
+      low_none p le = low_at p ∙ count_above 0 reference p valleys c.valleys_are (omega (arith, le))
+
+      extremes_at : (i : ℕ) → get_or (filled 0 (filled 0 (replicate classes 0) valleys) peaks) i 0 ≡ count_at i valleys + count_at i peaks
+      extremes_at i = omega (
+        arith,
+        filled_at 0 reference classes (filled 0 (replicate classes 0) valleys) peaks c.peaks_are
+            (omega (arith, low_long)) low_none i,
+        low_at i,
+        placed_counts i peaks,
+      )
+
+      extremes_sum : sum (filled 0 (filled 0 (replicate classes 0) valleys) peaks) ≡ sum_of valleys + sum_of peaks
+      extremes_sum = omega (
+        arith,
+        filled_sum 0 reference classes (filled 0 (replicate classes 0) valleys) peaks c.peaks_are
+            (omega (arith, low_long)) low_none,
+        table_sum 0 reference classes valleys c.valleys_are (omega (arith, grid.1.1)),
+      )
+
+      -- the whole
+
+      pub loaded_counted : IsSimple (loaded_of classes reference e peaks valleys ranges)
+      loaded_counted = record {
+        classes = grid.0;
+        reference = grid.1;
+        decided = decided.long;
+        extremes = filled_long 0 (filled 0 (replicate classes 0) valleys) peaks ∙ low_long;
+        ends = c.ends;
+        agrees = record {
+          sum_of = omega (arith, decided.total);
+          first = λ le. let a = first_left (open_at (first_range e) e) le refl in omega (arith, a, decided.at (first_range e));
+          above = λ k. omega arith;
+          few = omega (arith, extremes_sum, c.extremes);
+        };
+        few = c.few;
+        none_at_zero = omega (arith, decided.at 0, count_below 1 classes 0 ranges c.ranges_are (omega arith));
+      }
+
+      pub loaded_peaks : (l : ℕ) → peak_count (loaded_of classes reference e peaks valleys ranges) l ≡ count_at l peaks
+      loaded_peaks l = by (leb reference l) refl
+        where
+          at_or_above : (r l : ℕ) → leb r l ≡ true → r ≤ l
+          at_or_above r l e = grind (arith, nat_tests)
+
+          under : (r l : ℕ) → leb r l ≡ false → l < r
+          under r l e = grind (arith, nat_tests)
+
+          by : (b : Bool) → leb reference l ≡ b →
+              cond b (get_or (filled 0 (filled 0 (replicate classes 0) valleys) peaks) l 0) 0 ≡ count_at l peaks
+          by true is = omega (arith, extremes_at l, count_above 0 reference l valleys c.valleys_are (at_or_above reference l is))
+          by false is = sym (count_below reference classes l peaks c.peaks_are (under reference l is))
+
+      pub loaded_valleys : (l : ℕ) → valley_count (loaded_of classes reference e peaks valleys ranges) l ≡ count_at l valleys
+      loaded_valleys l = by (leb reference l) refl
+        where
+          at_or_above : (r l : ℕ) → leb r l ≡ true → r ≤ l
+          at_or_above r l e = grind (arith, nat_tests)
+
+          under : (r l : ℕ) → leb r l ≡ false → l < r
+          under r l e = grind (arith, nat_tests)
+
+          by : (b : Bool) → leb reference l ≡ b →
+              cond b 0 (get_or (filled 0 (filled 0 (replicate classes 0) valleys) peaks) l 0) ≡ count_at l valleys
+          by true is = sym (count_above 0 reference l valleys c.valleys_are (at_or_above reference l is))
+          by false is = omega (arith, extremes_at l, count_below reference classes l peaks c.peaks_are (under reference l is))
 
 -- a table is loaded in place of one as long
-pub loaded_closed : (classes reference : ℕ) (e : EndPoints) (peaks valleys ranges : List Bin) (c : CanLoad classes reference e peaks valleys ranges) (grid : IsGrid classes reference) (n m : ℕ) (d x : List ℕ) → n ≡ classes → m ≡ classes
-    → d ≡ decided_of n e ranges → x ≡ filled 0 (filled 0 (replicate m 0) valleys) peaks → IsSimple (record { classes = classes; reference = reference; ends = e; decided = d; extremes = x })
+pub loaded_closed : (classes reference : ℕ) (e : EndPoints) (peaks valleys ranges : List Bin)
+    (c : CanLoad classes reference e peaks valleys ranges) (grid : IsGrid classes reference) (n m : ℕ) (d x : List ℕ) →
+    n ≡ classes → m ≡ classes
+    → d ≡ decided_of n e ranges → x ≡ filled 0 (filled 0 (replicate m 0) valleys) peaks →
+    IsSimple (record { classes = classes; reference = reference; ends = e; decided = d; extremes = x })
 loaded_closed classes reference e peaks valleys ranges c grid n m d x same other is are =
     let d_is : d ≡ decided_of classes e ranges = is ∙ ap (λ k. decided_of k e ranges) same in
-    let x_is : x ≡ filled 0 (filled 0 (replicate classes 0) valleys) peaks = are ∙ ap (λ k. filled 0 (filled 0 (replicate k 0) valleys) peaks) other in
-    subst (λ t. IsSimple (record { classes = classes; reference = reference; ends = e; decided = t; extremes = x })) (sym d_is) (subst (λ t. IsSimple (record { classes = classes; reference = reference; ends = e; decided = decided_of classes e ranges; extremes = t })) (sym x_is) (loaded_counted classes reference e peaks valleys ranges c grid))
+    let x_is : x ≡ filled 0 (filled 0 (replicate classes 0) valleys) peaks = are
+    ∙ ap (λ k. filled 0 (filled 0 (replicate k 0) valleys) peaks) other in
+    subst (λ t. IsSimple (record { classes = classes; reference = reference; ends = e; decided = t; extremes = x })) (sym d_is)
+    (subst (λ t. IsSimple (record {
+      classes = classes;
+      reference = reference;
+      ends = e;
+      decided = decided_of classes e ranges;
+      extremes = t;
+    })) (sym x_is) (loaded_counted classes reference e peaks valleys ranges c grid))
 
-pub last_in : (classes reference : ℕ) (e : EndPoints) (peaks valleys ranges : List Bin) (c : CanLoad classes reference e peaks valleys ranges) (n : ℕ) → n ≡ classes → 2 ≤ e.points → 1 ≤ get_or (filled 0 (replicate n 0) ranges) (last_range e) 0
-last_in classes reference e peaks valleys ranges c n same le = subst (λ k. 1 ≤ get_or (filled 0 (replicate k 0) ranges) (last_range e) 0) (sym same) (last_there classes reference e peaks valleys ranges c le)
+pub last_in : (classes reference : ℕ) (e : EndPoints) (peaks valleys ranges : List Bin)
+    (c : CanLoad classes reference e peaks valleys ranges) (n : ℕ) → n ≡ classes → 2 ≤ e.points →
+    1 ≤ get_or (filled 0 (replicate n 0) ranges) (last_range e) 0
+last_in classes reference e peaks valleys ranges c n same le = subst (λ k. 1 ≤ get_or (filled 0 (replicate k 0) ranges) (last_range e) 0)
+    (sym same) (last_there classes reference e peaks valleys ranges c le)

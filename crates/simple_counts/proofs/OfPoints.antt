@@ -42,7 +42,8 @@ turn_here p i z o h =
     let t = turn_at p (i - 2) z (omega arith) in
     let a : suc (i - 2) ≡ i - 1 = omega arith in
     let b : suc (suc (i - 2)) ≡ i = omega arith in
-    subst (λ k. Turn (get_or p (i - 2) 0) (get_or p (i - 1) 0) (get_or p k 0)) b (subst (λ k. Turn (get_or p (i - 2) 0) (get_or p k 0) (get_or p (suc (suc (i - 2))) 0)) a t)
+    subst (λ k. Turn (get_or p (i - 2) 0) (get_or p (i - 1) 0) (get_or p k 0)) b
+    (subst (λ k. Turn (get_or p (i - 2) 0) (get_or p k 0) (get_or p (suc (suc (i - 2))) 0)) a t)
 
 turn_true : (a b c : ℕ) → Turn a b c → is_turn a b c ≡ true
 turn_true a b c t = grind (arith, nat_tests)
@@ -50,7 +51,9 @@ turn_true a b c t = grind (arith, nat_tests)
 leb_true : (n : ℕ) → 2 ≤ n → leb 2 n ≡ true
 leb_true n h = grind (arith, nat_tests)
 
-value_same : (K r : ℕ) (e e' : EndPoints) (d d' m m' : List ℕ) → e ≡ e' → d ≡ d' → m ≡ m' → ◌≡◌ {A = SimpleValue} (record { classes = K; reference = r; ends = e; decided = d; extremes = m }) (record { classes = K; reference = r; ends = e'; decided = d'; extremes = m' })
+value_same : (K r : ℕ) (e e' : EndPoints) (d d' m m' : List ℕ) → e ≡ e' → d ≡ d' → m ≡ m' →
+    ◌≡◌ {A = SimpleValue} (record { classes = K; reference = r; ends = e; decided = d; extremes = m })
+    (record { classes = K; reference = r; ends = e'; decided = d'; extremes = m' })
 value_same K r e e' d d' m m' p q s = cc
 
 yes_and : {A : Type 0} (a b : Bool) (x y : A) → a ≡ true → cond (a && b) x y ≡ cond b x y
@@ -67,7 +70,8 @@ level_below k [] i a h = absurd (omega arith)
 level_below k (x ∷ p) zero a h = All-head (λ y. y < k) x p a
 level_below k (x ∷ p) (suc i) a h = level_below k p i (All-tail (λ y. y < k) x p a) (omega arith)
 
-module _ (k r : ℕ) (l d m d' m' : List ℕ) (i : ℕ) (z : IsZigzag l) (a : All (λ x. x < k) l) (f : length l ≤ MAX_POINTS) (o : 2 ≤ i) (h : i < length l) (g : Fills k r l i d m) where
+module _ (k r : ℕ) (l d m d' m' : List ℕ) (i : ℕ) (z : IsZigzag l) (a : All (λ x. x < k) l) (f : length l ≤ MAX_POINTS) (o : 2 ≤ i)
+    (h : i < length l) (g : Fills k r l i d m) where
   length_i : length (take i l) ≡ i
   length_i = length-take-le i l (omega arith)
 
@@ -87,7 +91,8 @@ module _ (k r : ℕ) (l d m d' m' : List ℕ) (i : ℕ) (z : IsZigzag l) (a : Al
   level = level_below k l i a h
 
   turning : is_turn (last_but_one (take i l)) (last_point (take i l)) x ≡ true
-  turning = ap (λ p. is_turn p (last_point (take i l)) x) is_before ∙ ap (λ p. is_turn (get_or l (i - 2) 0) p x) is_last ∙ turn_true _ _ _ (turn_here l i z o h)
+  turning = ap (λ p. is_turn p (last_point (take i l)) x) is_before ∙ ap (λ p. is_turn (get_or l (i - 2) 0) p x) is_last ∙ turn_true _ _ _
+      (turn_here l i z o h)
 
   many : leb 2 (length (take i l)) ≡ true
   many = leb_true _ (omega (arith, length_i))
@@ -101,12 +106,18 @@ module _ (k r : ℕ) (l d m d' m' : List ℕ) (i : ℕ) (z : IsZigzag l) (a : Al
   is_own : points (take i l ++ (x ∷ [])) ≡ take (i + 1) l
   is_own = subst (λ q. points q ≡ take (i + 1) l) more (own (zig_take (i + 1) z))
 
-  is_value : d' ≡ raise d (range (get_or l (i - 2) 0) (get_or l (i - 1) 0)) → m' ≡ cond (is_extreme r (get_or l (i - 2) 0) (get_or l (i - 1) 0) x) (raise m (get_or l (i - 1) 0)) m → push_of x v ≡ value_of k r (take (i + 1) l) d' m'
+  is_value : d' ≡ raise d (range (get_or l (i - 2) 0) (get_or l (i - 1) 0)) →
+      m' ≡ cond (is_extreme r (get_or l (i - 2) 0) (get_or l (i - 1) 0) x) (raise m (get_or l (i - 1) 0)) m →
+      push_of x v ≡ value_of k r (take (i + 1) l) d' m'
   is_value p q = value_same k r _ _ _ _ _ _ (pushed.ends ∙ ap ends_of is_own)
-      (yes_both _ _ _ _ many turning ∙ ap (λ n. raise d (range n (last_point (take i l)))) is_before ∙ ap (λ n. raise d (range (get_or l (i - 2) 0) n)) is_last ∙ sym p)
-      (yes_and _ _ _ _ many ∙ ap (λ n. cond (is_extreme r n (last_point (take i l)) x) (raise m (last_point (take i l))) m) is_before ∙ ap (λ n. cond (is_extreme r (get_or l (i - 2) 0) n x) (raise m n) m) is_last ∙ sym q)
+      (yes_both _ _ _ _ many turning ∙ ap (λ n. raise d (range n (last_point (take i l)))) is_before
+      ∙ ap (λ n. raise d (range (get_or l (i - 2) 0) n)) is_last ∙ sym p)
+      (yes_and _ _ _ _ many ∙ ap (λ n. cond (is_extreme r n (last_point (take i l)) x) (raise m (last_point (take i l))) m) is_before
+      ∙ ap (λ n. cond (is_extreme r (get_or l (i - 2) 0) n x) (raise m n) m) is_last ∙ sym q)
 
-  pub fills_more : d' ≡ raise d (range (get_or l (i - 2) 0) (get_or l (i - 1) 0)) → m' ≡ cond (is_extreme r (get_or l (i - 2) 0) (get_or l (i - 1) 0) (get_or l i 0)) (raise m (get_or l (i - 1) 0)) m → Fills k r l (i + 1) d' m'
+  pub fills_more : d' ≡ raise d (range (get_or l (i - 2) 0) (get_or l (i - 1) 0)) →
+      m' ≡ cond (is_extreme r (get_or l (i - 2) 0) (get_or l (i - 1) 0) (get_or l i 0)) (raise m (get_or l (i - 1) 0)) m →
+      Fills k r l (i + 1) d' m'
   fills_more p q =
       let e = is_value p q in
       record {
@@ -142,7 +153,8 @@ below_two k (x ∷ y ∷ l) a (suc zero) h = All-head (λ z. z < k) y l (All-tai
 below_two k (x ∷ y ∷ l) a (suc (suc i)) h = absurd (omega arith)
 
 -- two points have no inner one
-pub fills_none : (k r : ℕ) (l d m : List ℕ) → IsZigzag l → All (λ x. x < k) l → (2 ≤ k) × (k ≤ 1024) → (1 ≤ r) × (r < k) → length d ≡ k → length m ≡ k → ((j : ℕ) → get_or d j 0 ≡ 0) → ((j : ℕ) → get_or m j 0 ≡ 0) → Fills k r l 2 d m
+pub fills_none : (k r : ℕ) (l d m : List ℕ) → IsZigzag l → All (λ x. x < k) l → (2 ≤ k) × (k ≤ 1024) → (1 ≤ r) × (r < k) → length d ≡ k →
+    length m ≡ k → ((j : ℕ) → get_or d j 0 ≡ 0) → ((j : ℕ) → get_or m j 0 ≡ 0) → Fills k r l 2 d m
 fills_none k r l d m z a c e p q f g =
     let w = zig_take 2 z in
     let o = own w in
@@ -153,7 +165,13 @@ fills_none k r l d m z a c e p q f g =
         decided = p;
         extremes = q;
         ends = list_ends k (take 2 l) (omega arith) w (below_two k l a);
-        agrees = record { sum_of = omega (arith, sum_none d f, short l); first = λ s. absurd (omega (arith, short l)); above = λ j. omega arith; few = omega (arith, sum_none m g) };
+        agrees = record {
+          sum_of = omega (arith, sum_none d f, short l);
+          first = λ s. absurd (omega (arith, short l));
+          above = λ j.
+              omega arith;
+          few = omega (arith, sum_none m g);
+        };
         few = omega (arith, short l);
         none_at_zero = f 0;
       };
@@ -173,12 +191,14 @@ fills_all k r l d m i g h =
     }
 
 -- the value with the tables of all points
-pub filled : {k r : ℕ} {l d m : List ℕ} {e : EndPoints} → Fills k r l (length l) d m → e ≡ ends_of l → IsSimple (record { classes = k; reference = r; ends = e; decided = d; extremes = m })
+pub filled : {k r : ℕ} {l d m : List ℕ} {e : EndPoints} → Fills k r l (length l) d m → e ≡ ends_of l →
+    IsSimple (record { classes = k; reference = r; ends = e; decided = d; extremes = m })
 filled {k} {r} {l} {d} {m} {e} g p =
     let q = take_all (length l) l (omega arith) in
     subst IsSimple (value_same k r _ _ d d m m (ap ends_of q ∙ sym p) refl refl) g.rules
 
-pub filled_counts : {k r : ℕ} {l d m : List ℕ} {e : EndPoints} → points l ≡ l → Fills k r l (length l) d m → e ≡ ends_of l → (h : List ℕ) → points h ≡ l → Counts (record { classes = k; reference = r; ends = e; decided = d; extremes = m }) h
+pub filled_counts : {k r : ℕ} {l d m : List ℕ} {e : EndPoints} → points l ≡ l → Fills k r l (length l) d m → e ≡ ends_of l → (h : List ℕ) →
+    points h ≡ l → Counts (record { classes = k; reference = r; ends = e; decided = d; extremes = m }) h
 filled_counts {k} {r} {l} {d} {m} {e} o g p h s =
     let q = take_all (length l) l (omega arith) in
     let t : points (take (length l) l) ≡ points h = ap points q ∙ o ∙ sym s in

@@ -50,23 +50,43 @@ push_case x e d = pick_none (cases_lt e.points 1)
 abbrev value : ℕ → ℕ → EndPoints → List ℕ → List ℕ → SimpleValue
 value K r e d m = record { classes = K; reference = r; ends = e; decided = d; extremes = m }
 
-pub push_none : (x : ℕ) (v : SimpleValue) → v.ends.points ≡ 0 → push_of x v ≡ value v.classes v.reference (record { points = 1; first = x; second = 0; before = 0; last = x }) v.decided v.extremes
+pub push_none : (x : ℕ) (v : SimpleValue) → v.ends.points ≡ 0 →
+    push_of x v ≡ value v.classes v.reference (record { points = 1; first = x; second = 0; before = 0; last = x }) v.decided v.extremes
 push_none x v h = grind (arith, nat_tests)
 
 pub push_equal_to : (x : ℕ) (v : SimpleValue) → 1 ≤ v.ends.points → x ≡ v.ends.last → push_of x v ≡ v
 push_equal_to x v h q = grind (arith, nat_tests)
 
-pub push_second : (x : ℕ) (v : SimpleValue) → v.ends.points ≡ 1 → x ≢ v.ends.last → push_of x v ≡ value v.classes v.reference (record { points = 2; first = v.ends.first; second = x; before = v.ends.last; last = x }) v.decided v.extremes
+pub push_second : (x : ℕ) (v : SimpleValue) → v.ends.points ≡ 1 → x ≢ v.ends.last →
+    push_of x v ≡ value v.classes v.reference (record { points = 2; first = v.ends.first; second = x; before = v.ends.last; last = x })
+    v.decided v.extremes
 push_second x v h q = grind (arith, nat_tests)
 
-pub push_at_turn : (x : ℕ) (v : SimpleValue) → 2 ≤ v.ends.points → IsTurn v.ends.before v.ends.last x → push_of x v ≡ value v.classes v.reference (record { points = v.ends.points + 1; first = v.ends.first; second = v.ends.second; before = v.ends.last; last = x }) (raise v.decided (range v.ends.before v.ends.last)) (cond (is_extreme v.reference v.ends.before v.ends.last x) (raise v.extremes v.ends.last) v.extremes)
+pub push_at_turn : (x : ℕ) (v : SimpleValue) → 2 ≤ v.ends.points → IsTurn v.ends.before v.ends.last x →
+    push_of x v ≡ value v.classes v.reference (record {
+      points = v.ends.points + 1;
+      first = v.ends.first;
+      second = v.ends.second;
+      before = v.ends.last;
+      last = x;
+    }) (raise v.decided (range v.ends.before v.ends.last))
+    (cond (is_extreme v.reference v.ends.before v.ends.last x) (raise v.extremes v.ends.last) v.extremes)
 push_at_turn x v h q = grind (arith, nat_tests)
 
-pub push_on : (x : ℕ) (v : SimpleValue) → 2 ≤ v.ends.points → IsBetween v.ends.before v.ends.last x → push_of x v ≡ value v.classes v.reference (record { points = v.ends.points; first = v.ends.first; second = cond (eqb v.ends.points 2) x v.ends.second; before = v.ends.before; last = x }) v.decided v.extremes
+pub push_on : (x : ℕ) (v : SimpleValue) → 2 ≤ v.ends.points → IsBetween v.ends.before v.ends.last x →
+    push_of x v ≡ value v.classes v.reference (record {
+      points = v.ends.points;
+      first = v.ends.first;
+      second = cond (eqb v.ends.points 2) x
+          v.ends.second;
+      before = v.ends.before;
+      last = x;
+    }) v.decided v.extremes
 push_on x v h q = grind (arith, nat_tests)
 
 module _ (v : SimpleValue) (x : ℕ) (i : IsSimple v) (h : x < v.classes) (p : v.ends.points + 1 ≤ MAX_POINTS) where
-  rules_none : v.ends.points ≡ 0 → IsSimple (value v.classes v.reference (record { points = 1; first = x; second = 0; before = 0; last = x }) v.decided v.extremes)
+  rules_none : v.ends.points ≡ 0 → IsSimple (value v.classes v.reference
+      (record { points = 1; first = x; second = 0; before = 0; last = x }) v.decided v.extremes)
   rules_none q = record {
     classes = i.classes;
     reference = i.reference;
@@ -80,12 +100,19 @@ module _ (v : SimpleValue) (x : ℕ) (i : IsSimple v) (h : x < v.classes) (p : v
       three = λ s. absurd (omega arith);
       below = (h, omega arith, omega arith, h);
     };
-    agrees = record { sum_of = omega (arith, i.agrees.sum_of); first = λ s. absurd (omega arith); above = λ k. omega arith; few = omega (arith, i.agrees.few) };
+    agrees = record {
+      sum_of = omega (arith, i.agrees.sum_of);
+      first = λ s. absurd (omega arith);
+      above = λ k. omega arith;
+      few = omega (arith, i.agrees.few);
+    };
     few = omega arith;
     none_at_zero = i.none_at_zero;
   }
 
-  rules_second : v.ends.points ≡ 1 → x ≢ v.ends.last → IsSimple (value v.classes v.reference (record { points = 2; first = v.ends.first; second = x; before = v.ends.last; last = x }) v.decided v.extremes)
+  rules_second : v.ends.points ≡ 1 → x ≢ v.ends.last →
+      IsSimple (value v.classes v.reference (record { points = 2; first = v.ends.first; second = x; before = v.ends.last; last = x })
+      v.decided v.extremes)
   rules_second q n =
       let o = i.ends.one q in
       record {
@@ -101,7 +128,12 @@ module _ (v : SimpleValue) (x : ℕ) (i : IsSimple v) (h : x < v.classes) (p : v
           three = λ s. absurd (omega arith);
           below = (i.ends.below.0, h, i.ends.below.3, h);
         };
-        agrees = record { sum_of = omega (arith, i.agrees.sum_of); first = λ s. absurd (omega arith); above = λ k. omega arith; few = omega (arith, i.agrees.few) };
+        agrees = record {
+          sum_of = omega (arith, i.agrees.sum_of);
+          first = λ s. absurd (omega arith);
+          above = λ k. omega arith;
+          few = omega (arith, i.agrees.few);
+        };
         few = omega arith;
         none_at_zero = i.none_at_zero;
       }
@@ -120,10 +152,23 @@ module _ (v : SimpleValue) (x : ℕ) (i : IsSimple v) (h : x < v.classes) (p : v
   last_differs : (a b y : ℕ) → IsTurn a b y → b ≢ y
   last_differs a b y t = grind arith
 
-  rules_turn : 2 ≤ v.ends.points → IsTurn v.ends.before v.ends.last x → IsSimple (value v.classes v.reference (record { points = v.ends.points + 1; first = v.ends.first; second = v.ends.second; before = v.ends.last; last = x }) (raise v.decided (range v.ends.before v.ends.last)) (cond (is_extreme v.reference v.ends.before v.ends.last x) (raise v.extremes v.ends.last) v.extremes))
+  rules_turn : 2 ≤ v.ends.points → IsTurn v.ends.before v.ends.last x →
+      IsSimple (value v.classes v.reference (record {
+        points = v.ends.points + 1;
+        first = v.ends.first;
+        second = v.ends.second;
+        before = v.ends.last;
+        last = x;
+      }) (raise v.decided (range v.ends.before v.ends.last))
+      (cond (is_extreme v.reference v.ends.before v.ends.last x) (raise v.extremes v.ends.last) v.extremes))
   rules_turn q t =
       let w = i.ends.below in
-      let u : range v.ends.before v.ends.last < length v.decided = omega (arith, i.decided, range_below v.classes v.ends.before v.ends.last w.2 w.3) in
+      let u : range v.ends.before v.ends.last < length v.decided = omega (
+        arith,
+        i.decided,
+        range_below v.classes v.ends.before
+            v.ends.last w.2 w.3,
+      ) in
       record {
         classes = i.classes;
         reference = i.reference;
@@ -144,15 +189,26 @@ module _ (v : SimpleValue) (x : ℕ) (i : IsSimple v) (h : x < v.classes) (p : v
           few = omega (arith, i.agrees.few, marks_sum (is_extreme v.reference v.ends.before v.ends.last x));
         };
         few = omega arith;
-        none_at_zero = zero_set v.decided (range v.ends.before v.ends.last) _ (range_positive v.ends.before v.ends.last (i.ends.differ q).1) i.none_at_zero;
+        none_at_zero = zero_set v.decided (range v.ends.before v.ends.last) _ (range_positive v.ends.before v.ends.last (i.ends.differ q).1)
+            i.none_at_zero;
       }
     where
       one_there : (a b c d : ℕ) → a ≡ c → b ≡ d → 1 ≤ is_at (range c d) (range a b)
       one_there a b c d m n = grind (arith, nat_tests)
 
-      turn_first : range v.ends.before v.ends.last < length v.decided → ((v.ends.points < 3) ⊎ (3 ≤ v.ends.points)) → 2 ≤ v.ends.points → 0 + 1 ≤ get_or (raise v.decided (range v.ends.before v.ends.last)) (range v.ends.first v.ends.second) 0
-      turn_first u (inl s) q = let o = i.ends.two (omega arith) in omega (arith, raise_at v.decided (range v.ends.before v.ends.last) (range v.ends.first v.ends.second) u, one_there v.ends.before v.ends.last v.ends.first v.ends.second o.0 o.1)
-      turn_first u (inr s) q = omega (arith, raise_at v.decided (range v.ends.before v.ends.last) (range v.ends.first v.ends.second) u, i.agrees.first s)
+      turn_first : range v.ends.before v.ends.last < length v.decided → ((v.ends.points < 3) ⊎ (3 ≤ v.ends.points)) → 2 ≤ v.ends.points →
+          0 + 1 ≤ get_or (raise v.decided (range v.ends.before v.ends.last)) (range v.ends.first v.ends.second) 0
+      turn_first u (inl s) q = let o = i.ends.two (omega arith) in omega (
+        arith,
+        raise_at v.decided (range v.ends.before v.ends.last)
+            (range v.ends.first v.ends.second) u,
+        one_there v.ends.before v.ends.last v.ends.first v.ends.second o.0 o.1,
+      )
+      turn_first u (inr s) q = omega (
+        arith,
+        raise_at v.decided (range v.ends.before v.ends.last) (range v.ends.first v.ends.second) u,
+        i.agrees.first s,
+      )
 
   second_two : v.ends.points ≡ 2 → cond (eqb v.ends.points 2) x v.ends.second ≡ x
   second_two q = grind (arith, nat_tests)
@@ -166,7 +222,9 @@ module _ (v : SimpleValue) (x : ℕ) (i : IsSimple v) (h : x < v.classes) (p : v
   turn_far : (a b c y : ℕ) → IsTurn a b c → IsBetween b c y → IsTurn a b y
   turn_far a b c y t w = grind arith
 
-  on_ends : 2 ≤ v.ends.points → IsBetween v.ends.before v.ends.last x → (s : ℕ) → (v.ends.points ≡ 2 → s ≡ x) → (3 ≤ v.ends.points → s ≡ v.ends.second) → s < v.classes → IsEnds v.classes (record { points = v.ends.points; first = v.ends.first; second = s; before = v.ends.before; last = x })
+  on_ends : 2 ≤ v.ends.points → IsBetween v.ends.before v.ends.last x → (s : ℕ) → (v.ends.points ≡ 2 → s ≡ x) →
+      (3 ≤ v.ends.points → s ≡ v.ends.second) → s < v.classes →
+      IsEnds v.classes (record { points = v.ends.points; first = v.ends.first; second = s; before = v.ends.before; last = x })
   on_ends q t s a b c = record {
     none = λ w. absurd (omega arith);
     one = λ w. absurd (omega arith);
@@ -180,17 +238,36 @@ module _ (v : SimpleValue) (x : ℕ) (i : IsSimple v) (h : x < v.classes) (p : v
       on_differ (inl w) = let m : v.ends.points ≡ 2 = omega arith in λ z. far v.ends.before v.ends.last x t ((i.ends.two m).0 ∙ z ∙ a m)
       on_differ (inr w) = λ z. (i.ends.differ q).0 (z ∙ b w)
 
-      on_three : s ≡ v.ends.second → (v.ends.before ≡ v.ends.second) × IsTurn v.ends.first v.ends.second v.ends.last → (v.ends.before ≡ s) × IsTurn v.ends.first s x
-      on_three e g = (g.0 ∙ sym e, subst (λ w. IsTurn v.ends.first w x) (sym e) (turn_far v.ends.first v.ends.second v.ends.last x g.1 (subst (λ w. IsBetween w v.ends.last x) g.0 t)))
+      on_three : s ≡ v.ends.second → (v.ends.before ≡ v.ends.second) × IsTurn v.ends.first v.ends.second v.ends.last →
+          (v.ends.before ≡ s) × IsTurn v.ends.first s x
+      on_three e g = (
+        g.0 ∙ sym e,
+        subst (λ w. IsTurn v.ends.first w x) (sym e)
+            (turn_far v.ends.first v.ends.second v.ends.last x g.1 (subst (λ w. IsBetween w v.ends.last x) g.0 t)),
+      )
 
-  rules_on : 2 ≤ v.ends.points → IsBetween v.ends.before v.ends.last x → (s : ℕ) → (v.ends.points ≡ 2 → s ≡ x) → (3 ≤ v.ends.points → s ≡ v.ends.second) → s < v.classes → IsSimple (value v.classes v.reference (record { points = v.ends.points; first = v.ends.first; second = s; before = v.ends.before; last = x }) v.decided v.extremes)
+  rules_on : 2 ≤ v.ends.points → IsBetween v.ends.before v.ends.last x → (s : ℕ) → (v.ends.points ≡ 2 → s ≡ x) →
+      (3 ≤ v.ends.points → s ≡ v.ends.second) → s < v.classes →
+      IsSimple (value v.classes v.reference (record {
+        points = v.ends.points;
+        first = v.ends.first;
+        second = s;
+        before = v.ends.before;
+        last = x;
+      }) v.decided v.extremes)
   rules_on q t s a b c = record {
     classes = i.classes;
     reference = i.reference;
     decided = i.decided;
     extremes = i.extremes;
     ends = on_ends q t s a b c;
-    agrees = record { sum_of = i.agrees.sum_of; first = λ w. subst (λ z. 0 + 1 ≤ get_or v.decided (range v.ends.first z) 0) (sym (b w)) (i.agrees.first w); above = λ k. omega arith; few = i.agrees.few };
+    agrees = record {
+      sum_of = i.agrees.sum_of;
+      first = λ w. subst (λ z. 0 + 1 ≤ get_or v.decided (range v.ends.first z) 0) (sym (b w))
+          (i.agrees.first w);
+      above = λ k. omega arith;
+      few = i.agrees.few;
+    };
     few = i.few;
     none_at_zero = i.none_at_zero;
   }
@@ -204,7 +281,8 @@ module _ (v : SimpleValue) (x : ℕ) (i : IsSimple v) (h : x < v.classes) (p : v
   rules_case (on_equal q n) = subst IsSimple (sym (push_equal_to x v q n)) i
   rules_case (on_second q n) = subst IsSimple (sym (push_second x v q n)) (rules_second q n)
   rules_case (on_turn q t) = subst IsSimple (sym (push_at_turn x v q t)) (rules_turn q t)
-  rules_case (on_passed q t) = subst IsSimple (sym (push_on x v q t)) (rules_on q t _ second_two second_long (second_below (eqb v.ends.points 2)))
+  rules_case (on_passed q t) = subst IsSimple (sym (push_on x v q t)) (rules_on q t _ second_two second_long
+      (second_below (eqb v.ends.points 2)))
 
   -- the rules are kept by a push onto any value that meets them
   pub pushed_counted : IsSimple (push_of x v)
@@ -219,7 +297,9 @@ pub record On (v : SimpleValue) (l : List ℕ) : Type 0 where
 on_to : (v w : SimpleValue) (l : List ℕ) → w ≡ v → On v l → On w l
 on_to v w l e o = subst (λ z. On z l) (sym e) o
 
-ends_six : (a b c d e a' b' c' d' e' : ℕ) → a ≡ a' → b ≡ b' → c ≡ c' → d ≡ d' → e ≡ e' → ◌≡◌ {A = EndPoints} (record { points = a; first = b; second = c; before = d; last = e }) (record { points = a'; first = b'; second = c'; before = d'; last = e' })
+ends_six : (a b c d e a' b' c' d' e' : ℕ) → a ≡ a' → b ≡ b' → c ≡ c' → d ≡ d' → e ≡ e' →
+    ◌≡◌ {A = EndPoints} (record { points = a; first = b; second = c; before = d; last = e })
+    (record { points = a'; first = b'; second = c'; before = d'; last = e' })
 ends_six a b c d e a' b' c' d' e' p q r s t = cc
 
 first_same : (f : List ℕ) (p z : ℕ) (t : List ℕ) → get_or (f ++ (p ∷ z ∷ t)) 0 0 ≡ get_or (f ++ (p ∷ z ∷ [])) 0 0
@@ -235,7 +315,8 @@ first_other : (f : List ℕ) (p y z : ℕ) → get_or (f ++ (p ∷ y ∷ [])) 0 
 first_other [] p y z = refl
 first_other (a ∷ f) p y z = refl
 
-second_other : (f : List ℕ) (p y z : ℕ) → get_or (f ++ (p ∷ y ∷ [])) 1 0 ≡ cond (eqb (length (f ++ (p ∷ z ∷ []))) 2) y (get_or (f ++ (p ∷ z ∷ [])) 1 0)
+second_other : (f : List ℕ) (p y z : ℕ) → get_or (f ++ (p ∷ y ∷ [])) 1 0 ≡ cond (eqb (length (f ++ (p ∷ z ∷ []))) 2) y
+    (get_or (f ++ (p ∷ z ∷ [])) 1 0)
 second_other [] p y z = refl
 second_other (a ∷ []) p y z = grind (arith, nat_tests)
 second_other (a ∷ b ∷ f) p y z = grind (arith, nat_tests, length-append f (p ∷ z ∷ []))
@@ -265,13 +346,19 @@ module _ (v : SimpleValue) (x : ℕ) (i : IsSimple v) (h : x < v.classes) where
       let q = ap (λ e. e.last) o.ends in
       let f = ap (λ e. e.first) o.ends in
       on_to _ _ _ (push_second x v p (λ e. n (e ∙ q)))
-      (subst (λ l. On (value v.classes v.reference (record { points = 2; first = v.ends.first; second = x; before = v.ends.last; last = x }) v.decided v.extremes) l) (two_levels y x (λ e. n (sym e)))
-      (record { ends = ends_six 2 v.ends.first x v.ends.last x 2 y x y x refl f refl q refl; decided = λ k w. o.decided k w; extremes = λ k w. o.extremes k w }))
+      (subst (λ l. On (value v.classes v.reference (record { points = 2; first = v.ends.first; second = x; before = v.ends.last; last = x })
+      v.decided v.extremes) l) (two_levels y x (λ e. n (sym e)))
+      (record {
+        ends = ends_six 2 v.ends.first x v.ends.last x 2 y x y x refl f refl q refl;
+        decided = λ k w. o.decided k w;
+        extremes = λ k w. o.extremes k w;
+      }))
     where
       two_levels : (y x : ℕ) → y ≢ x → y ∷ x ∷ [] ≡ points (y ∷ x ∷ [])
       two_levels y x e = grind (arith, nat_tests)
 
-  mark_at : (k : ℕ) (b : Bool) → v.ends.last < length v.extremes → get_or (cond b (raise v.extremes v.ends.last) v.extremes) k 0 ≡ get_or v.extremes k 0 + cond b (is_at k v.ends.last) 0
+  mark_at : (k : ℕ) (b : Bool) → v.ends.last < length v.extremes →
+      get_or (cond b (raise v.extremes v.ends.last) v.extremes) k 0 ≡ get_or v.extremes k 0 + cond b (is_at k v.ends.last) 0
   mark_at k true w = raise_at v.extremes v.ends.last k w
   mark_at k false w = omega arith
 
@@ -289,26 +376,80 @@ module _ (v : SimpleValue) (x : ℕ) (i : IsSimple v) (h : x < v.classes) where
     on_long_turn q t =
         let t' : Turn p z x = subst (λ a. IsTurn a z x) is_before (subst (λ a. IsTurn v.ends.before a x) is_last t) in
         let w = i.ends.below in
-        let u : range v.ends.before v.ends.last < length v.decided = omega (arith, i.decided, range_below v.classes v.ends.before v.ends.last w.2 w.3) in
+        let u : range v.ends.before v.ends.last < length v.decided = omega
+        (arith, i.decided, range_below v.classes v.ends.before v.ends.last w.2 w.3) in
         let m : v.ends.last < length v.extremes = omega (arith, i.extremes) in
         let d = same_refl p z (ends_apart f p z y) in
-        let g : On (value v.classes v.reference (record { points = v.ends.points + 1; first = v.ends.first; second = v.ends.second; before = v.ends.last; last = x }) (raise v.decided (range v.ends.before v.ends.last)) (cond (is_extreme v.reference v.ends.before v.ends.last x) (raise v.extremes v.ends.last) v.extremes)) (f ++ (p ∷ z ∷ x ∷ [])) = record {
-          ends = ends_six _ _ _ _ _ _ _ _ _ _ (omega (arith, ap (λ e. e.points) o.ends, length-append f (p ∷ z ∷ []), length-append f (p ∷ z ∷ x ∷ []))) (ap (λ e. e.first) o.ends ∙ sym (first_same f p z (x ∷ []))) (ap (λ e. e.second) o.ends ∙ sym (second_same f p z (x ∷ []))) (is_last ∙ sym (before_behind f p z (x ∷ []))) (sym (last_behind f p z (x ∷ [])));
-          decided = λ k c. omega (arith, raise_at v.decided (range v.ends.before v.ends.last) k u, o.decided k c, triples_join _ (range_side k) f p z z (x ∷ []) d, ap (λ a. is_at k (range a v.ends.last)) is_before, ap (λ a. is_at k (range p a)) is_last);
-          extremes = λ k c. omega (arith, mark_at k (is_extreme v.reference v.ends.before v.ends.last x) m, o.extremes k c, triples_join _ (extreme_side v.reference k) f p z z (x ∷ []) d, ap (λ a. cond (is_extreme v.reference a v.ends.last x) (is_at k v.ends.last) 0) is_before, ap (λ a. cond (is_extreme v.reference p a x) (is_at k a) 0) is_last);
+        let g : On (value v.classes v.reference (record {
+          points = v.ends.points + 1;
+          first = v.ends.first;
+          second = v.ends.second;
+          before = v.ends.last;
+          last = x;
+        }) (raise v.decided (range v.ends.before v.ends.last))
+        (cond (is_extreme v.reference v.ends.before v.ends.last x) (raise v.extremes v.ends.last) v.extremes))
+        (f ++ (p ∷ z ∷ x ∷ [])) = record {
+          ends = ends_six _ _ _ _ _ _ _ _ _ _ (omega (
+            arith,
+            ap (λ e. e.points) o.ends,
+            length-append f (p ∷ z ∷ []),
+            length-append f (p ∷ z ∷ x ∷ []),
+          )) (ap (λ e. e.first) o.ends ∙ sym (first_same f p z (x ∷ [])))
+              (ap (λ e. e.second) o.ends ∙ sym (second_same f p z (x ∷ []))) (is_last ∙ sym (before_behind f p z (x ∷ [])))
+              (sym (last_behind f p z (x ∷ [])));
+          decided = λ k c. omega (
+            arith,
+            raise_at v.decided (range v.ends.before v.ends.last) k u,
+            o.decided k c,
+            triples_join _ (range_side k) f p z z (x ∷ []) d,
+            ap (λ a. is_at k (range a v.ends.last)) is_before,
+            ap (λ a. is_at k (range p a)) is_last,
+          );
+          extremes = λ k c. omega (
+            arith,
+            mark_at k (is_extreme v.reference v.ends.before v.ends.last x) m,
+            o.extremes k c,
+            triples_join _ (extreme_side v.reference k) f p z z (x ∷ []) d,
+            ap (λ a. cond (is_extreme v.reference a v.ends.last x) (is_at k v.ends.last) 0) is_before,
+            ap (λ a. cond (is_extreme v.reference p a x) (is_at k a) 0) is_last,
+          );
         } in
-        on_to _ _ _ (push_at_turn x v q t) (subst (On (value v.classes v.reference (record { points = v.ends.points + 1; first = v.ends.first; second = v.ends.second; before = v.ends.last; last = x }) (raise v.decided (range v.ends.before v.ends.last)) (cond (is_extreme v.reference v.ends.before v.ends.last x) (raise v.extremes v.ends.last) v.extremes))) (sym (push_turn f p z x y t')) g)
+        on_to _ _ _ (push_at_turn x v q t) (subst (On (value v.classes v.reference
+        (record { points = v.ends.points + 1; first = v.ends.first; second = v.ends.second; before = v.ends.last; last = x })
+        (raise v.decided (range v.ends.before v.ends.last)) (cond (is_extreme v.reference v.ends.before v.ends.last x)
+        (raise v.extremes v.ends.last) v.extremes))) (sym (push_turn f p z x y t')) g)
 
     on_long_passed : 2 ≤ v.ends.points → IsBetween v.ends.before v.ends.last x → On (push_of x v) (points (f ++ (p ∷ z ∷ x ∷ [])))
     on_long_passed q t =
         let t' : IsBetween p z x = subst (λ a. IsBetween a z x) is_before (subst (λ a. IsBetween v.ends.before a x) is_last t) in
         let d = same_on p z x t' in
-        let g : On (value v.classes v.reference (record { points = v.ends.points; first = v.ends.first; second = cond (eqb v.ends.points 2) x v.ends.second; before = v.ends.before; last = x }) v.decided v.extremes) (f ++ (p ∷ x ∷ [])) = record {
-          ends = ends_six _ _ _ _ _ _ _ _ _ _ (omega (arith, ap (λ e. e.points) o.ends, length-append f (p ∷ z ∷ []), length-append f (p ∷ x ∷ []))) (ap (λ e. e.first) o.ends ∙ sym (first_other f p x z)) (ap (λ e. cond (eqb e.points 2) x e.second) o.ends ∙ sym (second_other f p x z)) (is_before ∙ sym (before_behind f p x [])) (sym (last_behind f p x []));
+        let g : On (value v.classes v.reference (record {
+          points = v.ends.points;
+          first = v.ends.first;
+          second = cond (eqb v.ends.points 2)
+              x v.ends.second;
+          before = v.ends.before;
+          last = x;
+        }) v.decided v.extremes) (f ++ (p ∷ x ∷ [])) = record {
+          ends = ends_six _ _ _ _ _ _ _ _ _ _ (omega (
+            arith,
+            ap (λ e. e.points) o.ends,
+            length-append f (p ∷ z ∷ []),
+            length-append f (p ∷ x ∷ []),
+          )) (ap (λ e. e.first) o.ends ∙ sym (first_other f p x z))
+              (ap (λ e. cond (eqb e.points 2) x e.second) o.ends ∙ sym (second_other f p x z)) (is_before ∙ sym (before_behind f p x []))
+              (sym (last_behind f p x []));
           decided = λ k c. omega (arith, o.decided k c, triples_join _ (range_side k) f p z x [] d);
           extremes = λ k c. omega (arith, o.extremes k c, triples_join _ (extreme_side v.reference k) f p z x [] d);
         } in
-        on_to _ _ _ (push_on x v q t) (subst (On (value v.classes v.reference (record { points = v.ends.points; first = v.ends.first; second = cond (eqb v.ends.points 2) x v.ends.second; before = v.ends.before; last = x }) v.decided v.extremes)) (sym (push_between f p z x y t')) g)
+        on_to _ _ _ (push_on x v q t) (subst (On (value v.classes v.reference
+        (record {
+          points = v.ends.points;
+          first = v.ends.first;
+          second = cond (eqb v.ends.points 2) x v.ends.second;
+          before = v.ends.before;
+          last = x;
+        }) v.decided v.extremes)) (sym (push_between f p z x y t')) g)
 
     on_long : 2 ≤ v.ends.points → PushCase x v.ends → On (push_of x v) (points (f ++ (p ∷ z ∷ x ∷ [])))
     on_long q (on_none n) = absurd (omega arith)
@@ -317,7 +458,8 @@ module _ (v : SimpleValue) (x : ℕ) (i : IsSimple v) (h : x < v.classes) where
     on_long q (on_turn n t) = on_long_turn q t
     on_long q (on_passed n t) = on_long_passed q t
 
-  on_tail : (f : List ℕ) (p z : ℕ) (l : List ℕ) → l ≡ f ++ (p ∷ z ∷ []) → IsZigzag l → On v l → 2 ≤ v.ends.points → On (push_of x v) (points (l ++ (x ∷ [])))
+  on_tail : (f : List ℕ) (p z : ℕ) (l : List ℕ) → l ≡ f ++ (p ∷ z ∷ []) → IsZigzag l → On v l → 2 ≤ v.ends.points →
+      On (push_of x v) (points (l ++ (x ∷ [])))
   on_tail f p z l e y o q =
       let a = append_assoc f (p ∷ z ∷ []) (x ∷ []) in
       let w = on_long f p z (subst (On v) e o) (subst IsZigzag e y) q (push_case x v.ends (λ k. (i.ends.differ k).1)) in

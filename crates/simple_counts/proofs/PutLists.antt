@@ -20,8 +20,10 @@ range_below k x y p q = omega arith
 abbrev Tables : ℕ → ℕ → (ℕ → ℕ) → EndPoints → List ℕ → List ℕ → Type 0
 Tables A B a e d m = Agrees A B a e d m
 
-agrees_to : {A B : ℕ} {a : ℕ → ℕ} {e e' : EndPoints} {d d' m m' : List ℕ} (p : Unit {0}) (q : Unit {0}) (s : Unit {0}) → e' ≡ e → d' ≡ d → m' ≡ m → Agrees A B a e d m → Agrees A B a e' d' m'
-agrees_to {A} {B} {a} {e} {e'} {d} {d'} {m} {m'} _ _ _ p q s g = subst (λ w. Agrees A B a w d' m') (sym p) (subst (λ w. Agrees A B a e w m') (sym q) (subst (λ w. Agrees A B a e d w) (sym s) g))
+agrees_to : {A B : ℕ} {a : ℕ → ℕ} {e e' : EndPoints} {d d' m m' : List ℕ} (p : Unit {0}) (q : Unit {0}) (s : Unit {0}) → e' ≡ e → d' ≡ d →
+    m' ≡ m → Agrees A B a e d m → Agrees A B a e' d' m'
+agrees_to {A} {B} {a} {e} {e'} {d} {d'} {m} {m'} _ _ _ p q s g =
+    subst (λ w. Agrees A B a w d' m') (sym p) (subst (λ w. Agrees A B a e w m') (sym q) (subst (λ w. Agrees A B a e d w) (sym s) g))
 
 low_step : (a : ℕ → ℕ) (u k x y z : ℕ) → a u + 1 ≤ z → x + is_at k u ≡ y → a k ≤ y → ((u ≡ k) ⊎ (u ≢ k)) → (u ≡ k → y ≡ z) → a k ≤ x
 low_step a u k x y z f e g (inl s) c = let o = c s in omega (arith, ap a s, at_one u k s)
@@ -33,15 +35,19 @@ low_step a u k x y z f e g (inr n) c = omega (arith, at_zero u k n)
     at_zero : (u k : ℕ) → u ≢ k → is_at k u ≡ 0
     at_zero u k s = grind (arith, nat_tests)
 
-passed_low : (a : ℕ → ℕ) (d : List ℕ) (u k : ℕ) → a u + 1 ≤ get_or d u 0 → u < length d → 1 ≤ get_or d u 0 → a k ≤ get_or d k 0 → ((u ≡ k) ⊎ (u ≢ k)) → a k ≤ get_or (lower d u) k 0
+passed_low : (a : ℕ → ℕ) (d : List ℕ) (u k : ℕ) → a u + 1 ≤ get_or d u 0 → u < length d → 1 ≤ get_or d u 0 → a k ≤ get_or d k 0 →
+    ((u ≡ k) ⊎ (u ≢ k)) → a k ≤ get_or (lower d u) k 0
 passed_low a d u k f q o g c = low_step a u k _ _ _ f (lower_at d u k q o) g c (λ s. ap (λ j. get_or d j 0) (sym s))
 
-module _ (K r x A B : ℕ) (a : ℕ → ℕ) (e : EndPoints) (d m : List ℕ) (i : IsEnds K e) (h : x < K) (ld : length d ≡ K) (lm : length m ≡ K) (g : Agrees A B a e d m) where
+module _ (K r x A B : ℕ) (a : ℕ → ℕ) (e : EndPoints) (d m : List ℕ) (i : IsEnds K e) (h : x < K) (ld : length d ≡ K) (lm : length m ≡ K)
+    (g : Agrees A B a e d m) where
   mark_sum : (b : Bool) → sum (cond b (raise m e.first) m) ≤ sum m + 1
   mark_sum true = omega (arith, sum_raise m e.first (omega (arith, i.below)))
   mark_sum false = omega arith
 
-  agrees_turn : 2 ≤ e.points → IsTurn x e.first e.second → Agrees A B a (record { points = e.points + 1; first = x; second = e.first; before = e.before; last = e.last }) (raise d (range x e.first)) (cond (is_extreme r x e.first e.second) (raise m e.first) m)
+  agrees_turn : 2 ≤ e.points → IsTurn x e.first e.second →
+      Agrees A B a (record { points = e.points + 1; first = x; second = e.first; before = e.before; last = e.last })
+      (raise d (range x e.first)) (cond (is_extreme r x e.first e.second) (raise m e.first) m)
   agrees_turn p t =
       let b = i.below in
       let q : range x e.first < length d = omega (arith, range_below K x e.first h b.0) in
@@ -52,7 +58,9 @@ module _ (K r x A B : ℕ) (a : ℕ → ℕ) (e : EndPoints) (d m : List ℕ) (i
         few = omega (arith, mark_sum (is_extreme r x e.first e.second), g.few);
       }
 
-  agrees_passed : 3 ≤ e.points → IsBetween x e.first e.second → Agrees A B a (record { points = e.points; first = x; second = e.second; before = e.before; last = e.last }) (raise (lower d (range e.first e.second)) (range x e.second)) m
+  agrees_passed : 3 ≤ e.points → IsBetween x e.first e.second →
+      Agrees A B a (record { points = e.points; first = x; second = e.second; before = e.before; last = e.last })
+      (raise (lower d (range e.first e.second)) (range x e.second)) m
   agrees_passed p t =
       let b = i.below in
       let u = range e.first e.second in
@@ -69,7 +77,8 @@ module _ (K r x A B : ℕ) (a : ℕ → ℕ) (e : EndPoints) (d m : List ℕ) (i
         few = g.few;
       }
 
-  agrees_between : 2 ≤ e.points → IsBetween x e.first e.second → ((e.points < 3) ⊎ (3 ≤ e.points)) → Agrees A B a (put x e) (decide x e d) (mark r x e m)
+  agrees_between : 2 ≤ e.points → IsBetween x e.first e.second → ((e.points < 3) ⊎ (3 ≤ e.points)) →
+      Agrees A B a (put x e) (decide x e d) (mark r x e m)
   agrees_between p b (inl s) =
       let q : e.points ≡ 2 = omega arith in
       agrees_to _ _ _ (put_two x e q b) (decide_two x e d q b) (mark_passed r x e m b)
@@ -130,11 +139,13 @@ module _ (K r : ℕ) (a b : ℕ → ℕ) (d m : List ℕ) (ld : length d ≡ K) 
   at_to : {l d' m' : List ℕ} → d' ≡ d → m' ≡ m → At K r a b l d m → At K r a b l d' m'
   at_to {l} {d'} {m'} p q g = subst (λ t. At K r a b l t m') (sym p) (subst (λ t. At K r a b l d t) (sym q) g)
 
-  marked : (x y z k : ℕ) (l : List ℕ) (t : Bool) → y < K → get_or m k 0 ≡ b k + extremes_at r k (y ∷ z ∷ l) → get_or (cond t (raise m y) m) k 0 ≡ b k + (cond t (is_at k y) 0 + extremes_at r k (y ∷ z ∷ l))
+  marked : (x y z k : ℕ) (l : List ℕ) (t : Bool) → y < K → get_or m k 0 ≡ b k + extremes_at r k (y ∷ z ∷ l) →
+      get_or (cond t (raise m y) m) k 0 ≡ b k + (cond t (is_at k y) 0 + extremes_at r k (y ∷ z ∷ l))
   marked x y z k l true h e = omega (arith, raise_at m y k (omega arith))
   marked x y z k l false h e = omega arith
 
-  at_turned : (x y z : ℕ) (l : List ℕ) → Turn x y z → x < K → y < K → At K r a b (y ∷ z ∷ l) d m → At K r a b (x ∷ y ∷ z ∷ l) (decide x (ends_of (y ∷ z ∷ l)) d) (mark r x (ends_of (y ∷ z ∷ l)) m)
+  at_turned : (x y z : ℕ) (l : List ℕ) → Turn x y z → x < K → y < K → At K r a b (y ∷ z ∷ l) d m →
+      At K r a b (x ∷ y ∷ z ∷ l) (decide x (ends_of (y ∷ z ∷ l)) d) (mark r x (ends_of (y ∷ z ∷ l)) m)
   at_turned x y z l t p q g =
       let s : 2 ≤ length (y ∷ z ∷ l) = omega arith in
       let u : range x y < length d = omega (arith, range_below K x y p q) in
@@ -148,13 +159,15 @@ module _ (K r : ℕ) (a b : ℕ → ℕ) (d m : List ℕ) (ld : length d ≡ K) 
   same_extreme : (x y z c k : ℕ) → IsBetween x y z → cond (is_extreme r x z c) (is_at k z) 0 ≡ cond (is_extreme r y z c) (is_at k z) 0
   same_extreme x y z c k t = grind (arith, nat_tests)
 
-  at_two : (x y z : ℕ) → IsBetween x y z → At K r a b (y ∷ z ∷ []) d m → At K r a b (x ∷ z ∷ []) (decide x (ends_of (y ∷ z ∷ [])) d) (mark r x (ends_of (y ∷ z ∷ [])) m)
+  at_two : (x y z : ℕ) → IsBetween x y z → At K r a b (y ∷ z ∷ []) d m →
+      At K r a b (x ∷ z ∷ []) (decide x (ends_of (y ∷ z ∷ [])) d) (mark r x (ends_of (y ∷ z ∷ [])) m)
   at_two x y z t g =
       let e = decide_two x (ends_of (y ∷ z ∷ [])) d refl t in
       let f = mark_passed r x (ends_of (y ∷ z ∷ [])) m t in
       record { decided = λ k h. ap (λ w. get_or w k 0) e ∙ g.decided k h; extremes = λ k h. ap (λ w. get_or w k 0) f ∙ g.extremes k h }
 
-  at_passed_on : (x y z c : ℕ) (l : List ℕ) → IsBetween x y z → x < K → y < K → z < K → At K r a b (y ∷ z ∷ c ∷ l) d m → At K r a b (x ∷ z ∷ c ∷ l) (decide x (ends_of (y ∷ z ∷ c ∷ l)) d) (mark r x (ends_of (y ∷ z ∷ c ∷ l)) m)
+  at_passed_on : (x y z c : ℕ) (l : List ℕ) → IsBetween x y z → x < K → y < K → z < K → At K r a b (y ∷ z ∷ c ∷ l) d m →
+      At K r a b (x ∷ z ∷ c ∷ l) (decide x (ends_of (y ∷ z ∷ c ∷ l)) d) (mark r x (ends_of (y ∷ z ∷ c ∷ l)) m)
   at_passed_on x y z c l t p q o g =
       let s : 3 ≤ length (y ∷ z ∷ c ∷ l) = omega arith in
       let e = decide_passed x (ends_of (y ∷ z ∷ c ∷ l)) d s t in
@@ -165,14 +178,24 @@ module _ (K r : ℕ) (a b : ℕ → ℕ) (d m : List ℕ) (ld : length d ≡ K) 
       let i = g.decided (range y z) (omega arith) in
       let j : 1 ≤ get_or d (range y z) 0 = grind (arith, nat_tests) in
       record {
-        decided = λ k h. omega (arith, ap (λ w. get_or w k 0) e, raise_at (lower d (range y z)) (range x z) k v, lower_at d (range y z) k u j, g.decided k h);
+        decided = λ k h. omega (
+          arith,
+          ap (λ w. get_or w k 0) e,
+          raise_at (lower d (range y z)) (range x z) k v,
+          lower_at d (range y z) k u
+              j,
+          g.decided k h,
+        );
         extremes = λ k h. omega (arith, ap (λ w. get_or w k 0) f, g.extremes k h, same_extreme x y z c k t);
       }
 
-  pub at_added : {x : ℕ} {l n : List ℕ} → Added x l n → x < K → IsEnds K (ends_of l) → At K r a b l d m → At K r a b n (decide x (ends_of l) d) (mark r x (ends_of l) m)
-  at_added {x} first h w g = at_to (decide_short x (ends_of []) d (omega arith)) (mark_short r x (ends_of []) m (omega arith)) (record { decided = g.decided; extremes = g.extremes })
+  pub at_added : {x : ℕ} {l n : List ℕ} → Added x l n → x < K → IsEnds K (ends_of l) → At K r a b l d m →
+      At K r a b n (decide x (ends_of l) d) (mark r x (ends_of l) m)
+  at_added {x} first h w g = at_to (decide_short x (ends_of []) d (omega arith)) (mark_short r x (ends_of []) m (omega arith))
+      (record { decided = g.decided; extremes = g.extremes })
   at_added {x} (equal {y = y} {l = l} e) h w g = at_to (decide_equal x (ends_of (y ∷ l)) d e) (mark_equal r x (ends_of (y ∷ l)) m e) g
-  at_added {x} (second {y = y} n) h w g = at_to (decide_short x (ends_of (y ∷ [])) d (omega arith)) (mark_short r x (ends_of (y ∷ [])) m (omega arith)) (record { decided = g.decided; extremes = g.extremes })
+  at_added {x} (second {y = y} n) h w g = at_to (decide_short x (ends_of (y ∷ [])) d (omega arith))
+      (mark_short r x (ends_of (y ∷ [])) m (omega arith)) (record { decided = g.decided; extremes = g.extremes })
   at_added {x} (turn {y = y} {z = z} {l = l} t) h w g = at_turned x y z l t h w.below.0 g
   at_added {x} (between {y = y} {z = z} {l = []} t) h w g = at_two x y z t g
   at_added {x} (between {y = y} {z = z} {l = c ∷ l} t) h w g = at_passed_on x y z c l t h w.below.0 w.below.1 g

@@ -31,14 +31,16 @@ module _ (x : ℕ) (e : EndPoints) (t : List ℕ) (z : get_or t 0 0 ≡ 0) where
   zero_case d (at_equal p q) = ap (λ l. get_or l 0 0) (decide_equal x e t q) ∙ z
   zero_case d (at_second p q) = ap (λ l. get_or l 0 0) (decide_short x e t (omega arith)) ∙ z
   zero_case d (at_turn p q) =
-      ap (λ l. get_or l 0 0) (decide_turn x e t p q) ∙ zero_set t (range x e.first) _ (range_positive x e.first (turn_differs x e.first e.second q)) z
+      ap (λ l. get_or l 0 0) (decide_turn x e t p q) ∙ zero_set t (range x e.first) _
+      (range_positive x e.first (turn_differs x e.first e.second q)) z
   zero_case d (at_passed p q) = pick (cases_lt e.points 3)
     where
       pick : ((e.points < 3) ⊎ (3 ≤ e.points)) → get_or (decide x e t) 0 0 ≡ 0
       pick (inl s) = ap (λ l. get_or l 0 0) (decide_two x e t (omega arith) q) ∙ z
       pick (inr s) =
           ap (λ l. get_or l 0 0) (decide_passed x e t s q)
-          ∙ zero_set (lower t (range e.first e.second)) (range x e.second) _ (range_positive x e.second (between_differs x e.first e.second q))
+          ∙ zero_set (lower t (range e.first e.second)) (range x e.second) _
+          (range_positive x e.second (between_differs x e.first e.second q))
           (zero_set t (range e.first e.second) _ (range_positive e.first e.second (d p)) z)
 
 zero_decide : (K x : ℕ) (e : EndPoints) (t : List ℕ) → IsEnds K e → get_or t 0 0 ≡ 0 → get_or (decide x e t) 0 0 ≡ 0

@@ -36,7 +36,8 @@ pub record CanLoad (classes reference : ℕ) (e : EndPoints) (peaks valleys rang
 
 -- the ranges but the last one
 abbrev pub decided_of : ℕ → EndPoints → List Bin → List ℕ
-decided_of k e ranges = if nat_le 2 e.points then lower (filled 0 (replicate k 0) ranges) (last_range e) else filled 0 (replicate k 0) ranges
+decided_of k e ranges = if nat_le 2 e.points then lower (filled 0 (replicate k 0) ranges) (last_range e)
+    else filled 0 (replicate k 0) ranges
 
 abbrev pub loaded_of : ℕ → ℕ → EndPoints → List Bin → List Bin → List Bin → SimpleValue
 loaded_of classes reference e peaks valleys ranges = record {

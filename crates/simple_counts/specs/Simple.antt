@@ -2,7 +2,8 @@
 --   ranges_at        how many neighbours are k apart
 --   peaks_at         how many inner levels at l, at or above the reference, are greater than both neighbours
 --   valleys_at       how many inner levels at l, below the reference, are less than both neighbours
---   SimpleValue      what contracts see of a `Simple`: the ranges but the last, which may still grow, and one table for peaks and
+--   SimpleValue      what contracts see of a `Simple`: the ranges but the last, which may still grow, and one table for
+--                    peaks and
 --                    valleys
 --   range_count, peak_count, valley_count   what the readers tell
 --   IsSimple         what holds of every `Simple`
@@ -25,13 +26,15 @@ abbrev pub peaks_at : ℕ → ℕ → List ℕ → ℕ
 peaks_at r l [] = 0
 peaks_at r l (x ∷ []) = 0
 peaks_at r l (x ∷ y ∷ []) = 0
-peaks_at r l (x ∷ y ∷ z ∷ p) = (if y == l && nat_le r l && (nat_lt x y && nat_lt z y) then 1 else 0) + peaks_at r l (y ∷ z ∷ p)
+peaks_at r l (x ∷ y ∷ z ∷ p) =
+    (if y == l && nat_le r l && (nat_lt x y && nat_lt z y) then 1 else 0) + peaks_at r l (y ∷ z ∷ p)
 
 abbrev pub valleys_at : ℕ → ℕ → List ℕ → ℕ
 valleys_at r l [] = 0
 valleys_at r l (x ∷ []) = 0
 valleys_at r l (x ∷ y ∷ []) = 0
-valleys_at r l (x ∷ y ∷ z ∷ p) = (if y == l && nat_lt l r && (nat_lt y x && nat_lt y z) then 1 else 0) + valleys_at r l (y ∷ z ∷ p)
+valleys_at r l (x ∷ y ∷ z ∷ p) =
+    (if y == l && nat_lt l r && (nat_lt y x && nat_lt y z) then 1 else 0) + valleys_at r l (y ∷ z ∷ p)
 
 -- a sum over each three neighbours
 abbrev pub triples : (ℕ → ℕ → ℕ → ℕ) → List ℕ → ℕ
@@ -109,14 +112,17 @@ decide x e t =
     else raise (lower t (range e.first e.second)) (range x e.second)
 
 abbrev pub mark : ℕ → ℕ → EndPoints → List ℕ → List ℕ
-mark r x e t = if nat_lt e.points 2 || x == e.first then t else if is_extreme r x e.first e.second then raise t e.first else t
+mark r x e t =
+    if nat_lt e.points 2 || x == e.first then t else if is_extreme r x e.first e.second then raise t e.first else t
 
 -- the tables of two parts, one after the other, where d and m are those of both added
 abbrev pub decide_join : EndPoints → EndPoints → List ℕ → List ℕ
-decide_join e f d = if e.points == 0 then d else if e.points == 1 then decide e.last f d else decide e.before (put e.last f) (decide e.last f d)
+decide_join e f d = if e.points == 0 then d else if e.points == 1 then decide e.last f d
+    else decide e.before (put e.last f) (decide e.last f d)
 
 abbrev pub mark_join : ℕ → EndPoints → EndPoints → List ℕ → List ℕ
-mark_join r e f m = if e.points == 0 then m else if e.points == 1 then mark r e.last f m else mark r e.before (put e.last f) (mark r e.last f m)
+mark_join r e f m = if e.points == 0 then m else if e.points == 1 then mark r e.last f m
+    else mark r e.before (put e.last f) (mark r e.last f m)
 
 abbrev pub join_of : SimpleValue → SimpleValue → SimpleValue
 join_of s t = record {
@@ -136,7 +142,8 @@ push_of x v = record {
   reference = v.reference;
   ends = ends_push x v.ends;
   decided = if turns_at x v.ends then raise v.decided (range v.ends.before v.ends.last) else v.decided;
-  extremes = if nat_le 2 v.ends.points && is_extreme v.reference v.ends.before v.ends.last x then raise v.extremes v.ends.last else v.extremes;
+  extremes = if nat_le 2 v.ends.points && is_extreme v.reference v.ends.before v.ends.last x
+      then raise v.extremes v.ends.last else v.extremes;
 }
 
 -- the value with the ends of a list and these tables

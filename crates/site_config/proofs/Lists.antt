@@ -15,20 +15,27 @@ items_list-view [] = refl
 items_list-view (v ∷ vs) = ap (λ ds. view v ∷ ds) (items_list-view vs)
 
 -- an array of so many items, and of too many or too few
-pub items_in-within : (part : Part) (low high : ℕ) (d : Data) (vs : List Value) → as_array d ≡ Some (items_view vs) → is_in_limits low high (length vs) ≡ true → items_in part low high d ≡ Ok (map view vs)
+pub items_in-within : (part : Part) (low high : ℕ) (d : Data) (vs : List Value) → as_array d ≡ Some (items_view vs) →
+    is_in_limits low high (length vs) ≡ true → items_in part low high d ≡ Ok (map view vs)
 unfolding items_in
 items_in-within part low high d vs e fits = rw (e, items_list-view vs, length-map vs view, fits) refl
 
-pub items_in-outside : (part : Part) (low high : ℕ) (d : Data) (vs : List Value) → as_array d ≡ Some (items_view vs) → is_in_limits low high (length vs) ≡ false → items_in part low high d ≡ Err (fault.Limit (record { part = part; index = 0; name = Itself }))
+pub items_in-outside : (part : Part) (low high : ℕ) (d : Data) (vs : List Value) → as_array d ≡ Some (items_view vs) →
+    is_in_limits low high (length vs) ≡ false →
+    items_in part low high d ≡ Err (fault.Limit (record { part = part; index = 0; name = Itself }))
 unfolding items_in
 items_in-outside part low high d vs e over = rw (e, items_list-view vs, length-map vs view, over) refl
 
 -- a name is at place i, or further on, or nowhere
-pub place_from-here : {X : Type 0} (f : X → List ℕ) (name : List ℕ) (xs : List X) (i : ℕ) (d : X) → i < length xs → pointwise ◌==◌ (f (get_or xs i d)) name ≡ true → place_from i name (map f (drop i xs)) ≡ Some i
+pub place_from-here : {X : Type 0} (f : X → List ℕ) (name : List ℕ) (xs : List X) (i : ℕ) (d : X) → i < length xs →
+    pointwise ◌==◌ (f (get_or xs i d)) name ≡ true → place_from i name (map f (drop i xs)) ≡ Some i
 place_from-here f name xs i d within same = at_drop_more (λ ys. place_from i name (map f ys)) xs i d within ∙ rw same refl
 
-pub place_from-next : {X : Type 0} (f : X → List ℕ) (name : List ℕ) (xs : List X) (i : ℕ) (d : X) → i < length xs → pointwise ◌==◌ (f (get_or xs i d)) name ≡ false → place_from i name (map f (drop i xs)) ≡ place_from (i + 1) name (map f (drop (i + 1) xs))
+pub place_from-next : {X : Type 0} (f : X → List ℕ) (name : List ℕ) (xs : List X) (i : ℕ) (d : X) → i < length xs →
+    pointwise ◌==◌ (f (get_or xs i d)) name ≡ false →
+    place_from i name (map f (drop i xs)) ≡ place_from (i + 1) name (map f (drop (i + 1) xs))
 place_from-next f name xs i d within other = at_drop_more (λ ys. place_from i name (map f ys)) xs i d within ∙ rw other refl
 
-pub place_from-past : {X : Type 0} (f : X → List ℕ) (name : List ℕ) (xs : List X) (i : ℕ) → length xs ≤ i → place_from i name (map f (drop i xs)) ≡ None
+pub place_from-past : {X : Type 0} (f : X → List ℕ) (name : List ℕ) (xs : List X) (i : ℕ) → length xs ≤ i →
+    place_from i name (map f (drop i xs)) ≡ None
 place_from-past f name xs i past = at_drop_all (λ ys. place_from i name (map f ys)) xs i past

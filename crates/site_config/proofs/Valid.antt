@@ -46,7 +46,8 @@ passes : {X : Type 0} (b : Bool) (key : Key) (x y : X) → within_limits b key x
 passes true key x y e = (refl, same_ok x y e)
 passes false key x y e = absurd (cc)
 
-untaken : (place : Option ℕ) (part : Part) (second : ℕ) (name y : List ℕ) → unless_taken place part second name ≡ Ok y → (place ≡ None) × (name ≡ y)
+untaken : (place : Option ℕ) (part : Part) (second : ℕ) (name y : List ℕ) → unless_taken place part second name ≡ Ok y →
+    (place ≡ None) × (name ≡ y)
 untaken None part second name y e = (refl, same_ok name y e)
 untaken (Some first) part second name y e = absurd (cc)
 
@@ -55,9 +56,11 @@ placed_if true i rest e = absurd (cc)
 placed_if false i rest e = (refl, e)
 
 -- a name that has no place is none of those
-no_place : (name : List ℕ) (names : List (List ℕ)) (i : ℕ) → place_from i name names ≡ None → (k : ℕ) → k < length names → get_or names k [] ≢ name
+no_place : (name : List ℕ) (names : List (List ℕ)) (i : ℕ) → place_from i name names ≡ None → (k : ℕ) → k < length names →
+    get_or names k [] ≢ name
 no_place name [] i e k lt = absurd (omega (arith, lt))
-no_place name (other ∷ names) i e zero lt = other_text other name (sym (placed_if (pointwise ◌==◌ other name) i (place_from (i + 1) name names) e).0)
+no_place name (other ∷ names) i e zero lt =
+    other_text other name (sym (placed_if (pointwise ◌==◌ other name) i (place_from (i + 1) name names) e).0)
 no_place name (other ∷ names) i e (suc k) lt =
     no_place name names (i + 1) (placed_if (pointwise ◌==◌ other name) i (place_from (i + 1) name names) e).1 k (omega (arith, lt))
 
@@ -82,7 +85,8 @@ one_longer : {X : Type 0} (xs : List X) (x : X) → length (xs ++ x ∷ []) ≡ 
 one_longer [] x = refl
 one_longer (y ∷ xs) x = omega (arith, one_longer xs x)
 
-named_more : (xs : List Gauge) (y : Gauge) → AreNamed xs → is_name y.name ≡ true → place_of y.name (gauge_names xs) ≡ None → AreNamed (xs ++ y ∷ [])
+named_more : (xs : List Gauge) (y : Gauge) → AreNamed xs → is_name y.name ≡ true → place_of y.name (gauge_names xs) ≡ None →
+    AreNamed (xs ++ y ∷ [])
 named_more xs y are name new = record { names = names; differ = differ }
   where
     before : (g : ℕ) → g < length xs → get_or (xs ++ y ∷ []) g no_gauge ≡ get_or xs g no_gauge
@@ -100,7 +104,8 @@ named_more xs y are name new = record { names = names; differ = differ }
         by_case (inl less) = subst (λ x. is_name x.name ≡ true) (sym (before g less)) (are.names g less)
         by_case (inr le) = subst (λ x. is_name x.name ≡ true) (sym (last g le lt)) name
 
-    differ : (g h : ℕ) → g < h → h < length (xs ++ y ∷ []) → (get_or (xs ++ y ∷ []) g no_gauge).name ≢ (get_or (xs ++ y ∷ []) h no_gauge).name
+    differ : (g h : ℕ) → g < h → h < length (xs ++ y ∷ []) →
+        (get_or (xs ++ y ∷ []) g no_gauge).name ≢ (get_or (xs ++ y ∷ []) h no_gauge).name
     differ g h less lt = by_case (cases_lt h (length xs))
       where
         under : g < length xs
@@ -125,7 +130,8 @@ name_at-ok key ms y e =
     let p = passes (is_name t.value) key t.value y t.second in
     subst (λ z. is_name z ≡ true) p.1 p.0
 
-new_name : (part : Part) (second : ℕ) (names : List (List ℕ)) (name y : List ℕ) → unless_taken_before part second names name ≡ Ok y → (place_of name names ≡ None) × (name ≡ y)
+new_name : (part : Part) (second : ℕ) (names : List (List ℕ)) (name y : List ℕ) → unless_taken_before part second names name ≡ Ok y →
+    (place_of name names ≡ None) × (name ≡ y)
 unfolding unless_taken_before
 new_name part second names name y e = untaken (place_of name names) part second name y e
 
@@ -140,7 +146,8 @@ gauge_read before value x e =
     let den = both_ok (natural_or 1 (gauge_key i key.Den) 1 MAX_DEN part.value) _ x num.second in
     let offset = both_ok (number_or (pos 0) (gauge_key i key.Offset) (minus MAX_OFFSET) (pos MAX_OFFSET) part.value) _ x den.second in
     let again = both_ok (unless_taken_before parts.Gauge i (gauge_names before) name.value) _ x offset.second in
-    let is = same_ok (record { name = again.value; file = file.value }, record { num = num.value; den = den.value; offset = offset.value }) x again.second in
+    let is = same_ok (record { name = again.value; file = file.value }, record { num = num.value; den = den.value; offset = offset.value })
+    x again.second in
     let new = new_name parts.Gauge i (gauge_names before) name.value again.value again.first in
     let one = subst (λ n. is_name n ≡ true) new.1 (name_at-ok (gauge_key i key.Name) part.value name.value name.first) in
     let two = subst (λ n. place_of n (gauge_names before) ≡ None) new.1 new.0 in
@@ -153,7 +160,8 @@ record AreRead (before : Gauges) (more : ℕ) (g : Gauges) : Type 0 where
 
 gauges_read : (before : Gauges) (values : List Data) (g : Gauges) → AreNamed before.names → length before.gains ≡ length before.names
     → gauges_after before values ≡ Ok g → AreRead before (length values) g
-gauges_read before [] g named same e = subst (λ x. AreRead before 0 x) (same_ok before g e) (record { named = named; gains = same; many = omega arith })
+gauges_read before [] g named same e =
+    subst (λ x. AreRead before 0 x) (same_ok before g e) (record { named = named; gains = same; many = omega arith })
 gauges_read before (value ∷ values) g named same e =
     let first = both_ok (gauge_in before.names value) _ g e in
     let is = gauge_read before.names value first.value first.first in
@@ -162,7 +170,8 @@ gauges_read before (value ∷ values) g named same e =
     (one_longer before.gains first.value.1 ∙ (ap (λ n. n + 1) same ∙ sym (one_longer before.names first.value.0))) first.second in
     record { named = rest.named; gains = rest.gains; many = omega (arith, rest.many, one_longer before.names first.value.0) }
 
-items_within : (part : Part) (low high : ℕ) (value : Data) (ds : List Data) → items_in part low high value ≡ Ok ds → (low ≤ length ds) × (length ds ≤ high)
+items_within : (part : Part) (low high : ℕ) (value : Data) (ds : List Data) → items_in part low high value ≡ Ok ds →
+    (low ≤ length ds) × (length ds ≤ high)
 unfolding items_in
 items_within part low high value ds e =
     let at : Key = record { part = part; index = 0; name = key.Itself } in
@@ -196,7 +205,8 @@ place_below [] name i place e = absurd (cc)
 place_below (other ∷ names) name i place e =
     by_case (found_if (pointwise ◌==◌ other name) i place (place_from (i + 1) name names) e) (λ is. place_below names name (i + 1) place is)
   where
-    by_case : (i ≡ place) ⊎ (place_from (i + 1) name names ≡ Some place) → (place_from (i + 1) name names ≡ Some place → place < i + 1 + length names)
+    by_case : (i ≡ place) ⊎ (place_from (i + 1) name names ≡ Some place) →
+        (place_from (i + 1) name names ≡ Some place → place < i + 1 + length names)
         → place < i + length (other ∷ names)
     by_case (inl same) next = omega (arith, same)
     by_case (inr is) next = omega (arith, next is)
@@ -241,7 +251,8 @@ on_more gauges ds x are is = record { each = each }
     each d any lt = by_case (cases_lt d (length ds))
       where
         by_case : (d < length ds) ⊎ (length ds ≤ d) → IsReadDetail gauges (get_or (ds ++ x ∷ []) d any)
-        by_case (inl less) = subst (λ (y : NamedDetail). IsReadDetail gauges y) (sym (get_or-append ds (x ∷ []) any d less)) (are.each d any less)
+        by_case (inl less) = subst (λ (y : NamedDetail). IsReadDetail gauges y) (sym (get_or-append ds (x ∷ []) any d less))
+            (are.each d any less)
         by_case (inr le) =
             let e : d ≡ length ds = omega (arith, lt, le, one_longer ds x) in
             subst (λ n. IsReadDetail gauges (get_or (ds ++ x ∷ []) n any)) (sym e)
@@ -261,7 +272,8 @@ record AreDetails (gauges : ℕ) (ds : List NamedDetail) : Type 0 where
   are_on : AreOn gauges ds
   few : length ds ≤ MAX_DETAILS
 
-details_found : (gauges : List Gauge) (o : Option Data) (ds : List NamedDetail) → details_if gauges o ≡ Ok ds → AreDetails (length gauges) ds
+details_found : (gauges : List Gauge) (o : Option Data) (ds : List NamedDetail) → details_if gauges o ≡ Ok ds →
+    AreDetails (length gauges) ds
 unfolding details_part
 details_found gauges None ds e =
     subst (λ x. AreDetails (length gauges) x) (same_ok [] ds e) (record { are_on = none_on (length gauges); few = omega arith })

@@ -2,8 +2,8 @@
 --   grid_in, count_in, gauges_in, details_in   each part, in the order in which its faults are told
 --   document                                   the table that bytes spell, by the crate toml
 --   config_of_bytes                            the whole
--- The grid comes first, then the count, then each gauge, then each detail; within a part its keys come in the order in which they
--- stand here.
+-- The grid comes first, then the count, then each gauge, then each detail; within a part its keys come in the order in
+-- which they stand here.
 use Rattle.std.specs.Prelude.{◌-◌, ◌/◌, ◌++◌, if◌then◌else◌, ℕ, pos, List, [], ◌∷◌, length, map, codes, Option, Some, None, Result, Ok, Err, nat_lt, ◌==◌}
 use Rattle.std.specs.Str.{is_utf8}
 use Rattle.std.specs.Cmp.Lexicographic.{pointwise}

@@ -20,7 +20,8 @@ abbrev pub place_behind : ConfigFault → List ℕ
 place_behind (Missing key) = codes " " ++ key_text key
 place_behind (Kind key) = codes " " ++ key_text key
 place_behind (Limit key) = codes " " ++ key_text key
-place_behind (Double part first second) = codes " " ++ part_text part ++ codes " " ++ decimal first ++ codes " " ++ decimal second
+place_behind (Double part first second) =
+    codes " " ++ part_text part ++ codes " " ++ decimal first ++ codes " " ++ decimal second
 place_behind (NoSuchGauge detail) = codes ", detail " ++ decimal detail
 place_behind fault = []
 

@@ -127,4 +127,5 @@ items_list (item d ds) = d ∷ items_list ds
 unfoldable pub items_in : Part → ℕ → ℕ → Data → Result (List Data) ConfigFault
 items_in part low high value = do
   items ← or_fault (as_array value) (Kind (record { part = part; index = 0; name = Itself }))
-  within_limits (is_in_limits low high (length (items_list items))) (record { part = part; index = 0; name = Itself }) (items_list items)
+  within_limits (is_in_limits low high (length (items_list items))) (record { part = part; index = 0; name = Itself })
+      (items_list items)

@@ -30,5 +30,6 @@ pub record IsConfig (c : Config) : Type 0 where
   pub names : (g : ℕ) → g < length c.gauges → is_name (name_of c g) ≡ true
   pub differ : (g h : ℕ) → g < length c.gauges → h < length c.gauges → name_of c g ≡ name_of c h → g ≡ h
   -- a detail has a name of the same kind, and is on a gauge
-  pub detail_names : (d : ℕ) (any : NamedDetail) → d < length c.details → is_name (slice_index_or c.details d any).name ≡ true
+  pub detail_names : (d : ℕ) (any : NamedDetail) → d < length c.details →
+      is_name (slice_index_or c.details d any).name ≡ true
   pub on : (d : ℕ) (any : NamedDetail) → d < length c.details → (slice_index_or c.details d any).gauge < length c.gauges

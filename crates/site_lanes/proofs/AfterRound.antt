@@ -62,7 +62,8 @@ module _ (block : ℕ) (w : List ℤ) (torn : ℕ) (before after : List ℕ) (fr
       let e = when_ended (16 * block) (MAX_SAMPLES - from) (length (samples before)) (torn_bytes before) (gives.ends (λ e. absurd cc)) in
       (grind (arith, e.0, e.1, gives.count (λ e. absurd cc), there, on, le), sym same ∙ e.2)
   stood_after (Torn bytes) gives =
-      let e = when_torn (16 * block) (MAX_SAMPLES - from) (length (samples before)) (torn_bytes before) bytes (gives.ends (λ e. absurd cc)) in
+      let e = when_torn (16 * block) (MAX_SAMPLES - from) (length (samples before)) (torn_bytes before) bytes
+      (gives.ends (λ e. absurd cc)) in
       (grind (arith, e.0, e.1, gives.count (λ e. absurd cc), there, on, le), sym same ∙ e.2, e.3)
   stood_after ReadFault gives = tt
   stood_after TooLong gives =
@@ -111,13 +112,15 @@ module _ {C : Type 0} {tells : Type 0} {left : C → List ℕ} {faults : C → �
     gain = λ d. done.gain ∙ was.gain d;
     within = λ t. ⊎_elim
         (λ more. let s = stood_more (r.samples g) (r.torn g) (left done.before) old.at more (was.stood t done.before done.was) in
-        within_after block (r.samples g) (r.torn g) (left done.before) (left done.now) old.at new.at s.0 s.1 (was.within t) done.samples.0 limit
+        within_after block (r.samples g) (r.torn g) (left done.before) (left done.now) old.at new.at s.0 s.1 (was.within t)
+        done.samples.0 limit
         (done.gives more t))
         (λ other. omega (arith, (done.ended other).0, was.within t)) (more_or_not old.end);
     stood = λ t src has. ⊎_elim
         (λ more. let s = stood_more (r.samples g) (r.torn g) (left done.before) old.at more (was.stood t done.before done.was) in
         stood_same (r.samples g) (r.torn g) (ap left (same_some has done.has)) refl refl
-        (stood_after block (r.samples g) (r.torn g) (left done.before) (left done.now) old.at new.at s.0 s.1 (was.within t) done.samples.0 limit
+        (stood_after block (r.samples g) (r.torn g) (left done.before) (left done.now) old.at new.at s.0 s.1 (was.within t)
+        done.samples.0 limit
         new.end (done.gives more t)))
         (λ other. let e = done.ended other in
         stood_same (r.samples g) (r.torn g) (ap left (same_some has done.has ∙ e.2)) e.0 e.1 (was.stood t done.before done.was))

@@ -28,7 +28,8 @@ enough n len part is = grind (arith, nat_tests)
 pub behind : {n k : ℕ} {body before left : List ℕ} {end : FillEnd} → end ≡ More → before ≡ body → Takes n before k end left
     → IsBehind n body left
 behind {n} {k} {body} {before} {left} {end} more same takes =
-    let t : Takes n body k More left = subst (λ (b : List ℕ). Takes n b k More left) same (subst (λ (e : FillEnd). Takes n before k e left) more takes) in
+    let t : Takes n body k More left = subst (λ (b : List ℕ). Takes n b k More left) same
+    (subst (λ (e : FillEnd). Takes n before k e left) more takes) in
     let many = enough n (length (samples body)) (torn_bytes body) (t.ends (λ e. cc)) in
     record {
       there = many;
@@ -50,7 +51,8 @@ module _ (conf : Config) (heads : List Head) (n : ℕ → ℕ) (files : Files) (
   gauge_fault fault judged = (
     file,
     ap files same ∙ is,
-    λ d. ap (λ (h : Head). fault_of h (n g) file) (get_or_default heads g d here lt ∙ ap (λ (l : List Head). slice_index_or l g here) (sym kept))
+    λ d. ap (λ (h : Head). fault_of h (n g) file) (get_or_default heads g d here lt
+        ∙ ap (λ (l : List Head). slice_index_or l g here) (sym kept))
         ∙ ap (λ (m : ℕ). fault_of (slice_index_or heads2 g here) m file) (sym held) ∙ judged,
   )
 

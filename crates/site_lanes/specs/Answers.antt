@@ -1,5 +1,6 @@
--- What the opening of all recordings answers, and how they end. A recording is that of a gauge of a configuration, among the files of a
--- site; the store was made for recordings with the heads `heads`, and holds `held` samples of each.
+-- What the opening of all recordings answers, and how they end. A recording is that of a gauge of a configuration,
+-- among the files of a site; the store was made for recordings with the heads `heads`, and holds `held` samples of
+-- each.
 --   FaultOf       the first thing wrong with the recording of a gauge, which is there
 --   HeadsFit      nothing is wrong with any head
 --   AllOpened     nothing is wrong with the recordings of the gauges below this one

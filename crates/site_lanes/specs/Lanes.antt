@@ -23,13 +23,15 @@ Stood w torn left at ReadFault = Unit {0}
 Stood w torn left at TooLong = (at ≡ MAX_SAMPLES) × (MAX_SAMPLES < length w)
 
 -- what is said of the recording holds where the source tells
-pub record IsLane {C : Type 0} (tells : Type 0) (left : C → List ℕ) (r : Recorded) (g : ℕ) (lane : Lane C) : Type 0 where
+pub record IsLane {C : Type 0} (tells : Type 0) (left : C → List ℕ) (r : Recorded) (g : ℕ)
+    (lane : Lane C) : Type 0 where
   pub gain : (d : GainValue) → lane.gain ≡ slice_index_or r.setup.gains g d
   pub within : tells → lane.at ≤ length (r.samples g)
   pub stood : tells → (src : C) → lane.src ≡ Some src → Stood (r.samples g) (r.torn g) (left src) lane.at lane.end
 
 abbrev pub AreLanes : {C : Type 0} → Type 0 → (C → List ℕ) → Recorded → List (Lane C) → Type 0
-AreLanes {C} tells left r lanes = (g : ℕ) (d : Lane C) → g < length lanes → IsLane tells left r g (slice_index_or lanes g d)
+AreLanes {C} tells left r lanes =
+    (g : ℕ) (d : Lane C) → g < length lanes → IsLane tells left r g (slice_index_or lanes g d)
 
 abbrev pub AreReady : {C : Type 0} → List (Lane C) → Type 0
 AreReady {C} lanes = (g : ℕ) (d : Lane C) → g < length lanes → CanRound g (slice_index_or lanes g d)

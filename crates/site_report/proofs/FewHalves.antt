@@ -54,7 +54,8 @@ list_sum (x ∷ xs) f a h =
     omega (arith, sum_by-cons (λ y. y) x xs, first, rest)
 
 -- one pair lies at one range
-one_step : (k n h : ℕ) (x : Pair) → (if nat_lt x.lo n then (if k == x.hi - x.lo then h else 0) else 0) + (if is_pair n (n + k) x then h else 0)
+one_step : (k n h : ℕ) (x : Pair) → (if nat_lt x.lo n then (if k == x.hi - x.lo then h else 0) else 0) +
+    (if is_pair n (n + k) x then h else 0)
     ≤ (if nat_lt x.lo (suc n) then (if k == x.hi - x.lo then h else 0) else 0)
 one_step k n h x = grind (arith, nat_tests)
 
@@ -99,10 +100,15 @@ cells_step c cells k n = omega (
 -- so all ranges together have no more than the total
 cells_few : (cells : List Cell) (n : ℕ → ℕ) (a m : ℕ) → sum_from (λ k. sum_at_range (count_of cells) k (n k)) a m ≤ total_of cells
 cells_few [] n a m =
-    omega (arith, sum_up (λ k. sum_at_range (count_of []) k (n k)) (λ k. 0) a m (λ k from to. omega (arith, none_at_range k (n k))), sum_none a m)
+    omega (
+      arith,
+      sum_up (λ k. sum_at_range (count_of []) k (n k)) (λ k. 0) a m (λ k from to. omega (arith, none_at_range k (n k))),
+      sum_none a m,
+    )
 cells_few (c ∷ cells) n a m = omega (
   arith,
-  sum_up (λ k. sum_at_range (count_of (c ∷ cells)) k (n k)) (λ k. (if k == c.hi - c.lo then c.n else 0) + sum_at_range (count_of cells) k (n k)) a m
+  sum_up (λ k. sum_at_range (count_of (c ∷ cells)) k (n k)) (λ k. (if k == c.hi - c.lo then c.n else 0) + sum_at_range
+      (count_of cells) k (n k)) a m
       (λ k from to. cells_step c cells k (n k)),
   sum_added (λ k. if k == c.hi - c.lo then c.n else 0) (λ k. sum_at_range (count_of cells) k (n k)) a m,
   sum_once (c.hi - c.lo) c.n a m,
@@ -129,7 +135,12 @@ module _ (v : SegmentValue) (i : IsSegment v) (halves : List ℕ) (places : leng
   parts k = 2 * sum_at_range (count_of v.tally.cells) k (v.grid.classes - k) + half_units_at_range k (neighbours v.reducer.residue)
 
   by_parts : (k : ℕ) → k < v.grid.classes → sum_at_range (halves_of v) k (v.grid.classes - k) ≡ parts k
-  by_parts k inside = omega (arith, range_parts v k i.residue.within inside, doubled_at_range (count_of v.tally.cells) k (v.grid.classes - k))
+  by_parts k inside = omega (
+    arith,
+    range_parts v k i.residue.within inside,
+    doubled_at_range (count_of v.tally.cells) k
+        (v.grid.classes - k),
+  )
 
   doubled_sum : (a n : ℕ) → sum_from (λ k. 2 * sum_at_range (count_of v.tally.cells) k (v.grid.classes - k)) a n
       ≡ 2 * sum_from (λ k. sum_at_range (count_of v.tally.cells) k (v.grid.classes - k)) a n
@@ -139,7 +150,8 @@ module _ (v : SegmentValue) (i : IsSegment v) (halves : List ℕ) (places : leng
   parts_few : sum_from parts 0 (length halves) ≤ v.simple.ends.points
   parts_few = omega (
     arith,
-    sum_added (λ k. 2 * sum_at_range (count_of v.tally.cells) k (v.grid.classes - k)) (λ k. half_units_at_range k (neighbours v.reducer.residue)) 0
+    sum_added (λ k. 2 * sum_at_range (count_of v.tally.cells) k (v.grid.classes - k))
+        (λ k. half_units_at_range k (neighbours v.reducer.residue)) 0
         (length halves),
     doubled_sum 0 (length halves),
     cells_few v.tally.cells (λ k. v.grid.classes - k) 0 (length halves),

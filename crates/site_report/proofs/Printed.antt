@@ -20,7 +20,8 @@ use Rattle.site_report.specs.Report.{IsPrinted, detail_line, detail_lines, text_
 pub printing_starts : (old whole : List ℕ) → IsPrinted old old whole whole
 printing_starts old whole = record { front = []; written = sym (append-nil old); all = refl }
 
-pub printed_more : (old now new whole piece rest : List ℕ) → IsPrinted old now whole (piece ++ rest) → new ≡ now ++ piece → IsPrinted old new whole rest
+pub printed_more : (old now new whole piece rest : List ℕ) → IsPrinted old now whole (piece ++ rest) → new ≡ now ++ piece →
+    IsPrinted old new whole rest
 printed_more old now new whole piece rest p e = record {
   front = p.front ++ piece;
   written = e ∙ (ap (λ l. l ++ piece) p.written ∙ append_assoc old p.front piece);
@@ -37,8 +38,11 @@ printed_front old now new whole piece rest p (j, is) =
     let few = min j (length piece) in
     let cut : take (length p.front + few) whole ≡ p.front ++ take j piece =
     ap (take (length p.front + few)) p.all ∙ (take-append-add p.front (piece ++ rest) few
-    ∙ ap (λ l. p.front ++ l) (take-append-le few piece rest (omega arith) ∙ take_min j piece)) in
-    (length p.front + few, is ∙ (ap (λ l. l ++ take j piece) p.written ∙ (append_assoc old p.front (take j piece) ∙ ap (λ l. old ++ l) (sym cut))))
+    ∙ ap (λ l. p.front ++ l) (take-append-le few piece rest (omega arith) ∙ take_min j piece)) in (
+      length p.front + few,
+      is ∙ (ap (λ l. l ++ take j piece) p.written ∙
+          (append_assoc old p.front (take j piece) ∙ ap (λ l. old ++ l) (sym cut))),
+    )
 
 -- the next of some lines
 pub lines_next : (f : ℕ → List ℕ) (k n : ℕ) → k < n → lines_from f k (n - k) ≡ f k ++ lines_from f (k + 1) (n - (k + 1))
@@ -51,13 +55,16 @@ pub short_name : (name : List ℕ) → is_name name ≡ true → length name ≤
 short_name name is = grind (arith, nat_tests, is)
 
 -- the next of the lines of some details
-pub details_next : (c : Config) (ds : List NamedDetail) (fs : List Frac) (i : ℕ) (d : NamedDetail) (f : Frac) → i < length ds → i < length fs
-    → detail_lines c (drop i ds) (drop i fs) ≡ detail_line c (get_or ds i d) (get_or fs i f) ++ detail_lines c (drop (i + 1) ds) (drop (i + 1) fs)
+pub details_next : (c : Config) (ds : List NamedDetail) (fs : List Frac) (i : ℕ) (d : NamedDetail) (f : Frac) →
+    i < length ds → i < length fs
+    → detail_lines c (drop i ds) (drop i fs) ≡ detail_line c (get_or ds i d) (get_or fs i f) ++ detail_lines c (drop (i + 1) ds)
+    (drop (i + 1) fs)
 details_next c ds fs i d f lt lt2 =
     at_drop_more (λ xs. detail_lines c xs (drop i fs)) ds i d lt
     ∙ at_drop_more (λ ys. detail_lines c (get_or ds i d ∷ drop (i + 1) ds) ys) fs i f lt2
 
-pub details_none : (c : Config) (ds : List NamedDetail) (fs : List Frac) (i : ℕ) → length ds ≤ i → detail_lines c (drop i ds) (drop i fs) ≡ []
+pub details_none : (c : Config) (ds : List NamedDetail) (fs : List Frac) (i : ℕ) → length ds ≤ i →
+    detail_lines c (drop i ds) (drop i fs) ≡ []
 details_none c ds fs i le = at_drop_all (λ xs. detail_lines c xs (drop i fs)) ds i le
 
 pub lines_start : (f : ℕ → List ℕ) (n : ℕ) (old : List ℕ) → IsPrinted old old (lines_from f 0 n) (lines_from f 0 (n - 0))
@@ -105,11 +112,14 @@ module _ (c : Config) (ds : List NamedDetail) (fs : List Frac) (i : ℕ) (d : Na
   next : IsPrinted old now whole (detail_line c (get_or ds i d) (get_or fs i f) ++ detail_lines c (drop (i + 1) ds) (drop (i + 1) fs))
   next = subst (IsPrinted old now whole) (details_next c ds fs i d f within within2) p
 
-  pub details_more : new ≡ now ++ detail_line c (get_or ds i d) (get_or fs i f) → IsPrinted old new whole (detail_lines c (drop (i + 1) ds) (drop (i + 1) fs))
-  details_more e = printed_more old now new whole (detail_line c (get_or ds i d) (get_or fs i f)) (detail_lines c (drop (i + 1) ds) (drop (i + 1) fs)) next e
+  pub details_more : new ≡ now ++ detail_line c (get_or ds i d) (get_or fs i f) →
+      IsPrinted old new whole (detail_lines c (drop (i + 1) ds) (drop (i + 1) fs))
+  details_more e = printed_more old now new whole (detail_line c (get_or ds i d) (get_or fs i f))
+      (detail_lines c (drop (i + 1) ds) (drop (i + 1) fs)) next e
 
   pub details_front : AppendsPrefix now new (detail_line c (get_or ds i d) (get_or fs i f)) → AppendsPrefix old new whole
-  details_front e = printed_front old now new whole (detail_line c (get_or ds i d) (get_or fs i f)) (detail_lines c (drop (i + 1) ds) (drop (i + 1) fs)) next e
+  details_front e = printed_front old now new whole (detail_line c (get_or ds i d) (get_or fs i f))
+      (detail_lines c (drop (i + 1) ds) (drop (i + 1) fs)) next e
 
 pub details_whole : (c : Config) (ds : List NamedDetail) (fs : List Frac) (i : ℕ) (old now whole : List ℕ) → length ds ≤ i
     → IsPrinted old now whole (detail_lines c (drop i ds) (drop i fs)) → now ≡ old ++ whole

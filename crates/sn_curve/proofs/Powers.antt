@@ -50,7 +50,8 @@ slope_five_below r c g h =
     let fifth : (1000 * r) ^ 5 ≤ (737 * (40 * c)) ^ 5 = pow-le-pow_left (omega arith) 5 in
     omega (arith, mul-pow 1000 r 5, one-le-pow 5 (737 * (40 * c)) (omega arith))
 
-pub slope_five_meets : (r c : ℕ) → r ^ 5 * 250000000000 * (2 * (5 * 10 ^ 6)) * (737 * (40 * c)) ^ 5 ≡ 2500 * (737 * (40 * c)) ^ 5 * (1000 * r) ^ 5
+pub slope_five_meets : (r c : ℕ) → r ^ 5 * 250000000000 * (2 * (5 * 10 ^ 6)) * (737 * (40 * c)) ^ 5 ≡ 2500 * (737 * (40 * c)) ^ 5
+    * (1000 * r) ^ 5
 slope_five_meets r c = omega (arith, ap (λ y. 2500 * (737 * (40 * c)) ^ 5 * y) (mul-pow 1000 r 5))
 
 -- shear

@@ -14,7 +14,8 @@ pub record IsNormalShare (R C n d : ℕ) : Type 0 where
   -- slope 3: R^3 N = C^3 * 2 * 10^6
   pub from_knee : 737 * C ≤ 1000 * R → n * (2 * (2 * 10 ^ 6)) * C ^ 3 ≡ d * R ^ 3
   -- slope 5: R^5 N = (0.737 C)^5 * 5 * 10^6
-  pub below_knee : 1000 * R < 737 * C → 549 * 737 * C ≤ 1000 * 1000 * R → n * (2 * (5 * 10 ^ 6)) * (737 * C) ^ 5 ≡ d * (1000 * R) ^ 5
+  pub below_knee : 1000 * R < 737 * C → 549 * 737 * C ≤ 1000 * 1000 * R →
+      n * (2 * (5 * 10 ^ 6)) * (737 * C) ^ 5 ≡ d * (1000 * R) ^ 5
   pub below_cut_off : 1000 * 1000 * R < 549 * 737 * C → n ≡ 0
 
 -- Shear stress, figure 7.2. The cut-off limit is 0.457 C.

@@ -28,7 +28,8 @@ is_among x xs = list_any (λ y. x == y) xs
 abbrev pub detail_of : Kind → ℕ → ℕ → Result DetailValue DetailFault
 detail_of kind category gamma =
     if is_among category (categories kind)
-    then (if is_among gamma partial_factors then Ok (record { kind = kind; category = category; gamma = gamma }) else Err Gamma)
+    then (if is_among gamma partial_factors then Ok (record { kind = kind; category = category; gamma = gamma })
+    else Err Gamma)
     else Err Category
 
 -- its three values are a detail

@@ -89,7 +89,8 @@ HadMoment past t lines c = (k : ℕ) × (t ≤ k) × (k ≤ length past.calls) �
     × DiskMayLeave (disk_of (fresh_disk past.image) (take k past.calls)) c
 
 abbrev pub Passes : Past → Past → Type 0
-Passes old new = Elapses (length old.calls) (length new.calls) (HadMoment old) (HadMoment new) (told_lines new) (MayLeave new)
+Passes old new =
+    Elapses (length old.calls) (length new.calls) (HadMoment old) (HadMoment new) (told_lines new) (MayLeave new)
 
 -- a call was recorded, or there was no memory
 abbrev pub Pushed : Bool → List Call → List Call → Call → Type 0

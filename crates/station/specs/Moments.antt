@@ -20,11 +20,13 @@ whole_write : (at : ℕ) (bytes old : List ℕ) → at ≤ length old
 whole_write at bytes old le =
     let tail = drop (at + length bytes) old in
     let long = length-front at old le in
-    let both : length (take at old ++ bytes) ≡ at + length bytes = omega (arith, long, length-append (take at old) bytes) in
+    let both : length (take at old ++ bytes) ≡ at + length bytes = omega
+    (arith, long, length-append (take at old) bytes) in
     let all = length-append (take at old ++ bytes) tail in
     let rest = length-drop (at + length bytes) old in
     record {
-      before = ap (λ l. take at l) (append_assoc (take at old) bytes tail) ∙ take_at (take at old) (bytes ++ tail) at long;
+      before = ap (λ l. take at l) (append_assoc (take at old) bytes tail) ∙ take_at (take at old)
+          (bytes ++ tail) at long;
       after = drop_at (take at old ++ bytes) tail (at + length bytes) both;
       no_shorter = omega (arith, all, both, rest);
       no_longer = omega (arith, all, both, rest);
@@ -49,16 +51,19 @@ seen_from (Write at bytes ∷ calls) d placed is =
 seen_from (Sync ∷ calls) d placed is = seen_from calls (disk_after d Sync) placed refl
 seen_from (Tell line ∷ calls) d placed is = seen_from calls d placed is
 
-pub may_leave-seen : (past : Past) → have_no_gap (fresh_disk past.image) past.calls ≡ true → MayLeave past (disk past).seen
+pub may_leave-seen : (past : Past) → have_no_gap (fresh_disk past.image) past.calls ≡ true →
+    MayLeave past (disk past).seen
 may_leave-seen past placed = seen_from past.calls (fresh_disk past.image) placed refl
 
-pub had_moment-now : (past : Past) (t : ℕ) (c : Image) → t ≤ length past.calls → MayLeave past c → HadMoment past t (told_lines past) c
+pub had_moment-now : (past : Past) (t : ℕ) (c : Image) → t ≤ length past.calls → MayLeave past c →
+    HadMoment past t (told_lines past) c
 had_moment-now past t c le now =
     let all : take (length past.calls) past.calls ≡ past.calls = take_all _ _ (omega arith) in
     let image = subst (λ l. DiskMayLeave (disk_of (fresh_disk past.image) l) c) (sym all) now in
     (length past.calls, le, omega arith, sym (ap lines_of all), image)
 
-pub had_moment-only : (past : Past) (lines : Lines) (c : Image) → HadMoment past (length past.calls) lines c → (lines ≡ told_lines past)
+pub had_moment-only : (past : Past) (lines : Lines) (c : Image) → HadMoment past (length past.calls) lines c →
+    (lines ≡ told_lines past)
     × MayLeave past c
 had_moment-only past lines c (k, from, to, told, is) =
     let all : take k past.calls ≡ past.calls = take_all _ _ (omega (arith, from)) in

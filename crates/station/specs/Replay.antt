@@ -14,6 +14,7 @@ IsPlaced content (Tell line) = Unit {0}
 abbrev pub Replays : Call → Image → Image → Image → Image → Type 0
 Replays Other content content' left left' = (content' ≡ content) × (left' ≡ left)
 Replays (Write at bytes) content content' left left' =
-    (content' ≡ take at content ++ bytes.items ++ drop (at + length bytes.items) content) × IsTornWrite at (length bytes.items) left left'
+    (content' ≡ take at content ++ bytes.items ++ drop (at + length bytes.items) content) × IsTornWrite at
+    (length bytes.items) left left'
 Replays Sync content content' left left' = (content' ≡ content) × (left' ≡ content)
 Replays (Tell line) content content' left left' = (content' ≡ content) × (left' ≡ left)

@@ -55,7 +55,8 @@ pub record SameImages (old new : Image → Type 0) : Type 0 where
 -- Time goes on: a moment since t was one before the call, or is the lines told and an image of now.
 pub record Elapses (before now : ℕ) (past since : MomentsSince) (told : Lines) (leaves : Image → Type 0) : Type 0 where
   pub later : before ≤ now
-  pub nothing_else : (t : ℕ) (lines : Lines) (c : Image) → t ≤ before → since t lines c → past t lines c ⊎ ((lines ≡ told) × leaves c)
+  pub nothing_else : (t : ℕ) (lines : Lines) (c : Image) → t ≤ before → since t lines c →
+      past t lines c ⊎ ((lines ≡ told) × leaves c)
   pub keeps : (t : ℕ) (lines : Lines) (c : Image) → t ≤ before → past t lines c → since t lines c
 
 -- Each moment since the run began has P, and each since an earlier time was one before the run or has P.

@@ -38,11 +38,13 @@ abbrev pub front : Layout → Setup → List ℕ
 front l s = 1 ∷ (magic ++ (version_of l ∷
     (to_be_bytes w16 (length s.gains) ++
     (to_be_bytes w16 s.grid.classes ++
-    (to_be_bytes w16 s.grid.w2 ++ (to_be_bytes w64 (cast_unsigned w64 s.grid.low_kpa) ++ to_be_bytes w16 s.grid.reference))))))
+    (to_be_bytes w16 s.grid.w2 ++ (to_be_bytes w64 (cast_unsigned w64 s.grid.low_kpa) ++ to_be_bytes w16
+    s.grid.reference))))))
 
 abbrev pub numbers : Head → GainValue → List ℕ
 numbers h g = to_be_bytes w32 h.period_us ++
-    (to_be_bytes w64 (cast_unsigned w64 g.num) ++ (to_be_bytes w32 g.den ++ to_be_bytes w64 (cast_unsigned w64 g.offset)))
+    (to_be_bytes w64 (cast_unsigned w64 g.num) ++ (to_be_bytes w32 g.den ++ to_be_bytes w64
+    (cast_unsigned w64 g.offset)))
 
 abbrev pub gauge : Head → GainValue → List ℕ
 gauge h g = h.id ++ numbers h g

@@ -83,7 +83,8 @@ gauges_fault g [] image = None
 gauges_fault g (x ∷ xs) image = or_else (gauge_fault g x (gauge_at g image)) (gauges_fault (g + 1) xs image)
 
 abbrev pub start_fault : Setup → List ℕ → Option HeadFault
-start_fault s image = or_else (unless (nat_le 22 (length image)) NotAStore) (front_fault s (length image) (slice_range image 0 22))
+start_fault s image =
+    or_else (unless (nat_le 22 (length image)) NotAStore) (front_fault s (length image) (slice_range image 0 22))
 
 abbrev pub head_fault : Setup → List ℕ → Option HeadFault
 head_fault s image = or_else (start_fault s image) (gauges_fault 0 s.gains image)

@@ -20,7 +20,8 @@ raise_pick t i k h (inr n) =
 pub raise_at : (t : List ℕ) (i k : ℕ) → i < length t → get_or (raise t i) k 0 ≡ get_or t k 0 + is_at k i
 raise_at t i k h = raise_pick t i k h (cases_eq i k)
 
-lower_pick : (t : List ℕ) (i k : ℕ) → i < length t → 1 ≤ get_or t i 0 → ((i ≡ k) ⊎ (i ≢ k)) → get_or (lower t i) k 0 + is_at k i ≡ get_or t k 0
+lower_pick : (t : List ℕ) (i k : ℕ) → i < length t → 1 ≤ get_or t i 0 → ((i ≡ k) ⊎ (i ≢ k)) →
+    get_or (lower t i) k 0 + is_at k i ≡ get_or t k 0
 lower_pick t i k h m (inl e) =
     let a : get_or (lower t i) i 0 ≡ get_or t i 0 - 1 = get_or-set_same t i (get_or t i 0 - 1) 0 h in
     grind (arith, nat_tests, ap (λ j. get_or (lower t i) j 0) e, ap (λ j. get_or t j 0) e)

@@ -24,10 +24,13 @@ pass c p q x n = grind (arith, nat_tests)
 
 pub none_before : (by from to p : ℕ) (bs : List Bin) → AreBinsFrom from to bs → p < from + by → placed by p bs ≡ 0
 none_before by from to p [] a lt = refl
-none_before by from to p (b ∷ bs) a lt = pass (placed by p bs) p (b.key + by) b.n (λ e. absurd (omega (arith, e, lt, a.0))) ∙ none_before by (b.key + 1) to p bs a.3 (omega (arith, lt, a.0))
+none_before by from to p (b ∷ bs) a lt = pass (placed by p bs) p (b.key + by) b.n (λ e. absurd (omega (arith, e, lt, a.0))) ∙ none_before by
+    (b.key + 1) to p bs a.3 (omega (arith, lt, a.0))
 
-filled_step : (by from p : ℕ) (t : List ℕ) (b : Bin) (bs : List Bin) (x : ℕ) → b.key + by < length t → get_or t (b.key + by) 0 ≡ 0 → (p ≡ b.key + by → placed by p bs ≡ 0)
-    → x ≡ get_or (set t (b.key + by) b.n) p 0 + placed by p bs → ((p ≡ b.key + by) ⊎ (p ≢ b.key + by)) → x ≡ get_or t p 0 + placed by p (b ∷ bs)
+filled_step : (by from p : ℕ) (t : List ℕ) (b : Bin) (bs : List Bin) (x : ℕ) → b.key + by < length t → get_or t (b.key + by) 0 ≡ 0 →
+    (p ≡ b.key + by → placed by p bs ≡ 0)
+    → x ≡ get_or (set t (b.key + by) b.n) p 0 + placed by p bs → ((p ≡ b.key + by) ⊎ (p ≢ b.key + by)) →
+    x ≡ get_or t p 0 + placed by p (b ∷ bs)
 filled_step by from p t b bs x w z none h (inl e) =
     let s : get_or (set t (b.key + by) b.n) (b.key + by) 0 ≡ b.n = get_or-set_same t (b.key + by) b.n 0 w in
     let s2 : get_or (set t (b.key + by) b.n) p 0 ≡ b.n = ap (λ q. get_or (set t (b.key + by) b.n) q 0) e ∙ s in
@@ -37,20 +40,36 @@ filled_step by from p t b bs x w z none h (inr n) =
     let s : get_or (set t (b.key + by) b.n) p 0 ≡ get_or t p 0 = get_or-set_other t (b.key + by) p b.n 0 n in
     omega (arith, h, s, pass (placed by p bs) p (b.key + by) b.n n)
 
-pub filled_at : (by from to : ℕ) (t : List ℕ) (bs : List Bin) → AreBinsFrom from to bs → to + by ≤ length t → ((p : ℕ) → from + by ≤ p → get_or t p 0 ≡ 0) → (p : ℕ) → get_or (filled by t bs) p 0 ≡ get_or t p 0 + placed by p bs
+pub filled_at : (by from to : ℕ) (t : List ℕ) (bs : List Bin) → AreBinsFrom from to bs → to + by ≤ length t →
+    ((p : ℕ) → from + by ≤ p → get_or t p 0 ≡ 0) → (p : ℕ) → get_or (filled by t bs) p 0 ≡ get_or t p 0 + placed by p bs
 filled_at by from to t [] a w z p = omega arith
 filled_at by from to t (b ∷ bs) a w z p =
     let long = length-set t (b.key + by) b.n in
-    let zeros : (q : ℕ) → (b.key + 1) + by ≤ q → get_or (set t (b.key + by) b.n) q 0 ≡ 0 = λ q le. get_or-set_other t (b.key + by) q b.n 0 (λ e. absurd (omega (arith, e, le))) ∙ z q (omega (arith, le, a.0)) in
-    filled_step by from p t b bs _ (omega (arith, a.1, w)) (z (b.key + by) (omega (arith, a.0))) (λ e. none_before by (b.key + 1) to p bs a.3 (omega (arith, e))) (filled_at by (b.key + 1) to (set t (b.key + by) b.n) bs a.3 (omega (arith, long, w)) zeros p) (cases_eq p (b.key + by))
+    let zeros : (q : ℕ) → (b.key + 1) + by ≤ q →
+    get_or (set t (b.key + by) b.n) q 0 ≡ 0 = λ q le. get_or-set_other t (b.key + by) q b.n 0 (λ e. absurd (omega (arith, e, le)))
+    ∙ z q (omega (arith, le, a.0)) in
+    filled_step by from p t b bs _ (omega (arith, a.1, w)) (z (b.key + by) (omega (arith, a.0)))
+    (λ e. none_before by (b.key + 1) to p bs a.3 (omega (arith, e))) (filled_at by (b.key + 1) to (set t (b.key + by) b.n) bs a.3
+    (omega (arith, long, w)) zeros p) (cases_eq p (b.key + by))
 
-pub filled_sum : (by from to : ℕ) (t : List ℕ) (bs : List Bin) → AreBinsFrom from to bs → to + by ≤ length t → ((p : ℕ) → from + by ≤ p → get_or t p 0 ≡ 0) → sum (filled by t bs) ≡ sum t + sum_of bs
+pub filled_sum : (by from to : ℕ) (t : List ℕ) (bs : List Bin) → AreBinsFrom from to bs → to + by ≤ length t →
+    ((p : ℕ) → from + by ≤ p → get_or t p 0 ≡ 0) → sum (filled by t bs) ≡ sum t + sum_of bs
 filled_sum by from to t [] a w z = omega arith
 filled_sum by from to t (b ∷ bs) a w z =
     let long = length-set t (b.key + by) b.n in
-    let zeros : (q : ℕ) → (b.key + 1) + by ≤ q → get_or (set t (b.key + by) b.n) q 0 ≡ 0 = λ q le. get_or-set_other t (b.key + by) q b.n 0 (λ e. absurd (omega (arith, e, le))) ∙ z q (omega (arith, le, a.0)) in
-    let s : sum (set t (b.key + by) b.n) + get_or t (b.key + by) 0 ≡ sum t + b.n = sum_by-set (λ x. x) t (b.key + by) b.n 0 (omega (arith, a.1, w)) in
-    omega (arith, s, z (b.key + by) (omega (arith, a.0)), filled_sum by (b.key + 1) to (set t (b.key + by) b.n) bs a.3 (omega (arith, long, w)) zeros, sum_by-cons (λ b. b.n) b bs)
+    let zeros : (q : ℕ) → (b.key + 1) + by ≤ q →
+    get_or (set t (b.key + by) b.n) q 0 ≡ 0 = λ q le. get_or-set_other t (b.key + by) q b.n 0 (λ e. absurd (omega (arith, e, le)))
+    ∙ z q (omega (arith, le, a.0)) in
+    let s : sum (set t (b.key + by) b.n) + get_or t (b.key + by) 0 ≡ sum t + b.n = sum_by-set (λ x. x) t (b.key + by) b.n 0
+    (omega (arith, a.1, w)) in
+    omega (
+      arith,
+      s,
+      z (b.key + by) (omega (arith, a.0)),
+      filled_sum by (b.key + 1) to (set t (b.key + by) b.n) bs a.3
+          (omega (arith, long, w)) zeros,
+      sum_by-cons (λ b. b.n) b bs,
+    )
 
 pub filled_long : (by : ℕ) (t : List ℕ) (bs : List Bin) → length (filled by t bs) ≡ length t
 filled_long by t [] = refl
@@ -58,7 +77,8 @@ filled_long by t (b ∷ bs) = filled_long by (set t (b.key + by) b.n) bs ∙ len
 
 pub keys_within : (by from to n : ℕ) (bs : List Bin) → AreBinsFrom from to bs → to + by ≤ n → All (λ b. b.key + by < n) bs
 keys_within by from to n [] a w = All-nil (λ b. b.key + by < n)
-keys_within by from to n (b ∷ bs) a w = All-cons (λ b. b.key + by < n) b bs (omega (arith, a.1, w)) (keys_within by (b.key + 1) to n bs a.3 w)
+keys_within by from to n (b ∷ bs) a w =
+    All-cons (λ b. b.key + by < n) b bs (omega (arith, a.1, w)) (keys_within by (b.key + 1) to n bs a.3 w)
 
 -- an empty table
 
@@ -72,10 +92,16 @@ placed_counts k (b ∷ bs) =
     let e : b.key + 0 ≡ b.key = omega arith in
     ap (λ q. cond (eqb k q) b.n (placed 0 k bs)) e ∙ ap (λ c. cond (eqb k b.key) b.n c) (placed_counts k bs)
 
-pub table_at : (from to n : ℕ) (bs : List Bin) → AreBinsFrom from to bs → to ≤ n → (k : ℕ) → get_or (filled 0 (replicate n 0) bs) k 0 ≡ count_at k bs
+pub table_at : (from to n : ℕ) (bs : List Bin) → AreBinsFrom from to bs → to ≤ n → (k : ℕ) →
+    get_or (filled 0 (replicate n 0) bs) k 0 ≡ count_at k bs
 table_at from to n bs a w k =
     let l = length-replicate {A = ℕ} n 0 in
-    omega (arith, filled_at 0 from to (replicate n 0) bs a (omega (arith, l, w)) (λ p h. get_or-zeros n p) k, get_or-zeros n k, placed_counts k bs)
+    omega (
+      arith,
+      filled_at 0 from to (replicate n 0) bs a (omega (arith, l, w)) (λ p h. get_or-zeros n p) k,
+      get_or-zeros n k,
+      placed_counts k bs,
+    )
 
 pub table_sum : (from to n : ℕ) (bs : List Bin) → AreBinsFrom from to bs → to ≤ n → sum (filled 0 (replicate n 0) bs) ≡ sum_of bs
 table_sum from to n bs a w =
@@ -91,4 +117,5 @@ count_below from to k bs a lt = sym (placed_counts k bs) ∙ none_before 0 from 
 
 pub count_above : (from to k : ℕ) (bs : List Bin) → AreBinsFrom from to bs → to ≤ k → count_at k bs ≡ 0
 count_above from to k [] a le = refl
-count_above from to k (b ∷ bs) a le = pass (count_at k bs) k b.key b.n (λ e. absurd (omega (arith, e, le, a.1))) ∙ count_above (b.key + 1) to k bs a.3 le
+count_above from to k (b ∷ bs) a le =
+    pass (count_at k bs) k b.key b.n (λ e. absurd (omega (arith, e, le, a.1))) ∙ count_above (b.key + 1) to k bs a.3 le

@@ -16,7 +16,8 @@ module _ (P : ℕ → Type 0) where
   All-live_after z [] p a = All-cons P z [] p a
   All-live_after z (y ∷ []) p a = All-cons P z (y ∷ []) p a
   All-live_after z (y ∷ x ∷ []) p a =
-      one_of_two P _ (z ∷ y ∷ []) (z ∷ y ∷ x ∷ []) (All-cons P z (y ∷ []) p (All-cons P y [] (All-head P y (x ∷ []) a) (All-nil P))) (All-cons P z (y ∷ x ∷ []) p a)
+      one_of_two P _ (z ∷ y ∷ []) (z ∷ y ∷ x ∷ []) (All-cons P z (y ∷ []) p (All-cons P y [] (All-head P y (x ∷ []) a) (All-nil P)))
+      (All-cons P z (y ∷ x ∷ []) p a)
   All-live_after z (y ∷ x ∷ w ∷ live) p a =
       one_of_two P _ (live_after z (w ∷ live)) (z ∷ y ∷ x ∷ w ∷ live)
       (All-live_after z (w ∷ live) p (All-tail P x (w ∷ live) (All-tail P y (x ∷ w ∷ live) a))) (All-cons P z (y ∷ x ∷ w ∷ live) p a)
@@ -25,7 +26,8 @@ module _ (n : ℕ) where
   counted_within : (x y halves : ℕ) → 1 ≤ halves → halves ≤ 2 → x < n → y < n → IsWithin n (counted_range x y halves)
   counted_within x y halves some few p q = record { ordered = omega arith; below = omega arith; some = some; few = few }
 
-  one_within : (x y halves : ℕ) (l : List CountedRange) → 1 ≤ halves → halves ≤ 2 → x < n → y < n → All (IsWithin n) l → All (IsWithin n) (counted_range x y halves ∷ l)
+  one_within : (x y halves : ℕ) (l : List CountedRange) → 1 ≤ halves → halves ≤ 2 → x < n → y < n → All (IsWithin n) l →
+      All (IsWithin n) (counted_range x y halves ∷ l)
   one_within x y halves l some few p q a = All-cons (IsWithin n) (counted_range x y halves) l (counted_within x y halves some few p q) a
 
   pub All-ranges_counted : (z : ℕ) (live : List ℕ) → All (λ x. x < n) live → All (IsWithin n) (ranges_counted z live)
@@ -34,13 +36,15 @@ module _ (n : ℕ) where
   All-ranges_counted z (y ∷ x ∷ []) a =
       let p = All-head (λ v. v < n) y (x ∷ []) a in
       let q = All-head (λ v. v < n) x [] (All-tail (λ v. v < n) y (x ∷ []) a) in
-      one_of_two (IsWithin n) _ (counted_range x y 1 ∷ []) [] (one_within x y 1 [] (omega arith) (omega arith) q p (All-nil (IsWithin n))) (All-nil (IsWithin n))
+      one_of_two (IsWithin n) _ (counted_range x y 1 ∷ []) [] (one_within x y 1 [] (omega arith) (omega arith) q p (All-nil (IsWithin n)))
+      (All-nil (IsWithin n))
   All-ranges_counted z (y ∷ x ∷ w ∷ live) a =
       let p = All-head (λ v. v < n) y (x ∷ w ∷ live) a in
       let b = All-tail (λ v. v < n) y (x ∷ w ∷ live) a in
       let q = All-head (λ v. v < n) x (w ∷ live) b in
       let r = All-ranges_counted z (w ∷ live) (All-tail (λ v. v < n) x (w ∷ live) b) in
-      one_of_two (IsWithin n) _ (counted_range x y 2 ∷ ranges_counted z (w ∷ live)) [] (one_within x y 2 (ranges_counted z (w ∷ live)) (omega arith) (omega arith) q p r) (All-nil (IsWithin n))
+      one_of_two (IsWithin n) _ (counted_range x y 2 ∷ ranges_counted z (w ∷ live)) []
+      (one_within x y 2 (ranges_counted z (w ∷ live)) (omega arith) (omega arith) q p r) (All-nil (IsWithin n))
 
   pub All-ranges_left : (live : List ℕ) → All (λ x. x < n) live → All (IsWithin n) (ranges_left live)
   All-ranges_left [] a = All-nil (IsWithin n)

@@ -16,14 +16,16 @@ use Rattle.turning_points.specs.Pairs.{range}
 use Rattle.three_point.specs.Run.{counted_range, live_after, ranges_counted, ranges_left}
 use Rattle.three_point.proofs.Steps.{live_after_cycle, ranges_counted_cycle, live_after_half, ranges_counted_half, live_after_less, live_after_few, ranges_counted_less, ranges_counted_few, ranges_left_few}
 
-pub newest_two : (s : List ℕ) (n : ℕ) → 2 ≤ n → n ≤ length s → reverse (take n s) ≡ get_or s (n - 1) 0 ∷ get_or s (n - 2) 0 ∷ reverse (take (n - 2) s)
+pub newest_two : (s : List ℕ) (n : ℕ) → 2 ≤ n → n ≤ length s →
+    reverse (take n s) ≡ get_or s (n - 1) 0 ∷ get_or s (n - 2) 0 ∷ reverse (take (n - 2) s)
 newest_two s n h r = ap reverse (take_by_last_two s n h r) ∙ reverse-append (take (n - 2) s) (get_or s (n - 2) 0 ∷ get_or s (n - 1) 0 ∷ [])
 
 live_after_more : (z y x : ℕ) (v : List ℕ) → 0 < length v → range x y ≤ range y z → live_after z (y ∷ x ∷ v) ≡ live_after z v
 live_after_more z y x [] f h = absurd (omega arith)
 live_after_more z y x (w ∷ v) f h = live_after_cycle z y x w v h
 
-ranges_counted_more : (z y x : ℕ) (v : List ℕ) → 0 < length v → range x y ≤ range y z → ranges_counted z (y ∷ x ∷ v) ≡ counted_range x y 2 ∷ ranges_counted z v
+ranges_counted_more : (z y x : ℕ) (v : List ℕ) → 0 < length v → range x y ≤ range y z →
+    ranges_counted z (y ∷ x ∷ v) ≡ counted_range x y 2 ∷ ranges_counted z v
 ranges_counted_more z y x [] f h = absurd (omega arith)
 ranges_counted_more z y x (w ∷ v) f h = ranges_counted_cycle z y x w v h
 
@@ -31,13 +33,19 @@ module _ (s : List ℕ) (n z : ℕ) (room : n ≤ length s) where
   older : 2 < n → 0 < length (reverse (take (n - 2) s))
   older h = omega (arith, length-reverse (take (n - 2) s), length-take (n - 2) s)
 
-  pub cycle_live : 2 < n → range (get_or s (n - 2) 0) (get_or s (n - 1) 0) ≤ range (get_or s (n - 1) 0) z → live_after z (reverse (take (n - 2) s)) ≡ live_after z (reverse (take n s))
-  cycle_live h r = sym (ap (live_after z) (newest_two s n (omega arith) room) ∙ live_after_more z _ _ (reverse (take (n - 2) s)) (older h) r)
+  pub cycle_live : 2 < n → range (get_or s (n - 2) 0) (get_or s (n - 1) 0) ≤ range (get_or s (n - 1) 0) z →
+      live_after z (reverse (take (n - 2) s)) ≡ live_after z (reverse (take n s))
+  cycle_live h r = sym (ap (live_after z) (newest_two s n (omega arith) room) ∙ live_after_more z _ _
+      (reverse (take (n - 2) s)) (older h) r)
 
-  pub cycle_counted : 2 < n → range (get_or s (n - 2) 0) (get_or s (n - 1) 0) ≤ range (get_or s (n - 1) 0) z → ranges_counted z (reverse (take n s)) ≡ counted_range (get_or s (n - 2) 0) (get_or s (n - 1) 0) 2 ∷ ranges_counted z (reverse (take (n - 2) s))
-  cycle_counted h r = ap (ranges_counted z) (newest_two s n (omega arith) room) ∙ ranges_counted_more z _ _ (reverse (take (n - 2) s)) (older h) r
+  pub cycle_counted : 2 < n → range (get_or s (n - 2) 0) (get_or s (n - 1) 0) ≤ range (get_or s (n - 1) 0) z →
+      ranges_counted z (reverse (take n s)) ≡ counted_range (get_or s (n - 2) 0) (get_or s (n - 1) 0) 2 ∷ ranges_counted z
+      (reverse (take (n - 2) s))
+  cycle_counted h r = ap (ranges_counted z) (newest_two s n (omega arith) room) ∙ ranges_counted_more z _ _
+      (reverse (take (n - 2) s)) (older h) r
 
-  pub open_live : n < length s → (2 ≤ n → range (get_or s (n - 2) 0) (get_or s (n - 1) 0) ≤ range (get_or s (n - 1) 0) z → ⊥) → reverse (take (n + 1) (set s n z)) ≡ live_after z (reverse (take n s))
+  pub open_live : n < length s → (2 ≤ n → range (get_or s (n - 2) 0) (get_or s (n - 1) 0) ≤ range (get_or s (n - 1) 0) z → ⊥) →
+      reverse (take (n + 1) (set s n z)) ≡ live_after z (reverse (take n s))
   open_live inside g = ap reverse (take_more_set s n z inside) ∙ reverse-append (take n s) (z ∷ []) ∙ sym (stays (cases_lt n 2))
     where
       stays : ((n < 2) ⊎ (2 ≤ n)) → live_after z (reverse (take n s)) ≡ z ∷ reverse (take n s)
@@ -46,14 +54,18 @@ module _ (s : List ℕ) (n z : ℕ) (room : n ≤ length s) where
           let e = newest_two s n h room in
           ap (live_after z) e ∙ live_after_less z _ _ (reverse (take (n - 2) s)) (lt_of_not-le (g h)) ∙ ap (λ l. z ∷ l) (sym e)
 
-  pub open_counted : (2 ≤ n → range (get_or s (n - 2) 0) (get_or s (n - 1) 0) ≤ range (get_or s (n - 1) 0) z → ⊥) → ranges_counted z (reverse (take n s)) ≡ []
+  pub open_counted : (2 ≤ n → range (get_or s (n - 2) 0) (get_or s (n - 1) 0) ≤ range (get_or s (n - 1) 0) z → ⊥) →
+      ranges_counted z (reverse (take n s)) ≡ []
   open_counted g = none (cases_lt n 2)
     where
       none : ((n < 2) ⊎ (2 ≤ n)) → ranges_counted z (reverse (take n s)) ≡ []
       none (inl h) = ranges_counted_few z (reverse (take n s)) (omega (arith, length-reverse (take n s), length-take n s))
-      none (inr h) = ap (ranges_counted z) (newest_two s n h room) ∙ ranges_counted_less z _ _ (reverse (take (n - 2) s)) (lt_of_not-le (g h))
+      none (inr h) = ap (ranges_counted z) (newest_two s n h room) ∙ ranges_counted_less z _ _ (reverse (take (n - 2) s))
+          (lt_of_not-le (g h))
 
-pub half_live : (s : List ℕ) (n z : ℕ) → n ≤ length s → n ≡ 2 → range (get_or s (n - 2) 0) (get_or s (n - 1) 0) ≤ range (get_or s (n - 1) 0) z → live_after z (reverse (take 1 (set s 0 (get_or s (n - 1) 0)))) ≡ live_after z (reverse (take n s))
+pub half_live : (s : List ℕ) (n z : ℕ) → n ≤ length s → n ≡ 2 →
+    range (get_or s (n - 2) 0) (get_or s (n - 1) 0) ≤ range (get_or s (n - 1) 0) z →
+    live_after z (reverse (take 1 (set s 0 (get_or s (n - 1) 0)))) ≡ live_after z (reverse (take n s))
 half_live [] n z room e h = absurd (omega arith)
 half_live (x ∷ []) n z room e h = absurd (omega arith)
 half_live (x ∷ y ∷ s) (suc (suc zero)) z room e h = sym (live_after_half z y x h)
@@ -61,7 +73,10 @@ half_live (x ∷ y ∷ s) zero z room e h = absurd (omega arith)
 half_live (x ∷ y ∷ s) (suc zero) z room e h = absurd (omega arith)
 half_live (x ∷ y ∷ s) (suc (suc (suc n))) z room e h = absurd (omega arith)
 
-pub half_counted : (s : List ℕ) (n z : ℕ) → n ≤ length s → n ≡ 2 → range (get_or s (n - 2) 0) (get_or s (n - 1) 0) ≤ range (get_or s (n - 1) 0) z → ranges_counted z (reverse (take n s)) ≡ counted_range (get_or s (n - 2) 0) (get_or s (n - 1) 0) 1 ∷ ranges_counted z (reverse (take 1 (set s 0 (get_or s (n - 1) 0))))
+pub half_counted : (s : List ℕ) (n z : ℕ) → n ≤ length s → n ≡ 2 →
+    range (get_or s (n - 2) 0) (get_or s (n - 1) 0) ≤ range (get_or s (n - 1) 0) z →
+    ranges_counted z (reverse (take n s)) ≡ counted_range (get_or s (n - 2) 0) (get_or s (n - 1) 0) 1 ∷ ranges_counted z
+    (reverse (take 1 (set s 0 (get_or s (n - 1) 0))))
 half_counted [] n z room e h = absurd (omega arith)
 half_counted (x ∷ []) n z room e h = absurd (omega arith)
 half_counted (x ∷ y ∷ s) (suc (suc zero)) z room e h = ranges_counted_half z y x h
@@ -70,12 +85,15 @@ half_counted (x ∷ y ∷ s) (suc zero) z room e h = absurd (omega arith)
 half_counted (x ∷ y ∷ s) (suc (suc (suc n))) z room e h = absurd (omega arith)
 
 -- step 6: the range between the places i - 1 and i comes after those between the first i
-pub left_next : (s : List ℕ) (i : ℕ) → 1 ≤ i → i < length s → ranges_left (reverse (take (i + 1) s)) ≡ ranges_left (reverse (take i s)) ++ (counted_range (get_or s (i - 1) 0) (get_or s i 0) 1 ∷ [])
+pub left_next : (s : List ℕ) (i : ℕ) → 1 ≤ i → i < length s →
+    ranges_left (reverse (take (i + 1) s)) ≡ ranges_left (reverse (take i s)) ++ (counted_range (get_or s (i - 1) 0) (get_or s i 0) 1 ∷ [])
 left_next s (suc j) h r =
     let f : suc j ≡ j + 1 = omega arith in
-    let e : reverse (take (suc j) s) ≡ get_or s j 0 ∷ reverse (take j s) = ap (λ k. reverse (take k s)) f ∙ reverse-take_next s j (omega arith) in
+    let e : reverse (take (suc j) s) ≡ get_or s j 0 ∷ reverse (take j s) = ap (λ k. reverse (take k s)) f ∙ reverse-take_next s j
+    (omega arith) in
     let d : j ≡ suc j - 1 = omega arith in
-    ap ranges_left (reverse-take_next s (suc j) r ∙ ap (λ l. get_or s (suc j) 0 ∷ l) e) ∙ ap (λ l. ranges_left l ++ (counted_range (get_or s j 0) (get_or s (suc j) 0) 1 ∷ [])) (sym e)
+    ap ranges_left (reverse-take_next s (suc j) r ∙ ap (λ l. get_or s (suc j) 0 ∷ l) e)
+    ∙ ap (λ l. ranges_left l ++ (counted_range (get_or s j 0) (get_or s (suc j) 0) 1 ∷ [])) (sym e)
     ∙ ap (λ k. ranges_left (reverse (take (suc j) s)) ++ (counted_range (get_or s k 0) (get_or s (suc j) 0) 1 ∷ [])) d
 left_next s zero h r = absurd (omega arith)
 

@@ -20,7 +20,8 @@ falling_tail one_range = one_point
 falling_tail (next_range h f) = f
 
 falling_by : (z y x : ℕ) (live : List ℕ) → HasFallingRanges (y ∷ x ∷ live) → ((range y z < range x y) ⊎ (range x y ≤ range y z))
-    → ((w : ℕ) (older : List ℕ) → live ≡ w ∷ older → HasFallingRanges (live_after z (w ∷ older))) → HasFallingRanges (live_after z (y ∷ x ∷ live))
+    → ((w : ℕ) (older : List ℕ) → live ≡ w ∷ older → HasFallingRanges (live_after z (w ∷ older))) →
+    HasFallingRanges (live_after z (y ∷ x ∷ live))
 falling_by z y x live f (inl h) next = subst HasFallingRanges (sym (live_after_less z y x live h)) (next_range h f)
 falling_by z y x [] f (inr h) next = subst HasFallingRanges (sym (live_after_half z y x h)) one_range
 falling_by z y x (w ∷ older) f (inr h) next = subst HasFallingRanges (sym (live_after_cycle z y x w older h)) (next w older refl)
@@ -33,7 +34,8 @@ falling_after z (y ∷ x ∷ w ∷ older) f =
     falling_by z y x (w ∷ older) f (cases_lt (range y z) (range x y))
     (λ v rest e. subst (λ l. HasFallingRanges (live_after z l)) e (falling_after z (w ∷ older) (falling_tail (falling_tail f))))
 
-pub is_live_after : {classes z : ℕ} {live after : List ℕ} → z < classes → IsLive classes live → after ≡ live_after z live → IsLive classes after
+pub is_live_after : {classes z : ℕ} {live after : List ℕ} → z < classes → IsLive classes live → after ≡ live_after z live →
+    IsLive classes after
 is_live_after {classes} {z} {live} p l e = subst (IsLive classes) (sym e) (record {
   below = All-live_after (λ x. x < classes) z live p l.below;
   falling = falling_after z live l.falling;
@@ -43,7 +45,8 @@ pub is_live_none : (classes : ℕ) → IsLive classes []
 is_live_none classes = record { below = All-nil (λ x. x < classes); falling = no_point }
 
 -- the newest range leaves room for as many greater ones as there are older points
-range_and_older : (classes y x : ℕ) (live : List ℕ) → All (λ p. p < classes) (y ∷ x ∷ live) → HasFallingRanges (y ∷ x ∷ live) → range x y + length live < classes
+range_and_older : (classes y x : ℕ) (live : List ℕ) → All (λ p. p < classes) (y ∷ x ∷ live) → HasFallingRanges (y ∷ x ∷ live) →
+    range x y + length live < classes
 range_and_older classes y x [] a f =
     let p = All-head (λ p. p < classes) y (x ∷ []) a in
     let q = All-head (λ p. p < classes) x [] (All-tail (λ p. p < classes) y (x ∷ []) a) in omega arith
@@ -63,7 +66,8 @@ pub length-first : (classes n : ℕ) (s : List ℕ) → n ≤ length s → IsLiv
 length-first classes n s h l = omega (arith, length-live classes (reverse (take n s)) l, length-reverse (take n s), length-take n s)
 
 -- a run's buffer after a read
-pub buffer_after : {classes z n m : ℕ} {s t : List ℕ} → z < classes → IsRunBuffer classes s n → length t ≡ length s → m ≤ n + 1 → reverse (take m t) ≡ live_after z (reverse (take n s)) → IsRunBuffer classes t m
+pub buffer_after : {classes z n m : ℕ} {s t : List ℕ} → z < classes → IsRunBuffer classes s n → length t ≡ length s → m ≤ n + 1 →
+    reverse (take m t) ≡ live_after z (reverse (take n s)) → IsRunBuffer classes t m
 buffer_after {classes} {z} {n} {m} {s} {t} p b same fewer e =
     let l = is_live_after p b.is_live e in
     let r = b.room in

@@ -11,12 +11,14 @@ pub record Holding (holds : List CountedRange → Type 0) (left whole : List Cou
   pub is : given ++ left ≡ whole
 
 module _ {holds after : List CountedRange → Type 0} {left less whole : List CountedRange} where
-  pub holding_more : (r : CountedRange) → Holding holds left whole → ((l : List CountedRange) → holds l → after (l ++ r ∷ [])) → left ≡ r ∷ less → Holding after less whole
+  pub holding_more : (r : CountedRange) → Holding holds left whole → ((l : List CountedRange) → holds l → after (l ++ r ∷ [])) →
+      left ≡ r ∷ less → Holding after less whole
   holding_more r h f e = record {
     given = h.given ++ r ∷ [];
     held = f h.given h.held;
     is = append_assoc h.given (r ∷ []) less ∙ ap (λ l. h.given ++ l) (sym e) ∙ h.is;
   }
 
-pub holding_done : (holds : List CountedRange → Type 0) {left whole : List CountedRange} → Holding holds left whole → left ≡ [] → holds whole
+pub holding_done : (holds : List CountedRange → Type 0) {left whole : List CountedRange} → Holding holds left whole →
+    left ≡ [] → holds whole
 holding_done holds h e = subst holds (sym (append-nil h.given) ∙ ap (λ l. h.given ++ l) (sym e) ∙ h.is) h.held

@@ -10,7 +10,8 @@ pub counted_none : (holds : List CountedRange → Type 0) → holds [] → HasCo
 counted_none holds h = record { given = []; held = h; whole = λ unread. refl }
 
 pub counted_next : {points live after : List ℕ} {holds then : List CountedRange → Type 0} (z : ℕ) → HasCounted points live holds
-    → ((given : List CountedRange) → holds given → then (given ++ ranges_counted z live)) → after ≡ live_after z live → HasCounted (points ++ z ∷ []) after then
+    → ((given : List CountedRange) → holds given → then (given ++ ranges_counted z live)) → after ≡ live_after z live →
+    HasCounted (points ++ z ∷ []) after then
 counted_next {points} {live} {after} z c f e = record {
   given = c.given ++ ranges_counted z live;
   held = f c.given c.held;
@@ -20,6 +21,7 @@ counted_next {points} {live} {after} z c f e = record {
       ∙ sym (append_assoc c.given (ranges_counted z live) (run after unread));
 }
 
-pub counted_all : {points live : List ℕ} {holds : List CountedRange → Type 0} (then : List CountedRange → Type 0) → HasCounted points live holds
+pub counted_all : {points live : List ℕ} {holds : List CountedRange → Type 0} (then : List CountedRange → Type 0) →
+    HasCounted points live holds
     → ((given : List CountedRange) → holds given → then (given ++ ranges_left live)) → then (run [] points)
 counted_all {points} then c f = subst then (sym (c.whole []) ∙ ap (run []) (append-nil points)) (f c.given c.held)

@@ -8,7 +8,8 @@ use Rattle.lemmas.proofs.Lists.{All-reverse, All-of_reverse}
 use Rattle.three_point.specs.Run.{CountedRange, live_after, ranges_counted, run}
 use Rattle.three_point.proofs.Bounds.{All-live_after}
 
-pub run_next : (a b whole : List CountedRange) (points v w : List ℕ) (i : ℕ) → i < length points → b ≡ a ++ ranges_counted (get_or points i 0) v → w ≡ live_after (get_or points i 0) v
+pub run_next : (a b whole : List CountedRange) (points v w : List ℕ) (i : ℕ) → i < length points →
+    b ≡ a ++ ranges_counted (get_or points i 0) v → w ≡ live_after (get_or points i 0) v
     → a ++ run v (drop i points) ≡ whole → b ++ run w (drop (i + 1) points) ≡ whole
 run_next a b whole points v w i inside e f q =
     let z = get_or points i 0 in

@@ -22,9 +22,11 @@ idle z (y ∷ []) w = record { none = refl; all = refl }
 idle z (y ∷ x ∷ v) w = idle_by z y x v w (cases_lt (range y z) (range x y))
 
 -- the run from live points of which z is the newest
-from : {z : ℕ} {live left : List ℕ} {l : List CountedRange} → Counting (z ∷ live) left l → l ≡ ranges_counted z live ++ run (live_after z live) left
+from : {z : ℕ} {live left : List ℕ} {l : List CountedRange} → Counting (z ∷ live) left l →
+    l ≡ ranges_counted z live ++ run (live_after z live) left
 from {z} {left = left} (steps_2_to_5 (step_4 {x} {y} {s = s} {live = v} h) c) =
-    ap (λ k. counted_range x y 2 ∷ k) (from c) ∙ sym (ap₂ (λ k m. k ++ run m left) (ranges_counted_cycle z y x s v h) (live_after_cycle z y x s v h))
+    ap (λ k. counted_range x y 2 ∷ k) (from c) ∙ sym (ap₂ (λ k m. k ++ run m left) (ranges_counted_cycle z y x s v h)
+    (live_after_cycle z y x s v h))
 from {z} {left = left} (steps_2_to_5 (step_5 {s} {y} h) c) =
     ap (λ k. counted_range s y 1 ∷ k) (from c) ∙ sym (ap₂ (λ k m. k ++ run m left) (ranges_counted_half z y s h) (live_after_half z y s h))
 from {z} {live} (step_1 {unread = unread} {z = next} w c) =
@@ -62,18 +64,23 @@ read_out_at z live to listing e f w c = record {
   by = λ left l d. subst (λ k. Counting (z ∷ live) left (k ++ l)) (sym f) (c left l (subst (λ k. Counting k left l) e d));
 }
 
-read_out_by : (z y x : ℕ) (v : List ℕ) → ((range y z < range x y) ⊎ (range x y ≤ range y z)) → ((w : ℕ) (u : List ℕ) → v ≡ w ∷ u → ReadOut z (w ∷ u)) → ReadOut z (y ∷ x ∷ v)
-read_out_by z y x v (inl h) next = read_out_at z _ _ _ (live_after_less z y x v h) (ranges_counted_less z y x v h) (waits_less z y x v h) (λ left l d. d)
-read_out_by z y x [] (inr h) next = read_out_at z _ _ _ (live_after_half z y x h) (ranges_counted_half z y x h) (waits_two z y) (λ left l d. steps_2_to_5 (step_5 h) d)
+read_out_by : (z y x : ℕ) (v : List ℕ) → ((range y z < range x y) ⊎ (range x y ≤ range y z)) →
+    ((w : ℕ) (u : List ℕ) → v ≡ w ∷ u → ReadOut z (w ∷ u)) → ReadOut z (y ∷ x ∷ v)
+read_out_by z y x v (inl h) next =
+    read_out_at z _ _ _ (live_after_less z y x v h) (ranges_counted_less z y x v h) (waits_less z y x v h) (λ left l d. d)
+read_out_by z y x [] (inr h) next =
+    read_out_at z _ _ _ (live_after_half z y x h) (ranges_counted_half z y x h) (waits_two z y) (λ left l d. steps_2_to_5 (step_5 h) d)
 read_out_by z y x (w ∷ u) (inr h) next =
     let n = next w u refl in
-    read_out_at z _ _ _ (live_after_cycle z y x w u h) (ranges_counted_cycle z y x w u h) n.waits (λ left l d. steps_2_to_5 (step_4 h) (n.by left l d))
+    read_out_at z _ _ _ (live_after_cycle z y x w u h) (ranges_counted_cycle z y x w u h) n.waits
+    (λ left l d. steps_2_to_5 (step_4 h) (n.by left l d))
 
 read_out : (z : ℕ) (live : List ℕ) → ReadOut z live
 read_out z [] = record { waits = waits_one z; by = λ left l d. d }
 read_out z (y ∷ []) = record { waits = waits_two z y; by = λ left l d. d }
 read_out z (y ∷ x ∷ []) = read_out_by z y x [] (cases_lt (range y z) (range x y)) (λ w u e. absurd (cc))
-read_out z (y ∷ x ∷ w ∷ u) = read_out_by z y x (w ∷ u) (cases_lt (range y z) (range x y)) (λ w' u' e. subst (ReadOut z) e (read_out z (w ∷ u)))
+read_out z (y ∷ x ∷ w ∷ u) =
+    read_out_by z y x (w ∷ u) (cases_lt (range y z) (range x y)) (λ w' u' e. subst (ReadOut z) e (read_out z (w ∷ u)))
 
 some : (live p : List ℕ) → Waits live → Counting live p (run live p)
 some live [] w = step_6 w

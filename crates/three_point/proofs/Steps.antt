@@ -13,7 +13,8 @@ use Rattle.three_point.specs.Run.{counted_range, live_after, ranges_counted, ran
 pub live_after_cycle : (z y x w : ℕ) (v : List ℕ) → range x y ≤ range y z → live_after z (y ∷ x ∷ w ∷ v) ≡ live_after z (w ∷ v)
 live_after_cycle z y x w v h = grind (arith, nat_tests)
 
-pub ranges_counted_cycle : (z y x w : ℕ) (v : List ℕ) → range x y ≤ range y z → ranges_counted z (y ∷ x ∷ w ∷ v) ≡ counted_range x y 2 ∷ ranges_counted z (w ∷ v)
+pub ranges_counted_cycle : (z y x w : ℕ) (v : List ℕ) → range x y ≤ range y z →
+    ranges_counted z (y ∷ x ∷ w ∷ v) ≡ counted_range x y 2 ∷ ranges_counted z (w ∷ v)
 ranges_counted_cycle z y x w v h = grind (arith, nat_tests)
 
 pub live_after_half : (z y x : ℕ) → range x y ≤ range y z → live_after z (y ∷ x ∷ []) ≡ z ∷ y ∷ []

@@ -12,7 +12,8 @@ use Rattle.three_point.specs.Sums.{sum_at_range, HasRangeSums}
 use Rattle.three_point.proofs.Bounds.{run_within}
 
 -- sums add up term by term
-pub sum_at_range-added : (f g : ℕ → ℕ → ℕ) (k n : ℕ) → sum_at_range (λ lo hi. f lo hi + g lo hi) k n ≡ sum_at_range f k n + sum_at_range g k n
+pub sum_at_range-added : (f g : ℕ → ℕ → ℕ) (k n : ℕ) →
+    sum_at_range (λ lo hi. f lo hi + g lo hi) k n ≡ sum_at_range f k n + sum_at_range g k n
 sum_at_range-added f g k zero = refl
 sum_at_range-added f g k (suc n) = omega (arith, sum_at_range-added f g k n)
 
@@ -21,18 +22,23 @@ sum_at_range-zero k zero = refl
 sum_at_range-zero k (suc n) = omega (arith, sum_at_range-zero k n)
 
 -- one range, over the first n lower levels
-term : (halves k n : ℕ) (x : Pair) → x.lo ≤ x.hi → (if k == x.hi - x.lo && nat_lt x.lo n then halves else 0) + halves * same n (n + k) x ≡ (if k == x.hi - x.lo && nat_lt x.lo (suc n) then halves else 0)
+term : (halves k n : ℕ) (x : Pair) → x.lo ≤ x.hi →
+    (if k == x.hi - x.lo && nat_lt x.lo n then halves else 0) + halves * same n (n + k) x ≡
+    (if k == x.hi - x.lo && nat_lt x.lo (suc n) then halves else 0)
 term halves k n x h = grind (arith, nat_tests)
 
-one_range : (halves k n : ℕ) (x : Pair) → x.lo ≤ x.hi → sum_at_range (λ lo hi. halves * same lo hi x) k n ≡ (if k == x.hi - x.lo && nat_lt x.lo n then halves else 0)
+one_range : (halves k n : ℕ) (x : Pair) → x.lo ≤ x.hi →
+    sum_at_range (λ lo hi. halves * same lo hi x) k n ≡ (if k == x.hi - x.lo && nat_lt x.lo n then halves else 0)
 one_range halves k zero x h = grind (arith, nat_tests)
 one_range halves k (suc n) x h = omega (arith, one_range halves k n x h, term halves k n x h)
 
 -- no pair so far apart is left out
-all_lower : (halves k n : ℕ) (x : Pair) → x.lo ≤ x.hi → x.hi < n + k → (if k == x.hi - x.lo && nat_lt x.lo n then halves else 0) ≡ (if k == x.hi - x.lo then halves else 0)
+all_lower : (halves k n : ℕ) (x : Pair) → x.lo ≤ x.hi → x.hi < n + k →
+    (if k == x.hi - x.lo && nat_lt x.lo n then halves else 0) ≡ (if k == x.hi - x.lo then halves else 0)
 all_lower halves k n x h w = grind (arith, nat_tests)
 
-pub sum_is : (k n : ℕ) (l : List CountedRange) → All (IsWithin (n + k)) l → half_units_at_range k l ≡ sum_at_range (λ lo hi. half_units_of_pair lo hi l) k n
+pub sum_is : (k n : ℕ) (l : List CountedRange) → All (IsWithin (n + k)) l →
+    half_units_at_range k l ≡ sum_at_range (λ lo hi. half_units_of_pair lo hi l) k n
 sum_is k n [] a = let e = sum_at_range-zero k n in omega (arith, e)
 sum_is k n (r ∷ l) a =
     let w = All-head (IsWithin (n + k)) r l a in
@@ -45,4 +51,5 @@ sum_is k n (r ∷ l) a =
     )
 
 pub has_range_sums : HasRangeSums
-has_range_sums h k n a = sum_is k n (run [] (points h)) (run_within (n + k) (points h) [] (All-points (λ x. x < n + k) h a) (All-nil (λ x. x < n + k)))
+has_range_sums h k n a =
+    sum_is k n (run [] (points h)) (run_within (n + k) (points h) [] (All-points (λ x. x < n + k) h a) (All-nil (λ x. x < n + k)))

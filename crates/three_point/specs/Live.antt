@@ -3,7 +3,8 @@
 --   IsLive             what live points between two reads are like: below the classes, and their ranges fall
 --   IsRunBuffer        how a run keeps them
 --   RunState           what is seen of a run: its classes, and its live points with the newest first
---   HasCounted         what was given so far, and what these live points will count with any further points, is the run of all points
+--   HasCounted         what was given so far, and what these live points will count with any further points, is the run
+--                      of all points
 use Rattle.std.specs.Prelude.{◌≡◌, ℕ, ◌+◌, ◌<◌, ◌≤◌, List, [], ◌∷◌, ◌++◌, length, reverse, take, All}
 use Rattle.turning_points.specs.Pairs.{range}
 use Rattle.three_point.specs.Run.{CountedRange, run}
@@ -12,7 +13,8 @@ pub data HasFallingRanges : List ℕ → Type 0 where
   no_point : HasFallingRanges []
   one_point : {x : ℕ} → HasFallingRanges (x ∷ [])
   one_range : {y x : ℕ} → HasFallingRanges (y ∷ x ∷ [])
-  next_range : {z y x : ℕ} {live : List ℕ} → range y z < range x y → HasFallingRanges (y ∷ x ∷ live) → HasFallingRanges (z ∷ y ∷ x ∷ live)
+  next_range : {z y x : ℕ} {live : List ℕ} → range y z < range x y → HasFallingRanges (y ∷ x ∷ live) →
+      HasFallingRanges (z ∷ y ∷ x ∷ live)
 
 pub record IsLive (classes : ℕ) (live : List ℕ) : Type 0 where
   pub below : All (λ x. x < classes) live
@@ -28,7 +30,8 @@ pub record HasCounted (points live : List ℕ) (holds : List CountedRange → Ty
   pub held : holds given
   pub whole : (unread : List ℕ) → run [] (points ++ unread) ≡ given ++ run live unread
 
--- The live points stand at the first places of a buffer, the newest last. There is room for one more than can ever be live.
+-- The live points stand at the first places of a buffer, the newest last. There is room for one more than can ever be
+-- live.
 pub record IsRunBuffer (classes : ℕ) (places : List ℕ) (len : ℕ) : Type 0 where
   pub room : length places ≡ classes + 2
   pub within : len ≤ classes + 1

@@ -9,8 +9,8 @@
 --   half_units_at_range   the half units of all pairs in it that lie so far apart
 --   three_point           the half units of a pair in a level history
 --   half_units            the half units at a range in a level history
--- A list of live points has the newest first, and the oldest of them is S. The point z that was read last stands apart: X is the range
--- from y to z, where y is the newest live point, and Y the range from x to y.
+-- A list of live points has the newest first, and the oldest of them is S. The point z that was read last stands apart:
+-- X is the range from y to z, where y is the newest live point, and Y the range from x to y.
 use Rattle.std.specs.Prelude.{ℕ, ◌+◌, ◌-◌, ◌*◌, nat_le, ◌==◌, if◌then◌else◌, List, [], ◌∷◌, ◌++◌}
 use Rattle.turning_points.specs.Points.{points}
 use Rattle.turning_points.specs.Pairs.{Pair, pair, range, is_pair}
@@ -23,20 +23,23 @@ pub record CountedRange : Type 0 where
 abbrev pub counted_range : ℕ → ℕ → ℕ → CountedRange
 counted_range x y n = record { pair = pair x y; halves = n }
 
--- Step 2: with fewer than three points the next one is read. Step 3: so it is where X < Y. Steps 4 and 5, where X >= Y: if Y contains S,
--- as it does with three points, its first point is discarded and S moves to its second; otherwise both points of Y are discarded.
+-- Step 2: with fewer than three points the next one is read. Step 3: so it is where X < Y. Steps 4 and 5, where X >= Y:
+-- if Y contains S, as it does with three points, its first point is discarded and S moves to its second; otherwise both
+-- points of Y are discarded.
 abbrev pub live_after : ℕ → List ℕ → List ℕ
 live_after z [] = z ∷ []
 live_after z (y ∷ []) = z ∷ y ∷ []
 live_after z (y ∷ x ∷ []) = if nat_le (range x y) (range y z) then z ∷ y ∷ [] else z ∷ y ∷ x ∷ []
-live_after z (y ∷ x ∷ w ∷ live) = if nat_le (range x y) (range y z) then live_after z (w ∷ live) else z ∷ y ∷ x ∷ w ∷ live
+live_after z (y ∷ x ∷ w ∷ live) =
+    if nat_le (range x y) (range y z) then live_after z (w ∷ live) else z ∷ y ∷ x ∷ w ∷ live
 
 -- Step 4 counts Y as one cycle, step 5, where Y contains S, as one half cycle.
 abbrev pub ranges_counted : ℕ → List ℕ → List CountedRange
 ranges_counted z [] = []
 ranges_counted z (y ∷ []) = []
 ranges_counted z (y ∷ x ∷ []) = if nat_le (range x y) (range y z) then counted_range x y 1 ∷ [] else []
-ranges_counted z (y ∷ x ∷ w ∷ live) = if nat_le (range x y) (range y z) then counted_range x y 2 ∷ ranges_counted z (w ∷ live) else []
+ranges_counted z (y ∷ x ∷ w ∷ live) =
+    if nat_le (range x y) (range y z) then counted_range x y 2 ∷ ranges_counted z (w ∷ live) else []
 
 -- Step 6: each range not yet counted is one half cycle, the oldest first.
 abbrev pub ranges_left : List ℕ → List CountedRange

@@ -1,5 +1,6 @@
--- The numbered steps of ASTM E1049-85, 5.4.4, each as a constructor. Live points stand with the newest first, and the last of them is the
--- starting point S. X is the range from y to z, the two newest live points, and Y the previous range, from x to y.
+-- The numbered steps of ASTM E1049-85, 5.4.4, each as a constructor. Live points stand with the newest first, and the
+-- last of them is the starting point S. X is the range from y to z, the two newest live points, and Y the previous
+-- range, from x to y.
 --   Step       what steps 4 and 5 count, and the points that they leave
 --   Waits      where steps 2 and 3 go back to step 1: neither step 4 nor step 5 applies
 --   Counting   all that the steps count, from these live points on and with these points to read
@@ -11,7 +12,8 @@ use Rattle.three_point.specs.Run.{CountedRange, counted_range, ranges_left, run}
 -- X >= Y. Step 4: Y doesn't contain S. It is one cycle, and its two points are discarded.
 -- Step 5: Y contains S. It is one half cycle; its first point is discarded, and S moves to its second.
 pub data Step : List ℕ → CountedRange → List ℕ → Type 0 where
-  step_4 : {x y z s : ℕ} {live : List ℕ} → range x y ≤ range y z → Step (z ∷ y ∷ x ∷ s ∷ live) (counted_range x y 2) (z ∷ s ∷ live)
+  step_4 : {x y z s : ℕ} {live : List ℕ} → range x y ≤ range y z →
+      Step (z ∷ y ∷ x ∷ s ∷ live) (counted_range x y 2) (z ∷ s ∷ live)
   step_5 : {s y z : ℕ} → range s y ≤ range y z → Step (z ∷ y ∷ s ∷ []) (counted_range s y 1) (z ∷ y ∷ [])
 
 -- Step 2: there are fewer than three points. Step 3: X < Y.
@@ -20,8 +22,10 @@ Waits live = (r : CountedRange) (left : List ℕ) → Step live r left → ⊥
 
 -- Step 1: the next point is read. Step 6, out of data: each range not yet counted is one half cycle.
 pub data Counting : List ℕ → List ℕ → List CountedRange → Type 0 where
-  step_1 : {live unread : List ℕ} {z : ℕ} {l : List CountedRange} → Waits live → Counting (z ∷ live) unread l → Counting live (z ∷ unread) l
-  steps_2_to_5 : {live left unread : List ℕ} {r : CountedRange} {l : List CountedRange} → Step live r left → Counting left unread l
+  step_1 : {live unread : List ℕ} {z : ℕ} {l : List CountedRange} → Waits live → Counting (z ∷ live) unread l →
+      Counting live (z ∷ unread) l
+  steps_2_to_5 : {live left unread : List ℕ} {r : CountedRange} {l : List CountedRange} → Step live r left →
+      Counting left unread l
       → Counting live unread (r ∷ l)
   step_6 : {live : List ℕ} → Waits live → Counting live [] (ranges_left live)
 

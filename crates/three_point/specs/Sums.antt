@@ -10,4 +10,5 @@ sum_at_range f k (suc n) = sum_at_range f k n + f n (n + k)
 
 -- n is any number of lower levels that leaves out no pair
 abbrev pub HasRangeSums : Type 0
-HasRangeSums = (h : List ℕ) (k n : ℕ) → All (λ level. level < n + k) h → half_units h k ≡ sum_at_range (three_point h) k n
+HasRangeSums =
+    (h : List ℕ) (k n : ℕ) → All (λ level. level < n + k) h → half_units h k ≡ sum_at_range (three_point h) k n

@@ -36,7 +36,8 @@ All-behind : (P : ℕ → Type 0) (u v : List ℕ) → All P (u ++ v) → All P 
 All-behind P [] v a = a
 All-behind P (x ∷ u) v a = All-behind P u v (All-tail P x (u ++ v) a)
 
-pub All-next_given : (P : ℕ → Type 0) {h : List ℕ} (given more : List ℕ) {kept : Recent} → All P h → HasGiven h (given ++ more) kept → All P more
+pub All-next_given : (P : ℕ → Type 0) {h : List ℕ} (given more : List ℕ) {kept : Recent} → All P h →
+    HasGiven h (given ++ more) kept → All P more
 All-next_given P given more a t = All-behind P given more (All-given P a t)
 
 pub length-given : {h given : List ℕ} {kept : Recent} → HasGiven h given kept → length given ≤ length h

@@ -38,7 +38,9 @@ head_is (between {z = z} {l = l} b) = (z ∷ l, refl)
 abbrev pub put_before : ℕ → ℕ → EndPoints → EndPoints
 put_before x zero e = record { points = 1; first = x; second = 0; before = 0; last = x }
 put_before x (suc zero) e = if x == e.first then e else record { points = 2; first = x; second = e.first; before = x; last = e.first }
-put_before x (suc (suc n)) e = if x == e.first then e else if is_turn x e.first e.second then record e { points = suc e.points; first = x; second = e.first } else record e { first = x; second = e.second; before = if n == 0 then x else e.before }
+put_before x (suc (suc n)) e = if x == e.first then e else if is_turn x e.first e.second then record e
+    { points = suc e.points; first = x; second = e.first } else record e
+    { first = x; second = e.second; before = if n == 0 then x else e.before }
 
 -- where two histories meet, the last two points of the first are put before those of the second
 abbrev pub meet : ℕ → EndPoints → EndPoints → EndPoints
@@ -69,7 +71,8 @@ met_side p x z t d e (before h) = (z, t, add_before p x z t h, grind arith)
 met_at : (p x : ℕ) (t : List ℕ) → p ≢ x → IsZigzag (x ∷ t) → (n : ℕ) × (r : List ℕ) × (add p (x ∷ t) ≡ p ∷ n ∷ r) × Same p x n
 met_at p x t d one = (x, [], add_two p x d, grind arith)
 met_at p x t d (two {y = z} n) = met_side p x z [] d n (side_of p x z n _ _ refl refl)
-met_at p x t d (inner {y = z} {z = w} {l = l} u g) = let n = ends_differ (inner u g) in met_side p x z (w ∷ l) d n (side_of p x z n _ _ refl refl)
+met_at p x t d (inner {y = z} {z = w} {l = l} u g) =
+    let n = ends_differ (inner u g) in met_side p x z (w ∷ l) d n (side_of p x z n _ _ refl refl)
 
 pub met : (p x : ℕ) (s : List ℕ) → p ≢ x → IsZigzag s → Met p x s
 met p x s d g =
@@ -82,7 +85,8 @@ turn_same : {a p x n : ℕ} → Turn a p x → Same p x n → Turn a p n
 turn_same t s = grind arith
 
 -- the last point may be put for others on its side
-zig_put : (f : List ℕ) (p x n : ℕ) (t : List ℕ) → IsZigzag (f ++ (p ∷ x ∷ [])) → Same p x n → IsZigzag (p ∷ n ∷ t) → IsZigzag (f ++ (p ∷ n ∷ t))
+zig_put : (f : List ℕ) (p x n : ℕ) (t : List ℕ) → IsZigzag (f ++ (p ∷ x ∷ [])) → Same p x n → IsZigzag (p ∷ n ∷ t) →
+    IsZigzag (f ++ (p ∷ n ∷ t))
 zig_put [] p x n t g s z = z
 zig_put (a ∷ []) p x n t (inner u g) s z = inner (turn_same u s) z
 zig_put (a ∷ b ∷ []) p x n t (inner u g) s z = inner u (zig_put (b ∷ []) p x n t g s z)
@@ -93,7 +97,8 @@ ends_apart [] p x (two n) = n
 ends_apart (a ∷ f) p x g = ends_apart f p x (zig_tail g)
 
 -- a list of points before another: all but its last two stay, and those two are put before the other one by one
-pub met_points : (f : List ℕ) (p x : ℕ) (s : List ℕ) → IsZigzag (f ++ (p ∷ x ∷ [])) → IsZigzag s → over (f ++ (p ∷ x ∷ [])) s ≡ f ++ add p (add x s)
+pub met_points : (f : List ℕ) (p x : ℕ) (s : List ℕ) → IsZigzag (f ++ (p ∷ x ∷ [])) → IsZigzag s →
+    over (f ++ (p ∷ x ∷ [])) s ≡ f ++ add p (add x s)
 met_points f p x s g z =
     let m = met p x s (ends_apart f p x g) z in
     let w = subst IsZigzag m.is (zig_over (p ∷ x ∷ []) s z) in
@@ -101,7 +106,8 @@ met_points f p x s g z =
     over_append f (p ∷ x ∷ []) s ∙ ap (over f) m.is ∙ o ∙ ap (λ l. f ++ l) (sym m.is)
 
 -- the ends of a list before which a level was put
-put_three : (x y z w : ℕ) (l : List ℕ) → y ≢ z → ends_of (add x (y ∷ z ∷ w ∷ l)) ≡ put_before x (suc (suc (suc (length l)))) (ends_of (y ∷ z ∷ w ∷ l))
+put_three : (x y z w : ℕ) (l : List ℕ) → y ≢ z →
+    ends_of (add x (y ∷ z ∷ w ∷ l)) ≡ put_before x (suc (suc (suc (length l)))) (ends_of (y ∷ z ∷ w ∷ l))
 put_three x y z w l n = grind (arith, nat_tests)
 
 put_two : (x y z : ℕ) → y ≢ z → ends_of (add x (y ∷ z ∷ [])) ≡ put_before x 2 (ends_of (y ∷ z ∷ []))
@@ -145,7 +151,8 @@ second_behind a (b ∷ f) p n t r = refl
 pub length_of : (x : ℕ) (s : List ℕ) → IsZigzag s → length (add x s) ≡ (put_before x (length s) (ends_of s)).points
 length_of x s g = ap (λ e. e.points) (put_is x s g)
 
-pub put_twice : (p x : ℕ) (s : List ℕ) → IsZigzag s → ends_of (add p (add x s)) ≡ put_before p (put_before x (length s) (ends_of s)).points (put_before x (length s) (ends_of s))
+pub put_twice : (p x : ℕ) (s : List ℕ) → IsZigzag s →
+    ends_of (add p (add x s)) ≡ put_before p (put_before x (length s) (ends_of s)).points (put_before x (length s) (ends_of s))
 put_twice p x s g =
     let z = zig_added (is_added x s g) g in
     put_is p (add x s) z ∙ ap (λ e. put_before p e.points e) (put_is x s g)
@@ -157,18 +164,25 @@ ends_equal : (a b c d e a' b' c' d' e' : ℕ) → a ≡ a' → b ≡ b' → c �
 ends_equal a b c d e a' b' c' d' e' p q r s t = cc
 
 -- more than two points: the first two stay
-long_ends : (a : ℕ) (f : List ℕ) (p x n : ℕ) (t : List ℕ) (h : EndPoints) → ends_of (p ∷ n ∷ t) ≡ h → ends_of (a ∷ (f ++ (p ∷ n ∷ t))) ≡ ends (suc (length f) + h.points) a (get_or (a ∷ (f ++ (p ∷ x ∷ []))) 1 0) h.before h.last
+long_ends : (a : ℕ) (f : List ℕ) (p x n : ℕ) (t : List ℕ) (h : EndPoints) → ends_of (p ∷ n ∷ t) ≡ h →
+    ends_of (a ∷ (f ++ (p ∷ n ∷ t))) ≡ ends (suc (length f) + h.points) a (get_or (a ∷ (f ++ (p ∷ x ∷ []))) 1 0) h.before h.last
 long_ends a f p x n t h k =
     let l = length-append f (p ∷ n ∷ t) in
     let q : suc (length (f ++ (p ∷ n ∷ t))) ≡ suc (length f) + h.points = omega (arith, ap (λ e. e.points) k, l) in
-    ends_equal _ _ _ _ _ _ _ _ _ _ q refl (second_behind a f p n t (x ∷ [])) (before_behind (a ∷ f) p n t ∙ ap (λ e. e.before) k) (last_behind (a ∷ f) p n t ∙ ap (λ e. e.last) k)
+    ends_equal _ _ _ _ _ _ _ _ _ _ q refl (second_behind a f p n t (x ∷ [])) (before_behind (a ∷ f) p n t ∙ ap (λ e. e.before) k)
+    (last_behind (a ∷ f) p n t ∙ ap (λ e. e.last) k)
 
-long_meet : (a : ℕ) (f : List ℕ) (p x : ℕ) (e : EndPoints) (b c : ℕ) → p ≡ b → x ≡ c → (n : ℕ) → suc n ≡ suc (suc (suc (length f))) → ends (suc (length f) + (put_before p (put_before x e.points e).points (put_before x e.points e)).points) a (get_or (a ∷ (f ++ (p ∷ x ∷ []))) 1 0) (put_before p (put_before x e.points e).points (put_before x e.points e)).before (put_before p (put_before x e.points e).points (put_before x e.points e)).last ≡ meet (suc n) (ends (suc n) a (get_or (a ∷ (f ++ (p ∷ x ∷ []))) 1 0) b c) e
+long_meet : (a : ℕ) (f : List ℕ) (p x : ℕ) (e : EndPoints) (b c : ℕ) → p ≡ b → x ≡ c → (n : ℕ) → suc n ≡ suc (suc (suc (length f))) →
+    ends (suc (length f) + (put_before p (put_before x e.points e).points (put_before x e.points e)).points) a
+    (get_or (a ∷ (f ++ (p ∷ x ∷ []))) 1 0) (put_before p (put_before x e.points e).points (put_before x e.points e)).before
+    (put_before p (put_before x e.points e).points (put_before x e.points e)).last ≡ meet (suc n)
+    (ends (suc n) a (get_or (a ∷ (f ++ (p ∷ x ∷ []))) 1 0) b c) e
 long_meet a f p x e b c q r n o =
     let k : n ≡ suc (suc (length f)) = omega arith in
     rw (sym q, sym r, k)
 
-long : (a : ℕ) (f : List ℕ) (p x : ℕ) (s : List ℕ) → IsZigzag (a ∷ (f ++ (p ∷ x ∷ []))) → IsZigzag s → ends_of (over (a ∷ (f ++ (p ∷ x ∷ []))) s) ≡ meet (length (a ∷ (f ++ (p ∷ x ∷ [])))) (ends_of (a ∷ (f ++ (p ∷ x ∷ [])))) (ends_of s)
+long : (a : ℕ) (f : List ℕ) (p x : ℕ) (s : List ℕ) → IsZigzag (a ∷ (f ++ (p ∷ x ∷ []))) → IsZigzag s →
+    ends_of (over (a ∷ (f ++ (p ∷ x ∷ []))) s) ≡ meet (length (a ∷ (f ++ (p ∷ x ∷ [])))) (ends_of (a ∷ (f ++ (p ∷ x ∷ [])))) (ends_of s)
 long a f p x s g z =
     let m = met p x s (ends_apart (a ∷ f) p x g) z in
     let e = met_points (a ∷ f) p x s g z ∙ ap (λ l. a ∷ (f ++ l)) m.is in

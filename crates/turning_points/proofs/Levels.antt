@@ -18,7 +18,8 @@ All-added P {x} (between {y = y} {z = z} {l = l} b) p a = All-cons P x (z ∷ l)
 
 pub All-points : (P : ℕ → Type 0) (h : List ℕ) → All P h → All P (points h)
 All-points P [] a = a
-All-points P (x ∷ h) a = subst (All P) (sym (points_cons x h)) (All-added P (is_added x (points h) (zig_points h)) (All-head P x h a) (All-points P h (All-tail P x h a)))
+All-points P (x ∷ h) a = subst (All P) (sym (points_cons x h)) (All-added P (is_added x (points h) (zig_points h)) (All-head P x h a)
+    (All-points P h (All-tail P x h a)))
 
 pub points_own : (h p : List ℕ) → p ≡ points h → points p ≡ p
 points_own h p e = own (subst IsZigzag (sym e) (zig_points h))
@@ -32,4 +33,5 @@ length-added (between b) = omega arith
 
 pub length-points : (h : List ℕ) → length (points h) ≤ length h
 length-points [] = omega arith
-length-points (x ∷ h) = subst (λ l. length l ≤ length (x ∷ h)) (sym (points_cons x h)) (omega (arith, length-added (is_added x (points h) (zig_points h)), length-points h))
+length-points (x ∷ h) = subst (λ l. length l ≤ length (x ∷ h)) (sym (points_cons x h))
+    (omega (arith, length-added (is_added x (points h) (zig_points h)), length-points h))

@@ -32,11 +32,14 @@ length-changes : (x : ℕ) (l : List ℕ) → length (changes x l) ≤ length l
 length-changes x [] = omega arith
 length-changes x (y ∷ l) = by (x == y) (length-changes x l) (length-changes y l)
   where
-    by : (b : Bool) → length (changes x l) ≤ length l → length (changes y l) ≤ length l → length (if b then changes x l else y ∷ changes y l) ≤ length (y ∷ l)
+    by : (b : Bool) → length (changes x l) ≤ length l → length (changes y l) ≤ length l →
+        length (if b then changes x l else y ∷ changes y l) ≤ length (y ∷ l)
     by true p q = omega arith
     by false p q = omega arith
 
-changes-changes_by : (x y : ℕ) (l : List ℕ) (b : Bool) → (x == y) ≡ b → changes x (changes x l) ≡ changes x l → changes y (changes y l) ≡ changes y l → changes x (if b then changes x l else y ∷ changes y l) ≡ (if b then changes x l else y ∷ changes y l)
+changes-changes_by : (x y : ℕ) (l : List ℕ) (b : Bool) → (x == y) ≡ b → changes x (changes x l) ≡ changes x l →
+    changes y (changes y l) ≡ changes y l → changes x (if b then changes x l else y ∷ changes y l) ≡
+    (if b then changes x l else y ∷ changes y l)
 changes-changes_by x y l true e p q = p
 changes-changes_by x y l false e p q = ap (λ b. if b then changes x (changes y l) else y ∷ changes y (changes y l)) e ∙ ap (λ k. y ∷ k) q
 
@@ -60,7 +63,8 @@ differs x y l e = differs_by x y l _ refl e
 points-changes : (front : List ℕ) (x : ℕ) (l : List ℕ) → points (front ++ (x ∷ changes x l)) ≡ points (front ++ (x ∷ l))
 points-changes front x l =
     let same : points (x ∷ changes x l) ≡ points (x ∷ l) = ap (λ k. x ∷ turns x k) (changes-changes x l) in
-    let inside = λ (k : List ℕ). ap (λ m. points (front ++ m)) (sym (append-nil (x ∷ k))) ∙ sym (points_inside front (x ∷ k) []) ∙ ap (λ m. points (front ++ m)) (append-nil (points (x ∷ k))) in
+    let inside = λ (k : List ℕ). ap (λ m. points (front ++ m)) (sym (append-nil (x ∷ k))) ∙ sym (points_inside front (x ∷ k) [])
+    ∙ ap (λ m. points (front ++ m)) (append-nil (points (x ∷ k))) in
     inside (changes x l) ∙ ap (λ m. points (front ++ m)) same ∙ sym (inside l)
 
 -- The last two points p and x of a history, and a level q that stands before x on the side of p. An only point stands for all three.
@@ -114,20 +118,28 @@ side_between p q x v s n e = grind (arith, nat_tests)
 record Given (h given : List ℕ) (p q x : ℕ) (l : List ℕ) : Type 0 where
   turned : HasGiven (h ++ l) (given ++ turns_in q x l) (recent_of (last_of p (turns_in q x l)) (last_of x l))
 
-given_step : (h given : List ℕ) (p q x v : ℕ) (l : List ℕ) (t : Bool) → is_turn q x v ≡ t → Side p q x → x ≢ v → HasGiven h given (recent_of p x)
+given_step : (h given : List ℕ) (p q x v : ℕ) (l : List ℕ) (t : Bool) → is_turn q x v ≡ t → Side p q x → x ≢ v →
+    HasGiven h given (recent_of p x)
     → ((g : List ℕ) (r : ℕ) → Side r x v → HasGiven (h ++ v ∷ []) g (recent_of r v) → Given (h ++ v ∷ []) g r x v l)
-    → HasGiven (h ++ (v ∷ l)) (given ++ (if t then x ∷ turns_in x v l else turns_in x v l)) (recent_of (last_of p (if t then x ∷ turns_in x v l else turns_in x v l)) (last_of v l))
+    → HasGiven (h ++ (v ∷ l)) (given ++ (if t then x ∷ turns_in x v l else turns_in x v l))
+    (recent_of (last_of p (if t then x ∷ turns_in x v l else turns_in x v l)) (last_of v l))
 given_step h given p q x v l true e s n k next =
     let m = next (given ++ x ∷ []) x (side_at_turn x v n) (one_level h given p q x v true e s n k) in
-    subst (λ g. HasGiven (h ++ (v ∷ l)) g (recent_of (last_of x (turns_in x v l)) (last_of v l))) (append_assoc given (x ∷ []) (turns_in x v l))
-    (subst (λ f. HasGiven f ((given ++ x ∷ []) ++ turns_in x v l) (recent_of (last_of x (turns_in x v l)) (last_of v l))) (append_assoc h (v ∷ []) l) m.turned)
+    subst (λ g. HasGiven (h ++ (v ∷ l)) g (recent_of (last_of x (turns_in x v l)) (last_of v l)))
+    (append_assoc given (x ∷ []) (turns_in x v l))
+    (subst (λ f. HasGiven f ((given ++ x ∷ []) ++ turns_in x v l) (recent_of (last_of x (turns_in x v l)) (last_of v l)))
+    (append_assoc h (v ∷ []) l) m.turned)
 given_step h given p q x v l false e s n k next =
     let m = next (given ++ []) p (side_between p q x v s n e) (one_level h given p q x v false e s n k) in
     subst (λ g. HasGiven (h ++ (v ∷ l)) (g ++ turns_in x v l) (recent_of (last_of p (turns_in x v l)) (last_of v l))) (append-nil given)
-    (subst (λ f. HasGiven f ((given ++ []) ++ turns_in x v l) (recent_of (last_of p (turns_in x v l)) (last_of v l))) (append_assoc h (v ∷ []) l) m.turned)
+    (subst (λ f. HasGiven f ((given ++ []) ++ turns_in x v l) (recent_of (last_of p (turns_in x v l)) (last_of v l)))
+    (append_assoc h (v ∷ []) l) m.turned)
 
 given_of : (l h given : List ℕ) (p q x : ℕ) → Side p q x → changes x l ≡ l → HasGiven h given (recent_of p x) → Given h given p q x l
-given_of [] h given p q x s e k = record { turned = subst (λ g. HasGiven (h ++ []) g (recent_of p x)) (sym (append-nil given)) (subst (λ f. HasGiven f given (recent_of p x)) (sym (append-nil h)) k) }
+given_of [] h given p q x s e k = record {
+  turned = subst (λ g. HasGiven (h ++ []) g (recent_of p x)) (sym (append-nil given))
+      (subst (λ f. HasGiven f given (recent_of p x)) (sym (append-nil h)) k);
+}
 given_of (v ∷ l) h given p q x s e k =
     let d = differs x v l e in
     record { turned = given_step h given p q x v l _ refl s d.other k (λ g r side m. given_of l (h ++ v ∷ []) g r x v side d.rest m) }
@@ -139,7 +151,8 @@ same_points h front x l e =
     over (changes x l) ∙ points-changes front x l ∙ sym (over l)
 
 -- the front before the last point
-front_of : (h : List ℕ) (p x : ℕ) → ((p ≡ x) ⊎ (p ≢ x)) → recent_of p x ≡ recent (points h) → (front : List ℕ) × (points h ≡ front ++ (x ∷ []))
+front_of : (h : List ℕ) (p x : ℕ) → ((p ≡ x) ⊎ (p ≢ x)) → recent_of p x ≡ recent (points h) →
+    (front : List ℕ) × (points h ≡ front ++ (x ∷ []))
 front_of h p x (inl e) k = ([], one_kept (points h) x (sym (recent_of-same p x e) ∙ k))
 front_of h p x (inr n) k =
     let f = two_kept (points h) p x (sym (recent_of-other p x n) ∙ k) in
@@ -167,7 +180,8 @@ pub piece_one : {h given : List ℕ} {x : ℕ} → HasGiven h given (One x) → 
 piece_one {h} {given} {x} t = subst (HasGiven h given) (sym (recent_of-same x x refl)) t
 
 -- the first level of a list stays, and the others were put behind it
-first_stays : (x : ℕ) (l ys : List ℕ) (r k : ℕ) → k ≡ length l → length ys ≡ k → r ≤ k → take (1 + r) (put_mid 1 k (x ∷ l) ys) ≡ x ∷ take r ys
+first_stays : (x : ℕ) (l ys : List ℕ) (r k : ℕ) → k ≡ length l → length ys ≡ k → r ≤ k →
+    take (1 + r) (put_mid 1 k (x ∷ l) ys) ≡ x ∷ take r ys
 first_stays x l ys r k e f h =
     let all : take (1 + k) (put_mid 1 k (x ∷ l) ys) ≡ x ∷ ys = take-put_mid 1 k (x ∷ l) ys (1 + k) (omega arith) (omega arith) in
     let one : 1 + r ≡ suc r = omega arith in
@@ -180,7 +194,8 @@ pub first_piece : (s ys : List ℕ) (r k : ℕ) (kept : Recent) → 0 < length s
 first_piece [] ys r k kept some e f w next h given t = absurd (omega arith)
 first_piece (x ∷ l) ys r k kept some e f w next h given t =
     let whole : mid_of 1 k (x ∷ l) ≡ l = take_all k l (omega arith) in
-    let m = subst (λ b. HasGiven ((h ++ x ∷ []) ++ b) ((given ++ x ∷ []) ++ take r ys) kept) whole (next (h ++ x ∷ []) (given ++ x ∷ []) (piece_one (first_level h given x t))) in
+    let m = subst (λ b. HasGiven ((h ++ x ∷ []) ++ b) ((given ++ x ∷ []) ++ take r ys) kept) whole
+    (next (h ++ x ∷ []) (given ++ x ∷ []) (piece_one (first_level h given x t))) in
     subst (λ g. HasGiven (h ++ (x ∷ l)) (given ++ g) kept) (sym (first_stays x l ys r k (omega arith) f w))
     (subst (λ g. HasGiven (h ++ (x ∷ l)) g kept) (append_assoc given (x ∷ []) (take r ys))
     (subst (λ f. HasGiven f ((given ++ x ∷ []) ++ take r ys) kept) (append_assoc h (x ∷ []) l) m))

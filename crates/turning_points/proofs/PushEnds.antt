@@ -57,12 +57,17 @@ twice_same : (x p l : ℕ) → p ≢ l → l ≡ x → put p (put l (one x)) ≡
 twice_same x p l n e = ap (put p) (put_one_same x l e) ∙ put_one_other x p (λ q. n (q ∙ sym e))
 
 twice_turn : (x p l : ℕ) → l ≢ x → IsTurn p l x → put p (put l (one x)) ≡ record { points = 3; first = p; second = l; before = l; last = x }
-twice_turn x p l n t = ap (put p) (put_one_other x l n) ∙ put_turn p (record { points = 2; first = l; second = x; before = l; last = x }) (omega arith) t
+twice_turn x p l n t =
+    ap (put p) (put_one_other x l n) ∙ put_turn p (record { points = 2; first = l; second = x; before = l; last = x }) (omega arith) t
 
-twice_passed : (x p l : ℕ) → l ≢ x → IsBetween p l x → put p (put l (one x)) ≡ record { points = 2; first = p; second = x; before = p; last = x }
-twice_passed x p l n t = ap (put p) (put_one_other x l n) ∙ put_two p (record { points = 2; first = l; second = x; before = l; last = x }) refl t
+twice_passed : (x p l : ℕ) → l ≢ x → IsBetween p l x →
+    put p (put l (one x)) ≡ record { points = 2; first = p; second = x; before = p; last = x }
+twice_passed x p l n t =
+    ap (put p) (put_one_other x l n) ∙ put_two p (record { points = 2; first = l; second = x; before = l; last = x }) refl t
 
-five_same : (a b c d e a' b' c' d' e' : ℕ) → a ≡ a' → b ≡ b' → c ≡ c' → d ≡ d' → e ≡ e' → ◌≡◌ {A = EndPoints} (record { points = a; first = b; second = c; before = d; last = e }) (record { points = a'; first = b'; second = c'; before = d'; last = e' })
+five_same : (a b c d e a' b' c' d' e' : ℕ) → a ≡ a' → b ≡ b' → c ≡ c' → d ≡ d' → e ≡ e' →
+    ◌≡◌ {A = EndPoints} (record { points = a; first = b; second = c; before = d; last = e })
+    (record { points = a'; first = b'; second = c'; before = d'; last = e' })
 five_same a b c d e a' b' c' d' e' p q r s t = cc
 
 end_none : (x : ℕ) (e : EndPoints) → e.points ≡ 0 → ends_push x e ≡ one x
@@ -71,16 +76,20 @@ end_none x e h = grind (arith, nat_tests)
 end_same : (x : ℕ) (e : EndPoints) → 1 ≤ e.points → e.last ≡ x → ends_push x e ≡ e
 end_same x e h q = grind (arith, nat_tests)
 
-end_one : (x : ℕ) (e : EndPoints) → e.points ≡ 1 → e.last ≢ x → ends_push x e ≡ record { points = 2; first = e.first; second = x; before = e.last; last = x }
+end_one : (x : ℕ) (e : EndPoints) → e.points ≡ 1 → e.last ≢ x →
+    ends_push x e ≡ record { points = 2; first = e.first; second = x; before = e.last; last = x }
 end_one x e h q = grind (arith, nat_tests)
 
-end_turn : (x : ℕ) (e : EndPoints) → 2 ≤ e.points → IsTurn e.before e.last x → ends_push x e ≡ record { points = e.points + 1; first = e.first; second = e.second; before = e.last; last = x }
+end_turn : (x : ℕ) (e : EndPoints) → 2 ≤ e.points → IsTurn e.before e.last x →
+    ends_push x e ≡ record { points = e.points + 1; first = e.first; second = e.second; before = e.last; last = x }
 end_turn x e h q = grind (arith, nat_tests)
 
-end_two : (x : ℕ) (e : EndPoints) → e.points ≡ 2 → IsBetween e.before e.last x → ends_push x e ≡ record { points = 2; first = e.first; second = x; before = e.before; last = x }
+end_two : (x : ℕ) (e : EndPoints) → e.points ≡ 2 → IsBetween e.before e.last x →
+    ends_push x e ≡ record { points = 2; first = e.first; second = x; before = e.before; last = x }
 end_two x e h q = grind (arith, nat_tests)
 
-end_passed : (x : ℕ) (e : EndPoints) → 3 ≤ e.points → IsBetween e.before e.last x → ends_push x e ≡ record { points = e.points; first = e.first; second = e.second; before = e.before; last = x }
+end_passed : (x : ℕ) (e : EndPoints) → 3 ≤ e.points → IsBetween e.before e.last x →
+    ends_push x e ≡ record { points = e.points; first = e.first; second = e.second; before = e.before; last = x }
 end_passed x e h q = grind (arith, nat_tests)
 
 differs_turn : (p l x : ℕ) → IsTurn p l x → l ≢ x
@@ -91,27 +100,35 @@ differs_passed p l x t = grind arith
 
 module _ (K x : ℕ) (e : EndPoints) (i : IsEnds K e) where
   long_same : 3 ≤ e.points → e.last ≡ x → ends_push x e ≡ meets e (one x)
-  long_same h q = end_same x e (omega arith) q ∙ five_same _ _ _ _ _ _ _ _ _ _ (omega arith) refl refl refl q ∙ sym (meets_long e (one x) h ∙ ap (long e) (twice_same x e.before e.last (i.differ (omega arith)).1 q))
+  long_same h q = end_same x e (omega arith) q ∙ five_same _ _ _ _ _ _ _ _ _ _ (omega arith) refl refl refl q
+      ∙ sym (meets_long e (one x) h ∙ ap (long e) (twice_same x e.before e.last (i.differ (omega arith)).1 q))
 
   two_same : e.points ≡ 2 → e.last ≡ x → ends_push x e ≡ meets e (one x)
-  two_same h q = let t = i.two h in end_same x e (omega arith) q ∙ five_same _ _ _ _ _ _ _ _ _ _ h (sym t.0) (sym t.1 ∙ q) refl q ∙ sym (meets_two e (one x) h ∙ twice_same x e.before e.last (i.differ (omega arith)).1 q)
+  two_same h q = let t = i.two h in end_same x e (omega arith) q ∙ five_same _ _ _ _ _ _ _ _ _ _ h (sym t.0) (sym t.1 ∙ q) refl q
+      ∙ sym (meets_two e (one x) h ∙ twice_same x e.before e.last (i.differ (omega arith)).1 q)
 
   long_turn : 3 ≤ e.points → IsTurn e.before e.last x → ends_push x e ≡ meets e (one x)
-  long_turn h t = end_turn x e (omega arith) t ∙ five_same _ _ _ _ _ _ _ _ _ _ (omega arith) refl refl refl refl ∙ sym (meets_long e (one x) h ∙ ap (long e) (twice_turn x e.before e.last (differs_turn e.before e.last x t) t))
+  long_turn h t = end_turn x e (omega arith) t ∙ five_same _ _ _ _ _ _ _ _ _ _ (omega arith) refl refl refl refl
+      ∙ sym (meets_long e (one x) h ∙ ap (long e) (twice_turn x e.before e.last (differs_turn e.before e.last x t) t))
 
   two_turn : e.points ≡ 2 → IsTurn e.before e.last x → ends_push x e ≡ meets e (one x)
-  two_turn h t = let w = i.two h in end_turn x e (omega arith) t ∙ five_same _ _ _ _ _ _ _ _ _ _ (omega arith) (sym w.0) (sym w.1) refl refl ∙ sym (meets_two e (one x) h ∙ twice_turn x e.before e.last (differs_turn e.before e.last x t) t)
+  two_turn h t = let w = i.two h in end_turn x e (omega arith) t ∙ five_same _ _ _ _ _ _ _ _ _ _ (omega arith) (sym w.0) (sym w.1) refl refl
+      ∙ sym (meets_two e (one x) h ∙ twice_turn x e.before e.last (differs_turn e.before e.last x t) t)
 
   long_passed : 3 ≤ e.points → IsBetween e.before e.last x → ends_push x e ≡ meets e (one x)
-  long_passed h t = end_passed x e h t ∙ five_same _ _ _ _ _ _ _ _ _ _ (omega arith) refl refl refl refl ∙ sym (meets_long e (one x) h ∙ ap (long e) (twice_passed x e.before e.last (differs_passed e.before e.last x t) t))
+  long_passed h t = end_passed x e h t ∙ five_same _ _ _ _ _ _ _ _ _ _ (omega arith) refl refl refl refl
+      ∙ sym (meets_long e (one x) h ∙ ap (long e) (twice_passed x e.before e.last (differs_passed e.before e.last x t) t))
 
   two_passed : e.points ≡ 2 → IsBetween e.before e.last x → ends_push x e ≡ meets e (one x)
-  two_passed h t = let w = i.two h in end_two x e h t ∙ five_same _ _ _ _ _ _ _ _ _ _ refl (sym w.0) refl refl refl ∙ sym (meets_two e (one x) h ∙ twice_passed x e.before e.last (differs_passed e.before e.last x t) t)
+  two_passed h t = let w = i.two h in end_two x e h t ∙ five_same _ _ _ _ _ _ _ _ _ _ refl (sym w.0) refl refl refl
+      ∙ sym (meets_two e (one x) h ∙ twice_passed x e.before e.last (differs_passed e.before e.last x t) t)
 
   push_by : PushCase x e → ends_push x e ≡ meets e (one x)
   push_by (on_none h) = end_none x e h ∙ sym (meets_zero e (one x) h)
-  push_by (on_one_same h q) = let w = i.one h in end_same x e (omega arith) q ∙ five_same _ _ _ _ _ _ _ _ _ _ h (sym w.2 ∙ q) w.0 w.1 q ∙ sym (meets_one e (one x) h ∙ put_one_same x e.last q)
-  push_by (on_one_other h q) = let w = i.one h in end_one x e h q ∙ five_same _ _ _ _ _ _ _ _ _ _ refl (sym w.2) refl refl refl ∙ sym (meets_one e (one x) h ∙ put_one_other x e.last q)
+  push_by (on_one_same h q) = let w = i.one h in end_same x e (omega arith) q ∙ five_same _ _ _ _ _ _ _ _ _ _ h (sym w.2 ∙ q) w.0 w.1 q
+      ∙ sym (meets_one e (one x) h ∙ put_one_same x e.last q)
+  push_by (on_one_other h q) = let w = i.one h in end_one x e h q ∙ five_same _ _ _ _ _ _ _ _ _ _ refl (sym w.2) refl refl refl
+      ∙ sym (meets_one e (one x) h ∙ put_one_other x e.last q)
   push_by (on_same h q) = by_two (cases_lt e.points 3)
     where
       by_two : ((e.points < 3) ⊎ (3 ≤ e.points)) → ends_push x e ≡ meets e (one x)
@@ -132,11 +149,15 @@ module _ (K x : ℕ) (e : EndPoints) (i : IsEnds K e) where
   pub push_is_meets : ends_push x e ≡ meets e (one x)
   push_is_meets = push_by (push_case K x e i)
 
-meets_none_by : (K : ℕ) (e f : EndPoints) → IsEnds K e → IsEnds K f → Parted e.points → (meets e f).points ≡ 0 → (e.points ≡ 0) × (f.points ≡ 0)
+meets_none_by : (K : ℕ) (e f : EndPoints) → IsEnds K e → IsEnds K f → Parted e.points → (meets e f).points ≡ 0 →
+    (e.points ≡ 0) × (f.points ≡ 0)
 meets_none_by K e f i j (left_zero h) q = let o = ap (λ g. g.points) (meets_zero e f h) in (h, omega arith)
-meets_none_by K e f i j (left_one h) q = let o = ap (λ g. g.points) (meets_one e f h) in let p = put_first e.last f (case_of K e.last f j) in absurd (omega arith)
-meets_none_by K e f i j (left_two h) q = let o = ap (λ g. g.points) (meets_two e f h) in let p = (twice K e f i j (omega arith)).many in absurd (omega arith)
-meets_none_by K e f i j (left_long h) q = let o = ap (λ g. g.points) (meets_long e f h) in let p = (twice K e f i j (omega arith)).many in absurd (omega arith)
+meets_none_by K e f i j (left_one h) q =
+    let o = ap (λ g. g.points) (meets_one e f h) in let p = put_first e.last f (case_of K e.last f j) in absurd (omega arith)
+meets_none_by K e f i j (left_two h) q =
+    let o = ap (λ g. g.points) (meets_two e f h) in let p = (twice K e f i j (omega arith)).many in absurd (omega arith)
+meets_none_by K e f i j (left_long h) q =
+    let o = ap (λ g. g.points) (meets_long e f h) in let p = (twice K e f i j (omega arith)).many in absurd (omega arith)
 
 pub meets_none : (K : ℕ) (e f : EndPoints) → IsEnds K e → IsEnds K f → (meets e f).points ≡ 0 → (e.points ≡ 0) × (f.points ≡ 0)
 meets_none K e f i j q = meets_none_by K e f i j (left_of e.points) q
@@ -154,11 +175,52 @@ before_below k (x ∷ y ∷ z ∷ l) o h = before_below k (y ∷ z ∷ l) o (λ 
 
 -- the ends of a list of points are ends
 pub list_ends : (k : ℕ) (l : List ℕ) → 1 ≤ k → IsZigzag l → ((i : ℕ) → i < length l → get_or l i 0 < k) → IsEnds k (ends_of l)
-list_ends k [] o z h = record { none = λ q. (refl, refl, refl, refl); one = λ q. absurd (omega arith); differ = λ q. absurd (omega arith); two = λ q. absurd (omega arith); three = λ q. absurd (omega arith); below = (omega arith, omega arith, omega arith, omega arith) }
-list_ends k (x ∷ []) o z h = let p = h 0 (omega arith) in record { none = λ q. absurd (omega arith); one = λ q. (refl, refl, refl); differ = λ q. absurd (omega arith); two = λ q. absurd (omega arith); three = λ q. absurd (omega arith); below = (p, omega arith, omega arith, p) }
-list_ends k (x ∷ y ∷ []) o (two n) h = record { none = λ q. absurd (omega arith); one = λ q. absurd (omega arith); differ = λ q. (n, n); two = λ q. (refl, refl); three = λ q. absurd (omega arith); below = (h 0 (omega arith), h 1 (omega arith), h 0 (omega arith), h 1 (omega arith)) }
-list_ends k (x ∷ y ∷ w ∷ []) o (inner t (two n)) h = record { none = λ q. absurd (omega arith); one = λ q. absurd (omega arith); differ = λ q. (ends_differ (inner t (two n)), n); two = λ q. absurd (omega arith); three = λ q. (refl, t); below = (h 0 (omega arith), h 1 (omega arith), h 1 (omega arith), h 2 (omega arith)) }
-list_ends k (x ∷ y ∷ w ∷ v ∷ l) o z h = record { none = λ q. absurd (omega arith); one = λ q. absurd (omega arith); differ = λ q. (ends_differ z, last_differs w (v ∷ l) y (zig_tail z)); two = λ q. absurd (omega arith); three = λ q. absurd (omega arith); below = (h 0 (omega arith), h 1 (omega arith), before_below k (x ∷ y ∷ w ∷ v ∷ l) o h, last_below k (x ∷ y ∷ w ∷ v ∷ l) o h) }
+list_ends k [] o z h = record {
+  none = λ q. (refl, refl, refl, refl);
+  one = λ q. absurd (omega arith);
+  differ = λ q. absurd (omega arith);
+  two = λ q. absurd (omega arith);
+  three = λ q. absurd (omega arith);
+  below = (omega arith, omega arith, omega arith, omega arith);
+}
+list_ends k (x ∷ []) o z h = let p = h 0 (omega arith) in record {
+  none = λ q. absurd (omega arith);
+  one = λ q. (refl, refl, refl);
+  differ = λ q. absurd (omega arith);
+  two = λ q. absurd (omega arith);
+  three = λ q. absurd (omega arith);
+  below = (p, omega arith, omega arith, p);
+}
+list_ends k (x ∷ y ∷ []) o (two n) h = record {
+  none = λ q. absurd (omega arith);
+  one = λ q. absurd (omega arith);
+  differ = λ q. (n, n);
+  two = λ q. (refl, refl);
+  three = λ q. absurd (omega arith);
+  below = (
+    h 0 (omega arith),
+    h 1 (omega arith),
+    h 0 (omega arith),
+    h 1 (omega arith),
+  );
+}
+list_ends k (x ∷ y ∷ w ∷ []) o (inner t (two n)) h = record {
+  none = λ q. absurd (omega arith);
+  one = λ q. absurd (omega arith);
+  differ = λ q. (ends_differ (inner t (two n)), n);
+  two = λ q. absurd (omega arith);
+  three = λ q. (refl, t);
+  below = (h 0 (omega arith), h 1 (omega arith), h 1 (omega arith), h 2 (omega arith));
+}
+list_ends k (x ∷ y ∷ w ∷ v ∷ l) o z h = record {
+  none = λ q. absurd (omega arith);
+  one = λ q. absurd (omega arith);
+  differ = λ q.
+      (ends_differ z, last_differs w (v ∷ l) y (zig_tail z));
+  two = λ q. absurd (omega arith);
+  three = λ q. absurd (omega arith);
+  below = (h 0 (omega arith), h 1 (omega arith), before_below k (x ∷ y ∷ w ∷ v ∷ l) o h, last_below k (x ∷ y ∷ w ∷ v ∷ l) o h);
+}
   where
     last_differs : (a : ℕ) (l : List ℕ) (y : ℕ) → IsZigzag (y ∷ a ∷ l) → last_but_one (y ∷ a ∷ l) ≢ last_point (y ∷ a ∷ l)
     last_differs a [] y z = ends_differ z

@@ -20,7 +20,8 @@ case_turn : (x : ℕ) (e : EndPoints) → 2 ≤ e.points → (IsTurn x e.first e
 case_turn x e h (inl t) = at_turn h t
 case_turn x e h (inr b) = at_passed h b
 
-case_long : (x : ℕ) (e : EndPoints) → x ≢ e.first → (2 ≤ e.points → e.first ≢ e.second) → 1 ≤ e.points → ((e.points < 2) ⊎ (2 ≤ e.points)) → PutCase x e
+case_long : (x : ℕ) (e : EndPoints) → x ≢ e.first → (2 ≤ e.points → e.first ≢ e.second) → 1 ≤ e.points →
+    ((e.points < 2) ⊎ (2 ≤ e.points)) → PutCase x e
 case_long x e n d h (inl s) = let p : e.points ≡ 1 = omega arith in at_second p n
 case_long x e n d h (inr s) = case_turn x e s (turn_or x e.first e.second n (d s))
 
@@ -41,19 +42,24 @@ put_none x e h = grind (arith, nat_tests)
 pub put_equal : (x : ℕ) (e : EndPoints) → 1 ≤ e.points → x ≡ e.first → put x e ≡ e
 put_equal x e h q = grind (arith, nat_tests)
 
-pub put_second : (x : ℕ) (e : EndPoints) → e.points ≡ 1 → x ≢ e.first → put x e ≡ record { points = 2; first = x; second = e.first; before = x; last = e.first }
+pub put_second : (x : ℕ) (e : EndPoints) → e.points ≡ 1 → x ≢ e.first →
+    put x e ≡ record { points = 2; first = x; second = e.first; before = x; last = e.first }
 put_second x e h q = grind (arith, nat_tests)
 
-pub put_turn : (x : ℕ) (e : EndPoints) → 2 ≤ e.points → IsTurn x e.first e.second → put x e ≡ record { points = e.points + 1; first = x; second = e.first; before = e.before; last = e.last }
+pub put_turn : (x : ℕ) (e : EndPoints) → 2 ≤ e.points → IsTurn x e.first e.second →
+    put x e ≡ record { points = e.points + 1; first = x; second = e.first; before = e.before; last = e.last }
 put_turn x e h q = grind (arith, nat_tests)
 
-pub put_two : (x : ℕ) (e : EndPoints) → e.points ≡ 2 → IsBetween x e.first e.second → put x e ≡ record { points = e.points; first = x; second = e.second; before = x; last = e.last }
+pub put_two : (x : ℕ) (e : EndPoints) → e.points ≡ 2 → IsBetween x e.first e.second →
+    put x e ≡ record { points = e.points; first = x; second = e.second; before = x; last = e.last }
 put_two x e h q = grind (arith, nat_tests)
 
-pub put_passed : (x : ℕ) (e : EndPoints) → 3 ≤ e.points → IsBetween x e.first e.second → put x e ≡ record { points = e.points; first = x; second = e.second; before = e.before; last = e.last }
+pub put_passed : (x : ℕ) (e : EndPoints) → 3 ≤ e.points → IsBetween x e.first e.second →
+    put x e ≡ record { points = e.points; first = x; second = e.second; before = e.before; last = e.last }
 put_passed x e h q = grind (arith, nat_tests)
 
-same_none : (x n a b c d : ℕ) → n ≡ 0 → put x (record { points = n; first = a; second = b; before = c; last = d }) ≡ put_before x n (record { points = n; first = a; second = b; before = c; last = d })
+same_none : (x n a b c d : ℕ) → n ≡ 0 → put x (record { points = n; first = a; second = b; before = c; last = d }) ≡ put_before x n
+    (record { points = n; first = a; second = b; before = c; last = d })
 same_none x n a b c d h = rw h refl
 
 pub put_same : (x : ℕ) (e : EndPoints) → put x e ≡ put_before x e.points e
@@ -68,16 +74,24 @@ put_same x e = put_as x e e.points refl
     put_as x e (suc (suc n)) h = step x n e h
 
 -- the level that was put is the first, and what follows it lies on the side of the one that was first
-pub put_first : (x : ℕ) (e : EndPoints) → PutCase x e → ((put x e).first ≡ x) × (1 ≤ (put x e).points) × (e.points ≤ (put x e).points) × ((put x e).points ≤ e.points + 1)
-put_first x e (at_none p) = let q = ap (λ g. g.points) (put_none x e p) in (ap (λ g. g.first) (put_none x e p), omega arith, omega arith, omega arith)
-put_first x e (at_equal p q) = let r = ap (λ g. g.points) (put_equal x e p q) in (ap (λ g. g.first) (put_equal x e p q) ∙ sym q, omega arith, omega arith, omega arith)
-put_first x e (at_second p q) = let r = ap (λ g. g.points) (put_second x e p q) in (ap (λ g. g.first) (put_second x e p q), omega arith, omega arith, omega arith)
-put_first x e (at_turn p q) = let r = ap (λ g. g.points) (put_turn x e p q) in (ap (λ g. g.first) (put_turn x e p q), omega arith, omega arith, omega arith)
+pub put_first : (x : ℕ) (e : EndPoints) → PutCase x e →
+    ((put x e).first ≡ x) × (1 ≤ (put x e).points) × (e.points ≤ (put x e).points) × ((put x e).points ≤ e.points + 1)
+put_first x e (at_none p) =
+    let q = ap (λ g. g.points) (put_none x e p) in (ap (λ g. g.first) (put_none x e p), omega arith, omega arith, omega arith)
+put_first x e (at_equal p q) =
+    let r = ap (λ g. g.points) (put_equal x e p q) in (ap (λ g. g.first) (put_equal x e p q) ∙ sym q, omega arith, omega arith, omega arith)
+put_first x e (at_second p q) =
+    let r = ap (λ g. g.points) (put_second x e p q) in (ap (λ g. g.first) (put_second x e p q), omega arith, omega arith, omega arith)
+put_first x e (at_turn p q) =
+    let r = ap (λ g. g.points) (put_turn x e p q) in (ap (λ g. g.first) (put_turn x e p q), omega arith, omega arith, omega arith)
 put_first x e (at_passed p q) = passed_first x e p q (cases_lt e.points 3)
   where
-    passed_first : (x : ℕ) (e : EndPoints) → 2 ≤ e.points → IsBetween x e.first e.second → ((e.points < 3) ⊎ (3 ≤ e.points)) → ((put x e).first ≡ x) × (1 ≤ (put x e).points) × (e.points ≤ (put x e).points) × ((put x e).points ≤ e.points + 1)
-    passed_first x e p q (inl s) = let t : e.points ≡ 2 = omega arith in let r = ap (λ g. g.points) (put_two x e t q) in (ap (λ g. g.first) (put_two x e t q), omega arith, omega arith, omega arith)
-    passed_first x e p q (inr s) = let r = ap (λ g. g.points) (put_passed x e s q) in (ap (λ g. g.first) (put_passed x e s q), omega arith, omega arith, omega arith)
+    passed_first : (x : ℕ) (e : EndPoints) → 2 ≤ e.points → IsBetween x e.first e.second → ((e.points < 3) ⊎ (3 ≤ e.points)) →
+        ((put x e).first ≡ x) × (1 ≤ (put x e).points) × (e.points ≤ (put x e).points) × ((put x e).points ≤ e.points + 1)
+    passed_first x e p q (inl s) = let t : e.points ≡ 2 = omega arith in let r = ap (λ g. g.points) (put_two x e t q) in
+        (ap (λ g. g.first) (put_two x e t q), omega arith, omega arith, omega arith)
+    passed_first x e p q (inr s) = let r = ap (λ g. g.points) (put_passed x e s q) in
+        (ap (λ g. g.first) (put_passed x e s q), omega arith, omega arith, omega arith)
 
 same_self : (p x n : ℕ) → p ≢ x → n ≡ x → Same p x n
 same_self p x n d e = grind arith
@@ -88,10 +102,15 @@ same_between p x s n d e = grind arith
 pub put_side : (p : ℕ) (g : EndPoints) → 1 ≤ g.points → p ≢ g.first → PutCase p g → Same p g.first (put p g).second × (2 ≤ (put p g).points)
 put_side p g h d (at_none q) = absurd (omega arith)
 put_side p g h d (at_equal q r) = absurd (d r)
-put_side p g h d (at_second q r) = let e = put_second p g q r in let o = ap (λ k. k.points) e in (same_self p g.first (put p g).second d (ap (λ k. k.second) e), omega arith)
-put_side p g h d (at_turn q r) = let e = put_turn p g q r in let o = ap (λ k. k.points) e in (same_self p g.first (put p g).second d (ap (λ k. k.second) e), omega arith)
+put_side p g h d (at_second q r) = let e = put_second p g q r in let o = ap (λ k. k.points) e in
+    (same_self p g.first (put p g).second d (ap (λ k. k.second) e), omega arith)
+put_side p g h d (at_turn q r) =
+    let e = put_turn p g q r in let o = ap (λ k. k.points) e in (same_self p g.first (put p g).second d (ap (λ k. k.second) e), omega arith)
 put_side p g h d (at_passed q r) = side_passed p g q r (cases_lt g.points 3)
   where
-    side_passed : (p : ℕ) (g : EndPoints) → 2 ≤ g.points → IsBetween p g.first g.second → ((g.points < 3) ⊎ (3 ≤ g.points)) → Same p g.first (put p g).second × (2 ≤ (put p g).points)
-    side_passed p g q r (inl s) = let e = put_two p g (omega arith) r in let o = ap (λ k. k.points) e in (same_between p g.first g.second (put p g).second r (ap (λ k. k.second) e), omega arith)
-    side_passed p g q r (inr s) = let e = put_passed p g s r in let o = ap (λ k. k.points) e in (same_between p g.first g.second (put p g).second r (ap (λ k. k.second) e), omega arith)
+    side_passed : (p : ℕ) (g : EndPoints) → 2 ≤ g.points → IsBetween p g.first g.second → ((g.points < 3) ⊎ (3 ≤ g.points)) →
+        Same p g.first (put p g).second × (2 ≤ (put p g).points)
+    side_passed p g q r (inl s) = let e = put_two p g (omega arith) r in let o = ap (λ k. k.points) e in
+        (same_between p g.first g.second (put p g).second r (ap (λ k. k.second) e), omega arith)
+    side_passed p g q r (inr s) = let e = put_passed p g s r in let o = ap (λ k. k.points) e in
+        (same_between p g.first g.second (put p g).second r (ap (λ k. k.second) e), omega arith)

@@ -6,7 +6,8 @@ use Rattle.turning_points.specs.EndPoints.{EndPoints, IsTurn, IsEnds, put}
 use Rattle.turning_points.proofs.Put.{PutCase, at_none, at_equal, at_second, at_turn, at_passed, put_case, put_none, put_equal, put_second, put_turn, put_two, put_passed}
 
 -- the ends stay ends
-ends_two : (K x : ℕ) (e : EndPoints) → IsEnds K e → x < K → e.points ≡ 2 → IsBetween x e.first e.second → IsEnds K (record { points = e.points; first = x; second = e.second; before = x; last = e.last })
+ends_two : (K x : ℕ) (e : EndPoints) → IsEnds K e → x < K → e.points ≡ 2 → IsBetween x e.first e.second →
+    IsEnds K (record { points = e.points; first = x; second = e.second; before = x; last = e.last })
 ends_two K x e i h p b = record {
   none = λ q. absurd (omega arith);
   one = λ q. absurd (omega arith);
@@ -22,7 +23,8 @@ turn_far x a b c p q = grind arith
 between_differs : (x a b : ℕ) → IsBetween x a b → x ≢ b
 between_differs x a b p = grind arith
 
-ends_passed : (K x : ℕ) (e : EndPoints) → IsEnds K e → x < K → 3 ≤ e.points → IsBetween x e.first e.second → IsEnds K (record { points = e.points; first = x; second = e.second; before = e.before; last = e.last })
+ends_passed : (K x : ℕ) (e : EndPoints) → IsEnds K e → x < K → 3 ≤ e.points → IsBetween x e.first e.second →
+    IsEnds K (record { points = e.points; first = x; second = e.second; before = e.before; last = e.last })
 ends_passed K x e i h p b = record {
   none = λ q. absurd (omega arith);
   one = λ q. absurd (omega arith);
@@ -38,7 +40,8 @@ three_turn x a b c d t p q = (p, subst (IsTurn x a) (sym q) t)
 turn_differs : (x a b : ℕ) → IsTurn x a b → x ≢ a
 turn_differs x a b p = grind arith
 
-ends_turn : (K x : ℕ) (e : EndPoints) → IsEnds K e → x < K → 2 ≤ e.points → IsTurn x e.first e.second → IsEnds K (record { points = e.points + 1; first = x; second = e.first; before = e.before; last = e.last })
+ends_turn : (K x : ℕ) (e : EndPoints) → IsEnds K e → x < K → 2 ≤ e.points → IsTurn x e.first e.second →
+    IsEnds K (record { points = e.points + 1; first = x; second = e.first; before = e.before; last = e.last })
 ends_turn K x e i h p t = record {
   none = λ q. absurd (omega arith);
   one = λ q. absurd (omega arith);
@@ -68,7 +71,8 @@ ends_second K x a h g n = record {
   below = (h, g, h, g);
 }
 
-ends_between : (K x : ℕ) (e : EndPoints) → IsEnds K e → x < K → 2 ≤ e.points → IsBetween x e.first e.second → ((e.points < 3) ⊎ (3 ≤ e.points)) → IsEnds K (put x e)
+ends_between : (K x : ℕ) (e : EndPoints) → IsEnds K e → x < K → 2 ≤ e.points → IsBetween x e.first e.second →
+    ((e.points < 3) ⊎ (3 ≤ e.points)) → IsEnds K (put x e)
 ends_between K x e i h p b (inl s) = let q : e.points ≡ 2 = omega arith in subst (IsEnds K) (sym (put_two x e q b)) (ends_two K x e i h q b)
 ends_between K x e i h p b (inr s) = subst (IsEnds K) (sym (put_passed x e s b)) (ends_passed K x e i h s b)
 

@@ -28,7 +28,13 @@ last_but_one (x ∷ y ∷ []) = x
 last_but_one (x ∷ y ∷ z ∷ l) = last_but_one (y ∷ z ∷ l)
 
 abbrev pub ends_of : List ℕ → EndPoints
-ends_of l = record { points = length l; first = slice_index l 0; second = slice_index l 1; before = last_but_one l; last = last_point l }
+ends_of l = record {
+  points = length l;
+  first = slice_index l 0;
+  second = slice_index l 1;
+  before = last_but_one l;
+  last = last_point l;
+}
 
 abbrev pub no_ends : EndPoints
 no_ends = record { points = 0; first = 0; second = 0; before = 0; last = 0 }
@@ -51,10 +57,24 @@ put x e =
     if e.points == 0 then record { points = 1; first = x; second = 0; before = 0; last = x }
     else if x == e.first then e
     else if e.points == 1 then record { points = 2; first = x; second = e.first; before = x; last = e.first }
-    else if is_turn x e.first e.second then record { points = e.points + 1; first = x; second = e.first; before = e.before; last = e.last }
-    else record { points = e.points; first = x; second = e.second; before = if e.points == 2 then x else e.before; last = e.last }
+    else if is_turn x e.first e.second then record {
+      points = e.points + 1;
+      first = x;
+      second = e.first;
+      before = e.before;
+      last = e.last;
+    }
+    else record {
+      points = e.points;
+      first = x;
+      second = e.second;
+      before = if e.points == 2 then x
+          else e.before;
+      last = e.last;
+    }
 
--- the ends of two histories, one after the other: the last point of the first and then its last but one are put before those of the second
+-- the ends of two histories, one after the other: the last point of the first and then its last but one are put before
+-- those of the second
 abbrev pub meets : EndPoints → EndPoints → EndPoints
 meets e f =
     let g = put e.last f in
@@ -62,7 +82,13 @@ meets e f =
     if e.points == 0 then f
     else if e.points == 1 then g
     else if e.points == 2 then h
-    else record { points = (e.points - 2) + h.points; first = e.first; second = e.second; before = h.before; last = h.last }
+    else record {
+      points = (e.points - 2) + h.points;
+      first = e.first;
+      second = e.second;
+      before = h.before;
+      last = h.last;
+    }
 
 -- the ends after the level x was put behind
 abbrev pub ends_push : ℕ → EndPoints → EndPoints
@@ -70,5 +96,18 @@ ends_push x e =
     if e.points == 0 then record { points = 1; first = x; second = 0; before = 0; last = x }
     else if x == e.last then e
     else if e.points == 1 then record { points = 2; first = e.first; second = x; before = e.last; last = x }
-    else if is_turn e.before e.last x then record { points = e.points + 1; first = e.first; second = e.second; before = e.last; last = x }
-    else record { points = e.points; first = e.first; second = if e.points == 2 then x else e.second; before = e.before; last = x }
+    else if is_turn e.before e.last x then record {
+      points = e.points + 1;
+      first = e.first;
+      second = e.second;
+      before = e.last;
+      last = x;
+    }
+    else record {
+      points = e.points;
+      first = e.first;
+      second = if e.points == 2 then x
+          else e.second;
+      before = e.before;
+      last = x;
+    }

@@ -30,7 +30,8 @@ loop-k-preserved c =
       are_shares = more_shares detail grid now.den k n c.loop-k.invariant.shares (omega arith)
           (subst (λ d. AreShares detail grid d k c.loop-k.invariant.shares) (sym c.add_times.ensures.den) c.loop-k.invariant.are_shares)
           (subst (λ d. IsShare detail grid k n d) one c.share-numerator.ensures.share);
-      so_far = sum_more k n (parts c.loop-k.total) _ c.args.half_counts.now c.loop-k.invariant.shares (omega arith) (omega arith) c.loop-k.invariant.are_shares.one_each c.loop-k.invariant.so_far c.add_times.ensures.sum;
+      so_far = sum_more k n (parts c.loop-k.total) _ c.args.half_counts.now c.loop-k.invariant.shares (omega arith) (omega arith)
+          c.loop-k.invariant.are_shares.one_each c.loop-k.invariant.so_far c.add_times.ensures.sum;
       few = wholes_within c.loop-k.total.whole c.loop-k.total.num now.whole now.num n c.loop-k.total.den now.den k c.args.half_counts.now
           (omega arith) c.add_times.ensures.den c.add_times.ensures.sum c.loop-k.total.below_one (omega arith) c.loop-k.invariant.few;
     }

@@ -11,12 +11,14 @@ use Rattle.audit_command.proofs.audited.audit_held.Goals as goal
 pub first_other-requires-clause-classes : goal.first_other-requires-clause-classes
 first_other-requires-clause-classes g c =
     subst (AreOver c.args.conf.now) (sym c.deref.ensures.value) (are_over c.args.conf.now g.T.Site.tells
-    (recorded c.args.conf.now (g.T.Site.files c.args.site.now)).samples (slice_index (ends_of c.args.store.now.held)) c.recount_all.new.recounts.items
+    (recorded c.args.conf.now (g.T.Site.files c.args.site.now)).samples (slice_index (ends_of c.args.store.now.held))
+    c.recount_all.new.recounts.items
     c.recount_all.ensures.counted)
 
 -- a recording is refused
 pub returns-in-Err-clause-prints : goal.returns-in-Err-clause-prints
-returns-in-Err-clause-prints g c = λ writes. recounting_unprinted c.in-Err.status c.in-Err.ensures.kind c.args.conf.now (g.O.Sink.written c.args.out.now)
+returns-in-Err-clause-prints g c =
+    λ writes. recounting_unprinted c.in-Err.status c.in-Err.ensures.kind c.args.conf.now (g.O.Sink.written c.args.out.now)
 
 pub returns-in-Err-clause-answer : goal.returns-in-Err-clause-answer
 returns-in-Err-clause-answer g c = λ shows.
@@ -31,7 +33,8 @@ returns-in-Err-clause-write g c = λ is. absurd (recounting_no_write c.in-Err.st
 
 -- something differs
 pub returns-in-Some-clause-prints : goal.returns-in-Some-clause-prints
-returns-in-Some-clause-prints g c = λ writes. other_unprinted c.in-Some.status c.in-Some.ensures.kind c.args.conf.now (g.O.Sink.written c.args.out.now)
+returns-in-Some-clause-prints g c =
+    λ writes. other_unprinted c.in-Some.status c.in-Some.ensures.kind c.args.conf.now (g.O.Sink.written c.args.out.now)
 
 pub returns-in-Some-clause-kind : goal.returns-in-Some-clause-kind
 returns-in-Some-clause-kind g c = other_kind c.in-Some.status c.in-Some.ensures.kind
@@ -49,8 +52,10 @@ returns-in-Some-clause-answer g c = λ shows.
     let ends = ends_of c.args.store.now.held in
     let w = first_samples (recorded c.args.conf.now (g.T.Site.files c.args.site.now)).samples (ends_of c.args.store.now.held) in
     let are = subst (λ (l : List Recount). AreOf c.args.conf.now l
-    (first_samples (recorded c.args.conf.now (g.T.Site.files c.args.site.now)).samples (ends_of c.args.store.now.held))) (sym c.deref.ensures.value)
-    (are_of conf g.T.Site.tells (recorded conf files).samples (slice_index ends) c.recount_all.new.recounts.items c.recount_all.ensures.counted shows) in
+    (first_samples (recorded c.args.conf.now (g.T.Site.files c.args.site.now)).samples (ends_of c.args.store.now.held)))
+    (sym c.deref.ensures.value)
+    (are_of conf g.T.Site.tells (recorded conf files).samples (slice_index ends) c.recount_all.new.recounts.items
+    c.recount_all.ensures.counted shows) in
     other_answers conf c.args.store.now.head.heads (IsItem c.args.store.now.held) ends files c.in-Some.status c.in-Some.ensures.kind
     (c.in_default-recount_all.ensures.answer shows, c.in-Some.ensures.finds w are)
 
@@ -62,8 +67,10 @@ returns-in-Ok-print_same-clause-answer g c = λ shows.
     let ends = ends_of c.args.store.now.held in
     let w = first_samples (recorded c.args.conf.now (g.T.Site.files c.args.site.now)).samples (ends_of c.args.store.now.held) in
     let are = subst (λ (l : List Recount). AreOf c.args.conf.now l
-    (first_samples (recorded c.args.conf.now (g.T.Site.files c.args.site.now)).samples (ends_of c.args.store.now.held))) (sym c.deref.ensures.value)
-    (are_of conf g.T.Site.tells (recorded conf files).samples (slice_index ends) c.recount_all.new.recounts.items c.recount_all.ensures.counted shows) in
+    (first_samples (recorded c.args.conf.now (g.T.Site.files c.args.site.now)).samples (ends_of c.args.store.now.held)))
+    (sym c.deref.ensures.value)
+    (are_of conf g.T.Site.tells (recorded conf files).samples (slice_index ends) c.recount_all.new.recounts.items
+    c.recount_all.ensures.counted shows) in
     (c.in_default-recount_all.ensures.answer shows, c.in_default-first_other.ensures.finds w are)
 
 pub returns-clause-answer : goal.returns-clause-answer
@@ -73,6 +80,8 @@ returns-clause-answer g c = λ shows.
     let ends = ends_of c.args.store.now.held in
     let w = first_samples (recorded c.args.conf.now (g.T.Site.files c.args.site.now)).samples (ends_of c.args.store.now.held) in
     let are = subst (λ (l : List Recount). AreOf c.args.conf.now l
-    (first_samples (recorded c.args.conf.now (g.T.Site.files c.args.site.now)).samples (ends_of c.args.store.now.held))) (sym c.deref.ensures.value)
-    (are_of conf g.T.Site.tells (recorded conf files).samples (slice_index ends) c.recount_all.new.recounts.items c.recount_all.ensures.counted shows) in
+    (first_samples (recorded c.args.conf.now (g.T.Site.files c.args.site.now)).samples (ends_of c.args.store.now.held)))
+    (sym c.deref.ensures.value)
+    (are_of conf g.T.Site.tells (recorded conf files).samples (slice_index ends) c.recount_all.new.recounts.items
+    c.recount_all.ensures.counted shows) in
     (c.in_default-recount_all.ensures.answer shows, c.in_default-first_other.ensures.finds w are)

@@ -23,10 +23,12 @@ returns-in-Ok-clause-answer g c = λ tells shows.
     let same = (c.resume.ensures.quiet tells).seen_same in
     let many : length s.held ≡ length conf.gauges = c.in-Ok.ensures.gauges ∙ c.requires.conf.gains in
     answers_over conf (k.seen c.args.station.now) (g.T.Site.files c.args.site.now)
-    (read_as s there.0 (k.seen c.resume.new.station) (k.leaves c.resume.new.station) there.1 conf.setup (k.seen c.args.station.now) c.in-Ok.ensures.setup same)
+    (read_as s there.0 (k.seen c.resume.new.station) (k.leaves c.resume.new.station) there.1 conf.setup (k.seen c.args.station.now)
+    c.in-Ok.ensures.setup same)
     c.audit_held.result c.audit_held.ensures.kind
     (answers_by conf s.head.heads (IsItem s.held) (HasKept there.0) (ends_of s.held) (g.T.Site.files c.args.site.now)
-    (λ h v lt is. items_keep s there.0 (k.seen c.resume.new.station) (k.leaves c.resume.new.station) there.1 h v (omega (arith, lt, many)) is)
+    (λ h v lt is. items_keep s there.0 (k.seen c.resume.new.station) (k.leaves c.resume.new.station) there.1 h v
+    (omega (arith, lt, many)) is)
     c.audit_held.result c.audit_held.ensures.kind (c.audit_held.ensures.answer shows))
 
 pub returns-in-Ok-clause-stands : goal.returns-in-Ok-clause-stands
@@ -37,10 +39,14 @@ returns-in-Ok-clause-stands g c = λ tells shows w n h.
     let files = g.T.Site.files c.args.site.now in
     let found = c.in-Ok.ensures.reads tells h.head h.bodies n h.of_setup h.reads in
     let many : length s.held ≡ length conf.gauges = c.in-Ok.ensures.gauges ∙ c.requires.conf.gains in
-    subst (λ (e : List ℕ). Finds conf (IsStanding conf (first_samples w e)) (first_samples (recorded conf files).samples e) c.audit_held.result) found.1
-    (finds_by conf (IsItem s.held) (IsStanding conf (first_samples w (ends_of s.held))) (first_samples (recorded conf files).samples (ends_of s.held))
-    (λ j v lt is. items_stand s h.bodies (k.seen c.resume.new.station) (k.leaves c.resume.new.station) found.2 conf w c.in-Ok.ensures.setup h.stand j v (omega (arith, lt, many)) is)
-    c.audit_held.result (finds_of conf s.head.heads (IsItem s.held) (ends_of s.held) files c.audit_held.result c.audit_held.ensures.kind (c.audit_held.ensures.answer shows)))
+    subst (λ (e : List ℕ). Finds conf (IsStanding conf (first_samples w e)) (first_samples (recorded conf files).samples e)
+    c.audit_held.result) found.1
+    (finds_by conf (IsItem s.held) (IsStanding conf (first_samples w (ends_of s.held)))
+    (first_samples (recorded conf files).samples (ends_of s.held))
+    (λ j v lt is. items_stand s h.bodies (k.seen c.resume.new.station) (k.leaves c.resume.new.station) found.2 conf w c.in-Ok.ensures.setup
+    h.stand j v (omega (arith, lt, many)) is)
+    c.audit_held.result (finds_of conf s.head.heads (IsItem s.held) (ends_of s.held) files c.audit_held.result c.audit_held.ensures.kind
+    (c.audit_held.ensures.answer shows)))
 
 pub returns-in-Ok-clause-complete : goal.returns-in-Ok-clause-complete
 returns-in-Ok-clause-complete g c = λ tells shows is site station out.
@@ -55,7 +61,8 @@ returns-in-Ok-clause-complete g c = λ tells shows is site station out.
     (subst (λ (x : HeadValue). HeldAnswers conf x.heads (HasKept r.bodies) r.ends files c.audit_held.result) found.0
     (subst (λ (e : List ℕ). HeldAnswers conf s.head.heads (HasKept r.bodies) e files c.audit_held.result) found.1
     (answers_by conf s.head.heads (IsItem s.held) (HasKept r.bodies) (ends_of s.held) files
-    (λ j v lt item. items_keep s r.bodies (k.seen c.resume.new.station) (k.leaves c.resume.new.station) found.2 j v (omega (arith, lt, many)) item)
+    (λ j v lt item. items_keep s r.bodies (k.seen c.resume.new.station) (k.leaves c.resume.new.station) found.2 j v
+    (omega (arith, lt, many)) item)
     c.audit_held.result c.audit_held.ensures.kind (c.audit_held.ensures.answer shows))))
     is.1 is.2 (λ e. site (c.audit_held.ensures.read e)) (λ e. out (c.audit_held.ensures.write e))
 
@@ -67,7 +74,8 @@ pub returns-in-Err-clause-complete : goal.returns-in-Err-clause-complete
 returns-in-Err-clause-complete g c = λ tells shows is site station out.
     let r = is.0 in
     subst (λ (s : Status). (s ≡ Done) ⊎ (s ≡ OutOfMemory)) (sym c.status_of.ensures)
-    (refused_complete StoreValue c.in-Err.fault _ _ _ (c.in-Err.ensures.unharmed tells r.head r.bodies r.ends r.of_setup r.reads) c.in-Err.ensures.disk
+    (refused_complete StoreValue c.in-Err.fault _ _ _ (c.in-Err.ensures.unharmed tells r.head r.bodies r.ends r.of_setup r.reads)
+    c.in-Err.ensures.disk
     (omega arith) station)
 
 pub returns-in-Ok-clause-named : goal.returns-in-Ok-clause-named

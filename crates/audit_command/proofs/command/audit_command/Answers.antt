@@ -22,17 +22,20 @@ use Rattle.audit_command.proofs.command.audit_command.Goals as goal
 -- a configuration that is refused
 pub returns-clause-answer : goal.returns-clause-answer
 returns-clause-answer g c = λ tells shows reads.
-    unread_answer (config_of_bytes (g.C.Source.left c.args.config.now)) (g.K.Station.seen c.args.station.now) (g.T.Site.files c.args.site.now)
+    unread_answer (config_of_bytes (g.C.Source.left c.args.config.now)) (g.K.Station.seen c.args.station.now)
+    (g.T.Site.files c.args.site.now)
     c.in-Err.status c.in-Err.ensures.refusal (c.in-Err.ensures.meaning reads)
 
 pub returns-clause-stands : goal.returns-clause-stands
 returns-clause-stands g c = λ tells shows reads conf is w n h.
-    finds_unread conf (IsStanding conf (first_samples w n)) (first_samples (recorded conf (g.T.Site.files c.args.site.now)).samples n) c.in-Err.status
+    finds_unread conf (IsStanding conf (first_samples w n)) (first_samples (recorded conf (g.T.Site.files c.args.site.now)).samples n)
+    c.in-Err.status
     c.in-Err.ensures.refusal
 
 pub returns-clause-complete : goal.returns-clause-complete
 returns-clause-complete g c = λ tells shows reads sound config site station out.
-    unread_complete (config_of_bytes (g.C.Source.left c.args.config.now)) (g.K.Station.seen c.args.station.now) (g.T.Site.files c.args.site.now)
+    unread_complete (config_of_bytes (g.C.Source.left c.args.config.now)) (g.K.Station.seen c.args.station.now)
+    (g.T.Site.files c.args.site.now)
     c.in-Err.status c.in-Err.ensures.refusal (c.in-Err.ensures.meaning reads) sound (λ is. config (c.in-Err.ensures.cause (ap Err is)))
 
 pub returns-clause-prints : goal.returns-clause-prints
@@ -42,8 +45,10 @@ returns-clause-prints g c = λ writes reads conf is.
 pub returns-clause-quiet : goal.returns-clause-quiet
 returns-clause-quiet g c = λ tells reads.
     let k = g.K.Station in
-    subst (λ (l : List ℕ). TellsAtMost l (k.clock c.args.station.now) (k.moments c.args.station.now) (k.clock c.tell_fault-in-Err.new.station)
-    (k.moments c.tell_fault-in-Err.new.station) (k.told c.args.station.now) (k.told c.tell_fault-in-Err.new.station) (k.seen c.args.station.now)
+    subst (λ (l : List ℕ). TellsAtMost l (k.clock c.args.station.now) (k.moments c.args.station.now)
+    (k.clock c.tell_fault-in-Err.new.station)
+    (k.moments c.tell_fault-in-Err.new.station) (k.told c.args.station.now) (k.told c.tell_fault-in-Err.new.station)
+    (k.seen c.args.station.now)
     (k.seen c.tell_fault-in-Err.new.station) (k.leaves c.args.station.now) (k.leaves c.tell_fault-in-Err.new.station))
     (line_same c.in-Err.status c.in-Err.ensures.refusal _ _) (c.tell_fault-in-Err.ensures.tells tells)
 
@@ -77,14 +82,16 @@ returns-in-Ok-read_config-clause-answer g c = λ tells shows reads.
 
 pub returns-in-Ok-read_config-clause-stands : goal.returns-in-Ok-read_config-clause-stands
 returns-in-Ok-read_config-clause-stands g c = λ tells shows reads conf is w n h.
-    let same = ok_same (config_of_bytes (g.C.Source.left c.args.config.now)) c.in-Ok-read_config.conf conf (c.in-Ok-read_config.ensures.meaning reads) is in
+    let same = ok_same (config_of_bytes (g.C.Source.left c.args.config.now)) c.in-Ok-read_config.conf conf
+    (c.in-Ok-read_config.ensures.meaning reads) is in
     subst (λ (x : Config). Holds x.setup w n (g.K.Station.seen c.args.station.now) → Finds x (IsStanding x (first_samples w n))
     (first_samples (recorded x (g.T.Site.files c.args.site.now)).samples n) c.audit_by-status.result) same
     (λ held. c.audit_by-status.ensures.stands tells shows w n held) h
 
 pub returns-in-Ok-read_config-clause-complete : goal.returns-in-Ok-read_config-clause-complete
 returns-in-Ok-read_config-clause-complete g c = λ tells shows reads sound config site station out.
-    let same = ok_same (config_of_bytes (g.C.Source.left c.args.config.now)) sound.0 c.in-Ok-read_config.conf sound.1 (c.in-Ok-read_config.ensures.meaning reads) in
+    let same = ok_same (config_of_bytes (g.C.Source.left c.args.config.now)) sound.0 c.in-Ok-read_config.conf sound.1
+    (c.in-Ok-read_config.ensures.meaning reads) in
     c.audit_by-status.ensures.complete tells shows
     (subst (λ (x : Config). IsAudited x (g.K.Station.seen c.args.station.now) (g.T.Site.files c.args.site.now)) same sound.2) site
     (λ rose. station (rose_more _ _ _ rose c.tell_fault.ensures.later)) out
@@ -92,14 +99,16 @@ returns-in-Ok-read_config-clause-complete g c = λ tells shows reads sound confi
 pub returns-in-Ok-read_config-clause-prints : goal.returns-in-Ok-read_config-clause-prints
 returns-in-Ok-read_config-clause-prints g c = λ writes reads conf is.
     let written = g.O.Sink.written in
-    let same = ok_same (config_of_bytes (g.C.Source.left c.args.config.now)) c.in-Ok-read_config.conf conf (c.in-Ok-read_config.ensures.meaning reads) is in
+    let same = ok_same (config_of_bytes (g.C.Source.left c.args.config.now)) c.in-Ok-read_config.conf conf
+    (c.in-Ok-read_config.ensures.meaning reads) is in
     subst (λ (x : Config). Prints c.audit_by-status.result x (written c.args.out.now) (written c.audit_by-status.new.out)) same
     (c.audit_by-status.ensures.prints writes)
 
 pub returns-in-Ok-read_config-clause-quiet : goal.returns-in-Ok-read_config-clause-quiet
 returns-in-Ok-read_config-clause-quiet g c = λ tells reads.
     let k = g.K.Station in
-    let name = c.name_in.ensures ∙ ap (λ (r : Result Config ConfigFault). name_by r c.audit_by-status.result) (sym (c.in-Ok-read_config.ensures.meaning reads)) in
+    let name = c.name_in.ensures ∙ ap (λ (r : Result Config ConfigFault). name_by r c.audit_by-status.result)
+    (sym (c.in-Ok-read_config.ensures.meaning reads)) in
     subst (λ (l : List ℕ). TellsAtMost (fault_line c.audit_by-status.result l) (k.clock c.args.station.now) (k.moments c.args.station.now)
     (k.clock c.tell_fault.new.station) (k.moments c.tell_fault.new.station) (k.told c.args.station.now) (k.told c.tell_fault.new.station)
     (k.seen c.args.station.now) (k.seen c.tell_fault.new.station) (k.leaves c.args.station.now) (k.leaves c.tell_fault.new.station)) name
@@ -112,7 +121,8 @@ returns-in-Ok-read_config-clause-silent g c = λ tells done.
 pub returns-in-Ok-read_config-clause-last : goal.returns-in-Ok-read_config-clause-last
 returns-in-Ok-read_config-clause-last g c = λ tells reads not.
     let k = g.K.Station in
-    let name = c.name_in.ensures ∙ ap (λ (r : Result Config ConfigFault). name_by r c.audit_by-status.result) (sym (c.in-Ok-read_config.ensures.meaning reads)) in
+    let name = c.name_in.ensures ∙ ap (λ (r : Result Config ConfigFault). name_by r c.audit_by-status.result)
+    (sym (c.in-Ok-read_config.ensures.meaning reads)) in
     subst (λ (l : List ℕ). Rose (k.faults c.args.station.now) (k.faults c.tell_fault.new.station) ⊎
     (k.told c.tell_fault.new.station ≡ k.told c.args.station.now ++ fault_line c.audit_by-status.result l ∷ [])) name
     (last_after _ _ _ _ _ _ (fault_line c.audit_by-status.result c.name_in.result.now) c.audit_by-status.ensures.later
@@ -123,7 +133,8 @@ returns-in-Ok-read_config-clause-disk g c = λ is. rose_more _ _ _ (c.audit_by-s
 
 pub returns-in-Ok-read_config-clause-nothing : goal.returns-in-Ok-read_config-clause-nothing
 returns-in-Ok-read_config-clause-nothing g c = λ writes not.
-    not_printed c.audit_by-status.result c.in-Ok-read_config.conf (g.O.Sink.written c.args.out.now) (g.O.Sink.written c.audit_by-status.new.out) not
+    not_printed c.audit_by-status.result c.in-Ok-read_config.conf (g.O.Sink.written c.args.out.now)
+    (g.O.Sink.written c.audit_by-status.new.out) not
     (c.audit_by-status.ensures.prints writes)
 
 pub returns-clause-named : goal.returns-clause-named

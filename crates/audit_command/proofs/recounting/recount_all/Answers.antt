@@ -15,7 +15,8 @@ returns-in-Err-clause-answer g c = λ shows.
     let n = slice_index (ends_of c.args.store.now.held) in
     open_refused Recount c.args.conf.now c.args.store.now.head.heads n (g.T.Site.files c.args.site.now) c.loop-gauge.gauge
     (omega (arith, ap length c.as_slice-gauge-end.ensures)) (was.sound shows) c.in-Err.status
-    (subst (λ (f : Files). GaugeAnswers {A = Recount} c.args.conf.now c.args.store.now.head.heads n f c.loop-gauge.gauge (Err c.in-Err.status)) (was.files shows) (c.in-Err.ensures.answer shows))
+    (subst (λ (f : Files). GaugeAnswers {A = Recount} c.args.conf.now c.args.store.now.head.heads n f c.loop-gauge.gauge
+    (Err c.in-Err.status)) (was.files shows) (c.in-Err.ensures.answer shows))
 
 pub loop-gauge-preserved : goal.loop-gauge-preserved
 loop-gauge-preserved g c =
@@ -27,15 +28,20 @@ loop-gauge-preserved g c =
     record {
       many = omega (arith, was.many, c.push_reserved.ensures.len);
       room = c.push_reserved.ensures.capacity ∙ was.room;
-      counted = recounts_more c.args.conf.now t.tells (recorded c.args.conf.now (t.files c.args.site.now)).samples n c.loop-gauge.recounts.items
+      counted = recounts_more c.args.conf.now t.tells (recorded c.args.conf.now (t.files c.args.site.now)).samples n
+          c.loop-gauge.recounts.items
           c.push_reserved.new.self.items c.in-Ok.recount c.loop-gauge.gauge c.push_reserved.ensures.items long was.counted
-          (first_again c.args.conf.now t.tells (t.files c.loop-gauge.site) (t.files c.args.site.now) n c.loop-gauge.gauge c.in-Ok.recount was.files now.counted);
-      sound = λ shows. all_more_opened c.args.conf.now c.args.store.now.head.heads n (t.files c.args.site.now) c.loop-gauge.gauge (was.sound shows)
-          (subst (λ (f : Files). FaultOf c.args.conf.now c.args.store.now.head.heads n f c.loop-gauge.gauge None) (was.files shows) (now.answer shows));
+          (first_again c.args.conf.now t.tells (t.files c.loop-gauge.site) (t.files c.args.site.now) n c.loop-gauge.gauge c.in-Ok.recount
+          was.files now.counted);
+      sound = λ shows. all_more_opened c.args.conf.now c.args.store.now.head.heads n (t.files c.args.site.now) c.loop-gauge.gauge
+          (was.sound shows)
+          (subst (λ (f : Files). FaultOf c.args.conf.now c.args.store.now.head.heads n f c.loop-gauge.gauge None) (was.files shows)
+          (now.answer shows));
       back = c.recount_gauge.ensures.back;
       files = λ shows. c.recount_gauge.ensures.files shows ∙ was.files shows;
       later = omega (arith, was.later, c.recount_gauge.ensures.later);
     }
 
 pub returns-clause-answer : goal.returns-clause-answer
-returns-clause-answer g c = λ shows h lt. c.loop-gauge.invariant.sound shows h (omega (arith, lt, c.loop-gauge-test.false, ap length c.as_slice-gauge-end.ensures))
+returns-clause-answer g c =
+    λ shows h lt. c.loop-gauge.invariant.sound shows h (omega (arith, lt, c.loop-gauge-test.false, ap length c.as_slice-gauge-end.ensures))

@@ -13,7 +13,8 @@ invariant-loop-gauge g l =
     record {
       many : vec_len l.recounts ≡ l.gauge;
       room : vec_capacity l.recounts ≡ vec_capacity l.fn.recounts;
-      counted : AreRecounts l.conf t.tells (recorded l.conf (t.files l.fn.site)).samples (slice_index (ends_of l.store.held)) l.recounts.items;
+      counted : AreRecounts l.conf t.tells (recorded l.conf (t.files l.fn.site)).samples (slice_index (ends_of l.store.held))
+          l.recounts.items;
       sound : t.tells → AllOpened l.conf l.store.head.heads (slice_index (ends_of l.store.held)) (t.files l.fn.site) l.gauge;
       back : t.out l.site ≡ 0;
       files : t.tells → t.files l.site ≡ t.files l.fn.site;

@@ -17,8 +17,10 @@ returns-in-Ok-count_again-clause-answer g c = λ tells.
 
 pub returns-in-Err-count_again-clause-answer : goal.returns-in-Err-count_again-clause-answer
 returns-in-Err-count_again-clause-answer g c = λ tells.
-    not_recounted Recount c.args.kept.now c.args.held (g.S.Source.left c.args.src.now) (g.S.Source.left c.open_recording.new.src) c.args.gauge
-    c.in-Err-count_again.fault c.recounted_status.result c.recounted_status.ensures (c.in-Ok.ensures.answer tells) (c.in-Ok.ensures.ok tells)
+    not_recounted Recount c.args.kept.now c.args.held (g.S.Source.left c.args.src.now)
+    (g.S.Source.left c.open_recording.new.src) c.args.gauge
+    c.in-Err-count_again.fault c.recounted_status.result c.recounted_status.ensures (c.in-Ok.ensures.answer tells)
+    (c.in-Ok.ensures.ok tells)
     (λ there is. c.in-Err-count_again.ensures.fewer tells there (ap Err is))
 
 pub returns-in-Err-clause-answer : goal.returns-in-Err-clause-answer

@@ -17,7 +17,8 @@ close-requires-clause-longest c =
 
 pub returns-in_default : goal.returns-in_default
 returns-in_default c =
-    placed_put c.args.start c.args.block c.args.k c.args.slots.now c.put.new.slots c.close.new.slots c.args.seg.now c.requires.row c.requires.fits (none_before c.args.k _ c.args.slots.now c.in_default.ensures) c.put.ensures c.close.ensures
+    placed_put c.args.start c.args.block c.args.k c.args.slots.now c.put.new.slots c.close.new.slots c.args.seg.now c.requires.row
+    c.requires.fits (none_before c.args.k _ c.args.slots.now c.in_default.ensures) c.put.ensures c.close.ensures
 
 pub returns-then-last-from : goal.returns-then-last-from
 returns-then-last-from c =
@@ -58,7 +59,8 @@ close-requires-then-last-from-2-clause-grid c = λ d m.
     (λ (t : ℕ). t ≡ seg.from) inside (sym to ∙ c.if-last-from-2.true ∙ from) in
     let less : c.in-Some.j < c.args.k =
     extend_less c.args.start c.args.block c.in-Some.j c.args.k slots seg c.requires.row c.requires.fits upto c.in-Some.ensures.1 touch in
-    let loose = extend_loose c.args.start c.args.block c.in-Some.j c.args.k slots c.extend.new.slots seg c.requires.row c.requires.fits less c.in-Some.ensures.1 c.in-Some.ensures.2 touch c.extend.ensures in
+    let loose = extend_loose c.args.start c.args.block c.in-Some.j c.args.k slots c.extend.new.slots seg c.requires.row c.requires.fits less
+    c.in-Some.ensures.1 c.in-Some.ensures.2 touch c.extend.ensures in
     (alike c.args.start c.args.block seg.gauge seg.grid c.in-Some.j (c.args.k + 1) c.in-Some.j
     (c.args.k + 1) _ c.extend.new.slots d loose c.extend.ensures.set (omega (arith, upto, c.requires.fits.place)) m).0
 
@@ -75,7 +77,8 @@ close-requires-then-last-from-2-clause-gauge c = λ d m.
     (λ (t : ℕ). t ≡ seg.from) inside (sym to ∙ c.if-last-from-2.true ∙ from) in
     let less : c.in-Some.j < c.args.k =
     extend_less c.args.start c.args.block c.in-Some.j c.args.k slots seg c.requires.row c.requires.fits upto c.in-Some.ensures.1 touch in
-    let loose = extend_loose c.args.start c.args.block c.in-Some.j c.args.k slots c.extend.new.slots seg c.requires.row c.requires.fits less c.in-Some.ensures.1 c.in-Some.ensures.2 touch c.extend.ensures in
+    let loose = extend_loose c.args.start c.args.block c.in-Some.j c.args.k slots c.extend.new.slots seg c.requires.row c.requires.fits less
+    c.in-Some.ensures.1 c.in-Some.ensures.2 touch c.extend.ensures in
     (alike c.args.start c.args.block seg.gauge seg.grid c.in-Some.j (c.args.k + 1) c.in-Some.j
     (c.args.k + 1) _ c.extend.new.slots d loose c.extend.ensures.set (omega (arith, upto, c.requires.fits.place)) m).1
 
@@ -92,7 +95,8 @@ close-requires-then-last-from-2-clause-longest c = λ d m some.
     (λ (t : ℕ). t ≡ seg.from) inside (sym to ∙ c.if-last-from-2.true ∙ from) in
     let less : c.in-Some.j < c.args.k =
     extend_less c.args.start c.args.block c.in-Some.j c.args.k slots seg c.requires.row c.requires.fits upto c.in-Some.ensures.1 touch in
-    let loose = extend_loose c.args.start c.args.block c.in-Some.j c.args.k slots c.extend.new.slots seg c.requires.row c.requires.fits less c.in-Some.ensures.1 c.in-Some.ensures.2 touch c.extend.ensures in
+    let loose = extend_loose c.args.start c.args.block c.in-Some.j c.args.k slots c.extend.new.slots seg c.requires.row c.requires.fits less
+    c.in-Some.ensures.1 c.in-Some.ensures.2 touch c.extend.ensures in
     window_room c.args.start c.args.block seg.gauge seg.grid c.in-Some.j (c.args.k + 1) c.in-Some.j
     (c.args.k + 1) _ c.extend.new.slots d loose c.extend.ensures.set (omega (arith, upto, c.requires.fits.place)) m
     (extended_at c.in-Some.j slots c.extend.new.slots seg d inside c.requires.fits.some c.in-Some.ensures.1 touch c.extend.ensures) some
@@ -106,10 +110,12 @@ close-requires-else-last-from-2-clause-grid c = λ d m.
     let e = c.index-slots-j.result in
     let to : c.name-last.result.to ≡ (get_or slots c.in-Some.j e).to = ap (λ (n : Name). n.to) c.name-last.ensures.value in
     let from : c.name-from.result.from ≡ seg.from = ap (λ (n : Name). n.from) c.name-from.ensures.value in
-    let before = some_before c.args.start c.args.block seg.gauge seg.grid c.in-Some.j c.args.k seg.from slots c.requires.row c.requires.fits.place upto c.in-Some.ensures.1 c.in-Some.ensures.2
+    let before = some_before c.args.start c.args.block seg.gauge seg.grid c.in-Some.j c.args.k seg.from slots c.requires.row
+    c.requires.fits.place upto c.in-Some.ensures.1 c.in-Some.ensures.2
     (strictly slots c.in-Some.j seg.from e e inside (omega (arith, to, from, c.if-last-from.false))
     (λ same. c.if-last-from-2.false (to ∙ same ∙ sym from))) in
-    let loose = put_loose c.args.start c.args.block c.args.k slots c.put-else-last-from-2.new.slots seg c.requires.row c.requires.fits before c.put-else-last-from-2.ensures in
+    let loose = put_loose c.args.start c.args.block c.args.k slots c.put-else-last-from-2.new.slots seg c.requires.row c.requires.fits
+    before c.put-else-last-from-2.ensures in
     (alike c.args.start c.args.block seg.gauge seg.grid c.args.k (c.args.k + 1) c.args.k
     (c.args.k + 1) _ c.put-else-last-from-2.new.slots d loose c.put-else-last-from-2.ensures.set c.requires.fits.place m).0
 
@@ -122,10 +128,12 @@ close-requires-else-last-from-2-clause-gauge c = λ d m.
     let e = c.index-slots-j.result in
     let to : c.name-last.result.to ≡ (get_or slots c.in-Some.j e).to = ap (λ (n : Name). n.to) c.name-last.ensures.value in
     let from : c.name-from.result.from ≡ seg.from = ap (λ (n : Name). n.from) c.name-from.ensures.value in
-    let before = some_before c.args.start c.args.block seg.gauge seg.grid c.in-Some.j c.args.k seg.from slots c.requires.row c.requires.fits.place upto c.in-Some.ensures.1 c.in-Some.ensures.2
+    let before = some_before c.args.start c.args.block seg.gauge seg.grid c.in-Some.j c.args.k seg.from slots c.requires.row
+    c.requires.fits.place upto c.in-Some.ensures.1 c.in-Some.ensures.2
     (strictly slots c.in-Some.j seg.from e e inside (omega (arith, to, from, c.if-last-from.false))
     (λ same. c.if-last-from-2.false (to ∙ same ∙ sym from))) in
-    let loose = put_loose c.args.start c.args.block c.args.k slots c.put-else-last-from-2.new.slots seg c.requires.row c.requires.fits before c.put-else-last-from-2.ensures in
+    let loose = put_loose c.args.start c.args.block c.args.k slots c.put-else-last-from-2.new.slots seg c.requires.row c.requires.fits
+    before c.put-else-last-from-2.ensures in
     (alike c.args.start c.args.block seg.gauge seg.grid c.args.k (c.args.k + 1) c.args.k
     (c.args.k + 1) _ c.put-else-last-from-2.new.slots d loose c.put-else-last-from-2.ensures.set c.requires.fits.place m).1
 
@@ -138,10 +146,12 @@ close-requires-else-last-from-2-clause-longest c = λ d m some.
     let e = c.index-slots-j.result in
     let to : c.name-last.result.to ≡ (get_or slots c.in-Some.j e).to = ap (λ (n : Name). n.to) c.name-last.ensures.value in
     let from : c.name-from.result.from ≡ seg.from = ap (λ (n : Name). n.from) c.name-from.ensures.value in
-    let before = some_before c.args.start c.args.block seg.gauge seg.grid c.in-Some.j c.args.k seg.from slots c.requires.row c.requires.fits.place upto c.in-Some.ensures.1 c.in-Some.ensures.2
+    let before = some_before c.args.start c.args.block seg.gauge seg.grid c.in-Some.j c.args.k seg.from slots c.requires.row
+    c.requires.fits.place upto c.in-Some.ensures.1 c.in-Some.ensures.2
     (strictly slots c.in-Some.j seg.from e e inside (omega (arith, to, from, c.if-last-from.false))
     (λ same. c.if-last-from-2.false (to ∙ same ∙ sym from))) in
-    let loose = put_loose c.args.start c.args.block c.args.k slots c.put-else-last-from-2.new.slots seg c.requires.row c.requires.fits before c.put-else-last-from-2.ensures in
+    let loose = put_loose c.args.start c.args.block c.args.k slots c.put-else-last-from-2.new.slots seg c.requires.row c.requires.fits
+    before c.put-else-last-from-2.ensures in
     window_room c.args.start c.args.block seg.gauge seg.grid c.args.k (c.args.k + 1) c.args.k
     (c.args.k + 1) _ c.put-else-last-from-2.new.slots d loose c.put-else-last-from-2.ensures.set c.requires.fits.place m
     (slot_at c.args.k slots c.put-else-last-from-2.new.slots seg d
@@ -160,7 +170,8 @@ returns-then-last-from-2 c =
     (λ (t : ℕ). t ≡ seg.from) inside (sym to ∙ c.if-last-from-2.true ∙ from) in
     let less : c.in-Some.j < c.args.k =
     extend_less c.args.start c.args.block c.in-Some.j c.args.k slots seg c.requires.row c.requires.fits upto c.in-Some.ensures.1 touch in
-    placed_extend c.args.start c.args.block c.in-Some.j c.args.k slots c.extend.new.slots c.close-then-last-from-2.new.slots seg c.requires.row c.requires.fits upto c.in-Some.ensures.1 c.in-Some.ensures.2 touch c.extend.ensures c.close-then-last-from-2.ensures
+    placed_extend c.args.start c.args.block c.in-Some.j c.args.k slots c.extend.new.slots c.close-then-last-from-2.new.slots seg
+    c.requires.row c.requires.fits upto c.in-Some.ensures.1 c.in-Some.ensures.2 touch c.extend.ensures c.close-then-last-from-2.ensures
 
 pub returns-else-last-from-2 : goal.returns-else-last-from-2
 returns-else-last-from-2 c =
@@ -171,7 +182,9 @@ returns-else-last-from-2 c =
     let e = c.index-slots-j.result in
     let to : c.name-last.result.to ≡ (get_or slots c.in-Some.j e).to = ap (λ (n : Name). n.to) c.name-last.ensures.value in
     let from : c.name-from.result.from ≡ seg.from = ap (λ (n : Name). n.from) c.name-from.ensures.value in
-    let before = some_before c.args.start c.args.block seg.gauge seg.grid c.in-Some.j c.args.k seg.from slots c.requires.row c.requires.fits.place upto c.in-Some.ensures.1 c.in-Some.ensures.2
+    let before = some_before c.args.start c.args.block seg.gauge seg.grid c.in-Some.j c.args.k seg.from slots c.requires.row
+    c.requires.fits.place upto c.in-Some.ensures.1 c.in-Some.ensures.2
     (strictly slots c.in-Some.j seg.from e e inside (omega (arith, to, from, c.if-last-from.false))
     (λ same. c.if-last-from-2.false (to ∙ same ∙ sym from))) in
-    placed_put c.args.start c.args.block c.args.k slots c.put-else-last-from-2.new.slots c.close-else-last-from-2.new.slots seg c.requires.row c.requires.fits before c.put-else-last-from-2.ensures c.close-else-last-from-2.ensures
+    placed_put c.args.start c.args.block c.args.k slots c.put-else-last-from-2.new.slots c.close-else-last-from-2.new.slots seg
+    c.requires.row c.requires.fits before c.put-else-last-from-2.ensures c.close-else-last-from-2.ensures

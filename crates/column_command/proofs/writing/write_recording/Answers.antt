@@ -12,5 +12,6 @@ returns-in_err-write_head-clause-failed g c = λ tells.
 pub returns-clause-failed : goal.returns-clause-failed
 returns-clause-failed g c = λ tells.
     on_err_by c.write_samples.result _ _ (second_part_front (g.O.Sink.written c.args.out.now) (g.O.Sink.written c.write_head.new.out)
-    (g.O.Sink.written c.write_samples.new.out) (head_bytes c.args.head.now) (sample_bytes c.args.samples.now) (c.in_ok-write_head.ensures.ok tells))
+    (g.O.Sink.written c.write_samples.new.out) (head_bytes c.args.head.now) (sample_bytes c.args.samples.now)
+    (c.in_ok-write_head.ensures.ok tells))
     (c.write_samples.ensures.failed tells)

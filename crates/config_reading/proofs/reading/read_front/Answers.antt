@@ -11,5 +11,7 @@ pub returns-in-Ok-clause-meaning : goal.returns-in-Ok-clause-meaning
 returns-in-Ok-clause-meaning g c = λ tells.
     let n = c.in-Ok.n in
     let left = g.C.Source.left c.args.config.now in
-    let front = subst (λ k. IsFront c.in-Ok.n c.take_front.new.bytes k (g.C.Source.left c.args.config.now)) c.requires.room (c.in-Ok.ensures.front tells) in
-    subst (λ (m : Result Config ConfigFault). MeansAs m c.meaning_of.result) (meaning_front n c.take_front.new.bytes left front) c.meaning_of.ensures.meaning
+    let front = subst (λ k. IsFront c.in-Ok.n c.take_front.new.bytes k (g.C.Source.left c.args.config.now)) c.requires.room
+    (c.in-Ok.ensures.front tells) in
+    subst (λ (m : Result Config ConfigFault). MeansAs m c.meaning_of.result) (meaning_front n c.take_front.new.bytes left front)
+    c.meaning_of.ensures.meaning

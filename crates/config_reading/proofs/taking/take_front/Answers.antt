@@ -6,6 +6,7 @@ pub loop-n-preserved : goal.loop-n-preserved
 loop-n-preserved g c = record {
   same = search rules;
   inside = search rules;
-  taken = λ told. c.loop-n.invariant.taken told ∙ take-append-part c.loop-n.n c.in-Ok.taken c.loop-n.bytes c.take.new.buf _ _ _ (search rules) (search rules) (search rules);
+  taken = λ told. c.loop-n.invariant.taken told ∙ take-append-part c.loop-n.n c.in-Ok.taken c.loop-n.bytes c.take.new.buf _ _ _
+      (search rules) (search rules) (search rules);
   later = search rules;
 }

@@ -20,4 +20,5 @@ loop-preserved g c =
 
 pub returns-clause-all : goal.returns-clause-all
 returns-clause-all g c =
-    counted_all c.args.seed c.args.samples c.loop.counter c.loop.prepared c.loop.lanes c.loop.totals (omega (arith, c.loop-test.false)) c.loop.invariant
+    counted_all c.args.seed c.args.samples c.loop.counter c.loop.prepared c.loop.lanes c.loop.totals (omega (arith, c.loop-test.false))
+    c.loop.invariant

@@ -10,9 +10,11 @@ loop-gauge-init c = text_starts c.args.seed c.args.samples c.args.totals.now (st
 pub loop-gauge-preserved : goal.loop-gauge-preserved
 loop-gauge-preserved c =
     text_more c.args.seed c.args.samples c.args.totals.now c.requires.long c.requires.totals c.loop-gauge.gauge c.index-totals-gauge.result
-    (string_bytes c.loop-gauge.text) (string_bytes c.push_gauge.new.text) (omega (arith, c.loop-gauge-test.true, c.requires.long)) c.index-totals-gauge.is
+    (string_bytes c.loop-gauge.text) (string_bytes c.push_gauge.new.text) (omega (arith, c.loop-gauge-test.true, c.requires.long))
+    c.index-totals-gauge.is
     c.in_ok-push_gauge.ensures c.loop-gauge.invariant
 
 pub returns : goal.returns
-returns c = text_all c.args.seed c.args.samples c.args.totals.now c.requires.long c.requires.totals (string_bytes c.loop-gauge.text) c.loop-gauge.gauge
+returns c = text_all c.args.seed c.args.samples c.args.totals.now c.requires.long c.requires.totals (string_bytes c.loop-gauge.text)
+    c.loop-gauge.gauge
     (omega (arith, c.loop-gauge-test.false, c.loop-gauge.auto.gauge-end, c.requires.long)) c.loop-gauge.invariant

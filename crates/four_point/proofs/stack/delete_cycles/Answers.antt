@@ -64,7 +64,8 @@ loop-len-preserved c =
       below = below_set_third _ n _ c.loop-len.levels v.below v.fits (omega arith)
           (below_at _ n (n - 1) c.loop-len.levels v.below v.fits (omega arith));
       zig = zig_more c.loop-len.levels n c.loop-len-test.true v.fits v.zig t.0 t.1;
-      cycles = AddsCycles-added _ c.loop-len.levels n _ _ _ c.min.result c.max.result c.loop-len-test.true v.fits v.cycles t.0 t.1 c.min.ensures c.max.ensures c.add.ensures.added;
+      cycles = AddsCycles-added _ c.loop-len.levels n _ _ _ c.min.result c.max.result c.loop-len-test.true v.fits v.cycles t.0 t.1
+          c.min.ensures c.max.ensures c.add.ensures.added;
       no_cycle = HasNoCycleBelow-set c.loop-len.levels n _ v.no_cycle;
       lengths = omega arith;
       cells = omega (arith, c.add.ensures.cells, v.cells);

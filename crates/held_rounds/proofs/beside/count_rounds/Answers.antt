@@ -29,7 +29,8 @@ loop-init g c =
       block = same.block ∙ done.block ∙ c.requires.block;
       board = board_for c.args.prepared.now _ _ _ _ done.board done.grid done.block done.gauges same out;
       leads = subst (λ (b : BoardValue). Leads c.args.store.now.head.setup ends b c.round.new.lanes) (sym out)
-          (leads_first done count ends c.requires.lanes c.args.store.now.head.setup (c.requires.grid ∙ ap (λ (s : Setup). s.grid) (sym c.requires.setup)));
+          (leads_first done count ends c.requires.lanes c.args.store.now.head.setup
+          (c.requires.grid ∙ ap (λ (s : Setup). s.grid) (sym c.requires.setup)));
       can = ready_after done count can;
       sources = sources_after done count can;
       faulty = all_faulty_after done count can c.requires.faulty;
@@ -37,7 +38,11 @@ loop-init g c =
       read = λ reads files lanes.
           let both = stands_first done count ends c.requires.lanes (recorded c.args.conf.now files) (sym c.requires.gauges.2) reads lanes in
           (both.0, subst (λ (b : BoardValue). FrontsStand (recorded c.args.conf.now files) b) (sym out) both.1);
-      going = λ tells reads files lanes stored. (going_starts (recorded c.args.conf.now files) _ _ _ _ _ _ stored (g.met.K.Station.only_now tells c.args.station.now), stored);
+      going = λ tells reads files lanes stored. (
+        going_starts (recorded c.args.conf.now files) _ _ _ _ _ _ stored
+            (g.met.K.Station.only_now tells c.args.station.now),
+        stored,
+      );
       told = λ tells reads files lanes n told was whole.
           let r = recorded c.args.conf.now files in
           let first = g.K.Station.told c.args.station.now in
@@ -50,7 +55,8 @@ loop-init g c =
 pub store_board-requires-clause-fronts : goal.store_board-requires-clause-fronts
 store_board-requires-clause-fronts g c =
     let was = c.loop.invariant in
-    subst (λ (n : ℕ). AreFronts c.loop.store.head.setup (ends_of c.loop.store.held) c.loop.board n) (was.gauges.2 ∙ c.requires.gauges.2) was.leads.fronts
+    subst (λ (n : ℕ). AreFronts c.loop.store.head.setup (ends_of c.loop.store.held) c.loop.board n) (was.gauges.2 ∙ c.requires.gauges.2)
+    was.leads.fronts
 
 pub returns-then-have_ended-clause-going : goal.returns-then-have_ended-clause-going
 returns-then-have_ended-clause-going g c = λ tells reads files lanes stored.
@@ -68,15 +74,19 @@ returns-then-have_ended-clause-read g c = λ reads files lanes. on_any c.store_b
 pub returns-then-have_ended-clause-held : goal.returns-then-have_ended-clause-held
 returns-then-have_ended-clause-held g c =
     let was = c.loop.invariant in
-    held_last (length c.args.conf.now.gauges) c.loop.lanes (was.gauges.2 ∙ c.requires.gauges.2) was.can c.loop.store.head.setup (ends_of c.loop.store.held) c.loop.board was.leads c.store_board.result _ c.store_board.ensures.ends
+    held_last (length c.args.conf.now.gauges) c.loop.lanes (was.gauges.2 ∙ c.requires.gauges.2) was.can c.loop.store.head.setup
+    (ends_of c.loop.store.held) c.loop.board was.leads c.store_board.result _ c.store_board.ensures.ends
 
 pub returns-then-have_ended-clause-told : goal.returns-then-have_ended-clause-told
 returns-then-have_ended-clause-told g c = λ tells reads files lanes n told had.
     let was = c.loop.invariant in
     let r = recorded c.args.conf.now files in
-    let held = held_last (length c.args.conf.now.gauges) c.loop.lanes (was.gauges.2 ∙ c.requires.gauges.2) was.can c.loop.store.head.setup (ends_of c.loop.store.held) c.loop.board was.leads c.store_board.result _ c.store_board.ensures.ends in
-    on_both c.store_board.result (λ to lines whole. ahead_last c.args.conf.now.block r n told (g.K.Station.told c.loop.station) (g.K.Station.told c.store_board.new.station) (ends_of c.loop.store.held) (ends_of c.store_board.new.store.held) c.loop.lanes
-    (sym (was.gauges.2 ∙ c.requires.gauges.2)) to lines (was.told tells reads files lanes n told had whole)) held (c.store_board.ensures.lines tells)
+    let held = held_last (length c.args.conf.now.gauges) c.loop.lanes (was.gauges.2 ∙ c.requires.gauges.2) was.can c.loop.store.head.setup
+    (ends_of c.loop.store.held) c.loop.board was.leads c.store_board.result _ c.store_board.ensures.ends in
+    on_both c.store_board.result (λ to lines whole. ahead_last c.args.conf.now.block r n told (g.K.Station.told c.loop.station)
+    (g.K.Station.told c.store_board.new.station) (ends_of c.loop.store.held) (ends_of c.store_board.new.store.held) c.loop.lanes
+    (sym (was.gauges.2 ∙ c.requires.gauges.2)) to lines (was.told tells reads files lanes n told had whole)) held
+    (c.store_board.ensures.lines tells)
 
 pub returns-in_err-round_beside-clause-going : goal.returns-in_err-round_beside-clause-going
 returns-in_err-round_beside-clause-going g c = λ tells reads files lanes stored.
@@ -89,7 +99,8 @@ returns-in_err-round_beside-clause-sources g c =
 
 pub returns-in_err-round_beside-clause-faulty : goal.returns-in_err-round_beside-clause-faulty
 returns-in_err-round_beside-clause-faulty g c =
-    let was = c.loop.invariant in all_faulty_after c.round_beside.ensures.round (was.gauges.2 ∙ c.requires.gauges.2 ∙ sym was.gauges.1) was.can was.faulty
+    let was = c.loop.invariant in all_faulty_after c.round_beside.ensures.round (was.gauges.2 ∙ c.requires.gauges.2 ∙ sym was.gauges.1)
+    was.can was.faulty
 
 pub loop-preserved : goal.loop-preserved
 loop-preserved g c =

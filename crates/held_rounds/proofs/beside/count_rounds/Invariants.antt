@@ -21,7 +21,8 @@ invariant-loop g l =
     record {
       usable : l.store.shut ≡ false;
       head : l.store.head ≡ l.fn.store.head;
-      gauges : (length l.store.held ≡ length l.fn.store.held) × (l.prepared.gauges ≡ length l.conf.gauges) × (length l.lanes ≡ length l.fn.lanes);
+      gauges : (length l.store.held ≡ length l.fn.store.held) × (l.prepared.gauges ≡ length l.conf.gauges)
+          × (length l.lanes ≡ length l.fn.lanes);
       grid : l.prepared.grid ≡ l.conf.setup.grid;
       block : l.prepared.block ≡ l.conf.block;
       board : IsBoardFor l.prepared l.board;
@@ -30,11 +31,15 @@ invariant-loop g l =
       sources : All HasSource l.lanes;
       faulty : All (IsFaulty s.faults) l.lanes;
       there : k.tells → IsThere l.store (k.seen l.station) (k.leaves l.station);
-      read : s.tells → (files : Files) → AreLanes s.tells s.left (recorded l.conf files) l.fn.lanes → AreLanes s.tells s.left (recorded l.conf files) l.lanes × FrontsStand (recorded l.conf files) l.board;
-      going : k.tells → s.tells → (files : Files) → AreLanes s.tells s.left (recorded l.conf files) l.fn.lanes → IsStored (recorded l.conf files) l.fn.store (k.seen l.fn.station) (k.leaves l.fn.station) →
-          Going (recorded l.conf files) (ends_of l.fn.store.held) (k.clock l.fn.station) (k.moments l.fn.station) (k.told l.fn.station) (k.clock l.station) (k.moments l.station) (k.told l.station) (k.leaves l.station) (ends_of l.store.held)
+      read : s.tells → (files : Files) → AreLanes s.tells s.left (recorded l.conf files) l.fn.lanes →
+          AreLanes s.tells s.left (recorded l.conf files) l.lanes × FrontsStand (recorded l.conf files) l.board;
+      going : k.tells → s.tells → (files : Files) → AreLanes s.tells s.left (recorded l.conf files) l.fn.lanes →
+          IsStored (recorded l.conf files) l.fn.store (k.seen l.fn.station) (k.leaves l.fn.station) →
+          Going (recorded l.conf files) (ends_of l.fn.store.held) (k.clock l.fn.station) (k.moments l.fn.station) (k.told l.fn.station)
+          (k.clock l.station) (k.moments l.station) (k.told l.station) (k.leaves l.station) (ends_of l.store.held)
           × IsStored (recorded l.conf files) l.store (k.seen l.station) (k.leaves l.station);
-      told : k.tells → s.tells → (files : Files) → AreLanes s.tells s.left (recorded l.conf files) l.fn.lanes → (n : List ℕ) (told : Lines) → HasTold l.conf.block (recorded l.conf files) n told (k.told l.fn.station) l.fn.lanes →
+      told : k.tells → s.tells → (files : Files) → AreLanes s.tells s.left (recorded l.conf files) l.fn.lanes →
+          (n : List ℕ) (told : Lines) → HasTold l.conf.block (recorded l.conf files) n told (k.told l.fn.station) l.fn.lanes →
           All IsWhole l.lanes → IsAhead l.conf.block (recorded l.conf files) n told (k.told l.station) (ends_of l.store.held) l.lanes;
       later : k.faults l.fn.station ≤ k.faults l.station;
     }

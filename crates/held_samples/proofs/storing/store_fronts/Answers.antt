@@ -16,7 +16,11 @@ loop-gauge-init g c = record {
   head = refl;
   gauges = refl;
   there = c.requires.on;
-  going = λ tells files stored stand. (going_starts (recorded c.args.conf.now files) _ _ _ _ _ _ stored (g.met.K.Station.only_now tells c.args.station.now), stored);
+  going = λ tells files stored stand. (
+    going_starts (recorded c.args.conf.now files) _ _ _ _ _ _ stored
+        (g.met.K.Station.only_now tells c.args.station.now),
+    stored,
+  );
   told = λ tells. same_lines _;
   before = λ to ends h lt. absurd (omega (arith, lt));
   after = λ h le. refl;
@@ -25,8 +29,10 @@ loop-gauge-init g c = record {
 
 pub store_gauge-requires-clause-next : goal.store_gauge-requires-clause-next
 store_gauge-requires-clause-next g c =
-    let front = c.requires.fronts c.loop-gauge.gauge c.front.result.now (omega (arith, ap length c.as_slice-gauge-end.ensures)) c.front.ensures in
-    front.next ∙ sym (c.loop-gauge.invariant.after c.loop-gauge.gauge (omega arith)) ∙ ap (slice_index (ends_of c.loop-gauge.store.held)) (sym front.gauge)
+    let front = c.requires.fronts c.loop-gauge.gauge c.front.result.now (omega (arith, ap length c.as_slice-gauge-end.ensures))
+    c.front.ensures in
+    front.next ∙ sym (c.loop-gauge.invariant.after c.loop-gauge.gauge (omega arith)) ∙ ap (slice_index (ends_of c.loop-gauge.store.held))
+    (sym front.gauge)
 
 pub store_gauge-requires-clause-gauge : goal.store_gauge-requires-clause-gauge
 store_gauge-requires-clause-gauge g c =
@@ -34,22 +40,27 @@ store_gauge-requires-clause-gauge g c =
     let front = c.requires.fronts c.loop-gauge.gauge c.front.result.now known c.front.ensures in
     let many : length c.loop-gauge.store.held ≡ length c.args.conf.now.gauges = c.loop-gauge.invariant.gauges ∙ c.requires.gauges.0 in (
       omega (arith, known, many, front.gauge),
-      many ∙ sym c.requires.conf.gains ∙ ap (λ (s : Setup). length s.gains) (sym c.requires.setup) ∙ ap (λ (h : HeadValue). length h.setup.gains) (sym c.loop-gauge.invariant.head),
+      many ∙ sym c.requires.conf.gains ∙ ap (λ (s : Setup). length s.gains) (sym c.requires.setup)
+          ∙ ap (λ (h : HeadValue). length h.setup.gains) (sym c.loop-gauge.invariant.head),
     )
 
 pub store_gauge-requires-clause-short : goal.store_gauge-requires-clause-short
 store_gauge-requires-clause-short g c =
     let known : c.loop-gauge.gauge < length c.args.conf.now.gauges = omega (arith, ap length c.as_slice-gauge-end.ensures) in
     let name = name_is c.args.conf.now c.loop-gauge.gauge _ _ _ known c.as_slice.ensures c.as_str-name.ensures in
-    subst (λ (l : List ℕ). length l ≤ MAX_NAME_BYTES) name (is_short (name_of c.args.conf.now c.loop-gauge.gauge) (c.requires.conf.names c.loop-gauge.gauge known))
+    subst (λ (l : List ℕ). length l ≤ MAX_NAME_BYTES) name (is_short (name_of c.args.conf.now c.loop-gauge.gauge)
+    (c.requires.conf.names c.loop-gauge.gauge known))
 
 pub returns-in_err-store_gauge-clause-going : goal.returns-in_err-store_gauge-clause-going
 returns-in_err-store_gauge-clause-going g c = λ tells files stored stand.
     let got = c.loop-gauge.invariant.going tells files stored stand in
-    let front = c.requires.fronts c.loop-gauge.gauge c.front.result.now (omega (arith, ap length c.as_slice-gauge-end.ensures)) c.front.ensures in
+    let front = c.requires.fronts c.loop-gauge.gauge c.front.result.now (omega (arith, ap length c.as_slice-gauge-end.ensures))
+    c.front.ensures in
     let known : c.loop-gauge.gauge < length c.args.conf.now.gauges = omega (arith, ap length c.as_slice-gauge-end.ensures) in
-    let name = ap (name_of c.args.conf.now) front.gauge ∙ name_is c.args.conf.now c.loop-gauge.gauge _ _ _ known c.as_slice.ensures c.as_str-name.ensures in
-    going_then got.0 (c.store_gauge.ensures.going tells (recorded c.args.conf.now files) (are_names c.args.conf.now c.requires.conf) (subst (λ (n : ℕ). n < length c.args.conf.now.gauges) (sym front.gauge) known) name got.1
+    let name = ap (name_of c.args.conf.now) front.gauge ∙ name_is c.args.conf.now c.loop-gauge.gauge _ _ _ known c.as_slice.ensures
+    c.as_str-name.ensures in
+    going_then got.0 (c.store_gauge.ensures.going tells (recorded c.args.conf.now files) (are_names c.args.conf.now c.requires.conf)
+    (subst (λ (n : ℕ). n < length c.args.conf.now.gauges) (sym front.gauge) known) name got.1
     (stand c.loop-gauge.gauge c.front.result.now known c.front.ensures))
 
 pub loop-gauge-preserved : goal.loop-gauge-preserved
@@ -66,14 +77,23 @@ loop-gauge-preserved g c =
       going = λ tells files stored stand.
           let got = c.loop-gauge.invariant.going tells files stored stand in
           let stands = stand c.loop-gauge.gauge c.front.result.now known c.front.ensures in (
-            going_then got.0 (c.store_gauge.ensures.going tells (recorded c.args.conf.now files) (are_names c.args.conf.now c.requires.conf) (subst (λ (n : ℕ). n < length c.args.conf.now.gauges) (sym front.gauge) known) (ap (name_of c.args.conf.now) front.gauge ∙ name) got.1 stands),
+            going_then got.0 (c.store_gauge.ensures.going tells (recorded c.args.conf.now files) (are_names c.args.conf.now c.requires.conf)
+                (subst (λ (n : ℕ). n < length c.args.conf.now.gauges) (sym front.gauge) known)
+                (ap (name_of c.args.conf.now) front.gauge ∙ name) got.1 stands),
             c.in_ok-store_gauge.ensures.stored tells (recorded c.args.conf.now files) got.1 stands,
           );
-      told = λ tells. round_more (name_of c.args.conf.now) (slice_index (ends_of c.args.store.now.held)) (slice_index (ends_of c.loop-gauge.store.held)) (slice_index (ends_of c.store_gauge.new.store.held)) c.loop-gauge.gauge
-          c.front.result.now.from c.front.result.now.to _ _ _ (c.loop-gauge.invariant.told tells) (told_named (g.K.Station.told c.loop-gauge.station) (g.K.Station.told c.store_gauge.new.station) (name_of c.args.conf.now c.loop-gauge.gauge) c.as_str-name.result.now c.front.result.now.from c.front.result.now.to (c.in_ok-store_gauge.ensures.told tells) name)
-          (sym front.next) (ap (slice_index (ends_of c.store_gauge.new.store.held)) (sym front.gauge) ∙ held.here) (λ h lt. sym (held.others h (not_same h c.loop-gauge.gauge _ lt front.gauge)));
-      before = λ to ends h lt. held_before _ _ to c.front.result.now c.loop-gauge.gauge front.gauge held (ends c.loop-gauge.gauge c.front.result.now known c.front.ensures) (λ k less. c.loop-gauge.invariant.before to ends k less) h lt;
-      after = λ h le. held.others h (not_same_after h c.loop-gauge.gauge _ le front.gauge) ∙ c.loop-gauge.invariant.after h (omega (arith, le));
+      told = λ tells. round_more (name_of c.args.conf.now) (slice_index (ends_of c.args.store.now.held))
+          (slice_index (ends_of c.loop-gauge.store.held)) (slice_index (ends_of c.store_gauge.new.store.held)) c.loop-gauge.gauge
+          c.front.result.now.from c.front.result.now.to _ _ _ (c.loop-gauge.invariant.told tells)
+          (told_named (g.K.Station.told c.loop-gauge.station) (g.K.Station.told c.store_gauge.new.station)
+          (name_of c.args.conf.now c.loop-gauge.gauge) c.as_str-name.result.now c.front.result.now.from c.front.result.now.to
+          (c.in_ok-store_gauge.ensures.told tells) name)
+          (sym front.next) (ap (slice_index (ends_of c.store_gauge.new.store.held)) (sym front.gauge) ∙ held.here)
+          (λ h lt. sym (held.others h (not_same h c.loop-gauge.gauge _ lt front.gauge)));
+      before = λ to ends h lt. held_before _ _ to c.front.result.now c.loop-gauge.gauge front.gauge held
+          (ends c.loop-gauge.gauge c.front.result.now known c.front.ensures) (λ k less. c.loop-gauge.invariant.before to ends k less) h lt;
+      after = λ h le. held.others h (not_same_after h c.loop-gauge.gauge _ le front.gauge) ∙ c.loop-gauge.invariant.after h
+          (omega (arith, le));
       later = omega (arith, c.store_gauge.ensures.cause.later, c.loop-gauge.invariant.later);
     }
 
@@ -81,4 +101,5 @@ pub returns-clause-going : goal.returns-clause-going
 returns-clause-going g c = λ tells files stored stand. (c.loop-gauge.invariant.going tells files stored stand).0
 
 pub returns-clause-held : goal.returns-clause-held
-returns-clause-held g c = λ to ends h lt. c.loop-gauge.invariant.before to ends h (omega (arith, lt, c.loop-gauge-test.false, ap length c.as_slice-gauge-end.ensures))
+returns-clause-held g c = λ to ends h lt. c.loop-gauge.invariant.before to ends h
+    (omega (arith, lt, c.loop-gauge-test.false, ap length c.as_slice-gauge-end.ensures))

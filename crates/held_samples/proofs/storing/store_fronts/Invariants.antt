@@ -18,11 +18,15 @@ invariant-loop-gauge g l =
       head : l.store.head ≡ l.fn.store.head;
       gauges : length l.store.held ≡ length l.fn.store.held;
       there : k.tells → IsThere l.store (k.seen l.station) (k.leaves l.station);
-      going : k.tells → (files : Files) → IsStored (recorded l.conf files) l.fn.store (k.seen l.fn.station) (k.leaves l.fn.station) → FrontsStand (recorded l.conf files) l.board →
-          Going (recorded l.conf files) (ends_of l.fn.store.held) (k.clock l.fn.station) (k.moments l.fn.station) (k.told l.fn.station) (k.clock l.station) (k.moments l.station) (k.told l.station) (k.leaves l.station) (ends_of l.store.held)
+      going : k.tells → (files : Files) → IsStored (recorded l.conf files) l.fn.store (k.seen l.fn.station) (k.leaves l.fn.station) →
+          FrontsStand (recorded l.conf files) l.board →
+          Going (recorded l.conf files) (ends_of l.fn.store.held) (k.clock l.fn.station) (k.moments l.fn.station) (k.told l.fn.station)
+          (k.clock l.station) (k.moments l.station) (k.told l.station) (k.leaves l.station) (ends_of l.store.held)
           × IsStored (recorded l.conf files) l.store (k.seen l.station) (k.leaves l.station);
-      told : k.tells → k.told l.station ≡ k.told l.fn.station ++ round_lines (name_of l.conf) (slice_index (ends_of l.fn.store.held)) (slice_index (ends_of l.store.held)) l.gauge;
-      before : (to : ℕ → ℕ) → FrontsEnd to l.board (length l.conf.gauges) → (h : ℕ) → h < l.gauge → slice_index (ends_of l.store.held) h ≡ to h;
+      told : k.tells → k.told l.station ≡ k.told l.fn.station ++ round_lines (name_of l.conf) (slice_index (ends_of l.fn.store.held))
+          (slice_index (ends_of l.store.held)) l.gauge;
+      before : (to : ℕ → ℕ) → FrontsEnd to l.board (length l.conf.gauges) → (h : ℕ) → h < l.gauge →
+          slice_index (ends_of l.store.held) h ≡ to h;
       after : (h : ℕ) → l.gauge ≤ h → slice_index (ends_of l.store.held) h ≡ slice_index (ends_of l.fn.store.held) h;
       later : k.faults l.fn.station ≤ k.faults l.station;
     }

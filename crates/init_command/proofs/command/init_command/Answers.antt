@@ -8,7 +8,8 @@ returns-in-Ok-read_config-clause-complete g c = λ tells shows gives conf is sou
     init_complete (config_of_bytes (g.C.Source.left c.args.config.now)) c.in-Ok-read_config.conf conf (g.T.Site.files c.args.site.now)
     (g.K.Station.seen c.args.station.now) (g.T.Site.faults c.args.site.now) (g.T.Site.faults c.init_by.new.site)
     (g.K.Station.faults c.args.station.now) (g.K.Station.faults c.init_by.new.station) c.init_by.result
-    (c.in-Ok-read_config.ensures.meaning gives) is (c.init_by.ensures.answer tells shows) c.init_by.ensures.read c.init_by.ensures.disk sound none no_read no_disk
+    (c.in-Ok-read_config.ensures.meaning gives) is (c.init_by.ensures.answer tells shows) c.init_by.ensures.read c.init_by.ensures.disk
+    sound none no_read no_disk
 
 pub returns-clause-last : goal.returns-clause-last
 returns-clause-last g c = λ tells gives some.
@@ -20,4 +21,5 @@ returns-clause-last g c = λ tells gives some.
 pub returns-in-Ok-read_config-clause-answer : goal.returns-in-Ok-read_config-clause-answer
 returns-in-Ok-read_config-clause-answer g c = λ tells shows gives.
     answers_read (config_of_bytes (g.C.Source.left c.args.config.now)) c.in-Ok-read_config.conf (g.T.Site.files c.args.site.now)
-    (g.K.Station.seen c.args.station.now) c.init_by.result (c.in-Ok-read_config.ensures.meaning gives) (c.init_by.ensures.answer tells shows)
+    (g.K.Station.seen c.args.station.now) c.init_by.result (c.in-Ok-read_config.ensures.meaning gives)
+    (c.init_by.ensures.answer tells shows)

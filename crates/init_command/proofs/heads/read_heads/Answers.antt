@@ -11,8 +11,10 @@ returns-in-Err-clause-answer g c = λ tells.
     let files = g.T.Site.files c.args.site.now in
     heads_refused c.args.conf.now files c.loop-gauge.gauge c.loop-gauge.heads.items c.in-Err.status
     (omega (arith, c.loop-gauge-test.true, ap length c.as_slice-gauges.ensures)) (was.each tells)
-    (file_for c.args.conf.now files (λ content. HeadAnswer content c.loop-gauge.gauge (Err c.in-Err.status)) (g.T.Site.files c.loop-gauge.site) c.loop-gauge.gauge
-    c.as_slice-gauges.result.now c.index-gauges-gauge.result c.as_str.result.now c.as_slice-gauges.ensures c.loop-gauge-test.true c.as_str.ensures (was.files tells)
+    (file_for c.args.conf.now files (λ content. HeadAnswer content c.loop-gauge.gauge (Err c.in-Err.status))
+    (g.T.Site.files c.loop-gauge.site) c.loop-gauge.gauge
+    c.as_slice-gauges.result.now c.index-gauges-gauge.result c.as_str.result.now c.as_slice-gauges.ensures c.loop-gauge-test.true
+    c.as_str.ensures (was.files tells)
     (c.in-Err.ensures.answer tells))
 
 pub loop-gauge-preserved : goal.loop-gauge-preserved
@@ -23,10 +25,12 @@ loop-gauge-preserved g c =
     let old = c.loop-gauge.heads.items in
     let files = g.T.Site.files c.args.site.now in
     record {
-      each = λ tells. subst (λ (l : List Head). AreHeadsBelow c.args.conf.now files (c.loop-gauge.gauge + 1) l) (sym c.push_reserved.ensures.items)
+      each = λ tells. subst (λ (l : List Head). AreHeadsBelow c.args.conf.now files (c.loop-gauge.gauge + 1) l)
+          (sym c.push_reserved.ensures.items)
           (heads_more c.args.conf.now files c.loop-gauge.gauge old h was.many (was.each tells)
           (file_for c.args.conf.now files (λ content. HasHeadIn content (Ok h)) (g.T.Site.files c.loop-gauge.site) c.loop-gauge.gauge
-          c.as_slice-gauges.result.now c.index-gauges-gauge.result c.as_str.result.now c.as_slice-gauges.ensures c.loop-gauge-test.true c.as_str.ensures (was.files tells)
+          c.as_slice-gauges.result.now c.index-gauges-gauge.result c.as_str.result.now c.as_slice-gauges.ensures c.loop-gauge-test.true
+          c.as_str.ensures (was.files tells)
           (now.answer tells)));
       many = omega (arith, was.many, ap length c.push_reserved.ensures.items, length-append old (h ∷ []));
       room = omega (arith, was.room, c.push_reserved.ensures.capacity);

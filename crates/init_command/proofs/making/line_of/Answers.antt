@@ -7,4 +7,5 @@ push_number-requires c =
 
 pub push-requires-2 : goal.push-requires-2
 push-requires-2 c =
-    end_fits c.args.gauges c.requires.few c.in_ok-line.line c.push.new.self c.push_number.new.self c.in_ok-line.ensures c.push.ensures c.push_number.ensures
+    end_fits c.args.gauges c.requires.few c.in_ok-line.line c.push.new.self c.push_number.new.self c.in_ok-line.ensures c.push.ensures
+    c.push_number.ensures

@@ -11,7 +11,14 @@ loop-level-preserved c = elim c.if-level-classes.branch [
   | then-level-classes w ↦ record {
     few = λ b.
         let before = c.loop-level.crossings in
-        omega (arith, ap (λ v. count_at v b) w.crossings-is, w.push.ensures.counts b, between_once before.some before.reference b before.last (slice_index c.args.levels.now c.loop-level.level-index), c.loop-level.invariant.few b);
+        omega (
+          arith,
+          ap (λ v. count_at v b) w.crossings-is,
+          w.push.ensures.counts b,
+          between_once before.some before.reference b
+              before.last (slice_index c.args.levels.now c.loop-level.level-index),
+          c.loop-level.invariant.few b,
+        );
     classes = ap (λ v. v.classes) w.crossings-is ∙ w.push.ensures.grid.0 ∙ c.loop-level.invariant.classes;
     reference = ap (λ v. v.reference) w.crossings-is ∙ w.push.ensures.grid.1 ∙ c.loop-level.invariant.reference;
   }

@@ -11,7 +11,8 @@ use Rattle.monitor.proofs.TableRun.{text_for}
 use Rattle.monitor.proofs.command.table_command.Goals as goal
 
 pub print_table-requires : goal.print_table-requires
-print_table-requires g c = record { few = c.in-Ok-read.ensures.few; figures = (c.in-Ok-read.ensures.figures.0, c.in-Ok-read.ensures.figures.1) }
+print_table-requires g c =
+    record { few = c.in-Ok-read.ensures.few; figures = (c.in-Ok-read.ensures.figures.0, c.in-Ok-read.ensures.figures.1) }
 
 pub returns-in-Ok-read-clause-run : goal.returns-in-Ok-read-clause-run
 returns-in-Ok-read-clause-run g c =
@@ -24,11 +25,14 @@ returns-in-Ok-read-clause-run g c =
     let read = c.in-Ok-read.ensures in
     let printed = c.print_table.ensures in
     let no_read = printing_no_read answer printed.printing in
-    let may = λ (tells : g.T.Site.tells). subst (λ (h : Option (List ℕ)). MayAnswer 0 answer (file_state h)) (sym (fetched.file tells)) (printing_may 0 answer (state_of left) printed.printing (read.cause (fetched.source_tells tells))) in
+    let may = λ (tells : g.T.Site.tells). subst (λ (h : Option (List ℕ)). MayAnswer 0 answer (file_state h)) (sym (fetched.file tells))
+    (printing_may 0 answer (state_of left) printed.printing (read.cause (fetched.source_tells tells))) in
     let text = λ (tells : g.T.Site.tells). ap (λ (w : List ℤ). text_of_samples w) (read.figures.2 (fetched.source_tells tells)) in
     record {
-      done = λ tells told is. text_for held left (λ (text : List ℕ). after ≡ before ++ text) (fetched.file tells) (printed.done told is read.figures.0 read.figures.1 ∙ ap (λ (text : List ℕ). before ++ text) (text tells));
-      front = λ tells told is. text_for held left (λ (text : List ℕ). AppendsPrefix before after text) (fetched.file tells) (subst (λ (text : List ℕ). AppendsPrefix before after text) (text tells) (printed.front told is read.figures.0 read.figures.1));
+      done = λ tells told is. text_for held left (λ (text : List ℕ). after ≡ before ++ text) (fetched.file tells)
+          (printed.done told is read.figures.0 read.figures.1 ∙ ap (λ (text : List ℕ). before ++ text) (text tells));
+      front = λ tells told is. text_for held left (λ (text : List ℕ). AppendsPrefix before after text) (fetched.file tells)
+          (subst (λ (text : List ℕ). AppendsPrefix before after text) (text tells) (printed.front told is read.figures.0 read.figures.1));
       nothing = printed.nothing;
       answer_may = may;
       complete = λ tells sound whole. complete 0 answer (file_state held) (may tells) no_read (λ is. whole (printed.write is));
@@ -51,9 +55,11 @@ returns-in-Err-clause-run g c =
     let rose = λ (is : answer ≡ ReadFault).
     let fault = read.fault (ap Err (refusal_read 0 c.in-Err.refusal (sym c.status.ensures ∙ is))) in
     let some : 0 < g.T.Src.Source.faults c.read_recording-read.new.src = omega (arith, fault, fetched.fresh) in
-    let rises : Rose (g.T.Site.faults c.args.site.now) (g.T.Site.faults c.give_back.new.self) = omega (arith, c.give_back.ensures.cause some, fetched.cause.later) in
+    let rises : Rose (g.T.Site.faults c.args.site.now) (g.T.Site.faults c.give_back.new.self) = omega
+    (arith, c.give_back.ensures.cause some, fetched.cause.later) in
     rises in
-    let may = λ (tells : g.T.Site.tells). subst (λ (h : Option (List ℕ)). MayAnswer 0 answer (file_state h)) (sym (fetched.file tells)) (subst (λ (a : Status). MayAnswer 0 a (state_of left)) (sym c.status.ensures) (read.cause (fetched.source_tells tells))) in
+    let may = λ (tells : g.T.Site.tells). subst (λ (h : Option (List ℕ)). MayAnswer 0 answer (file_state h)) (sym (fetched.file tells))
+    (subst (λ (a : Status). MayAnswer 0 a (state_of left)) (sym c.status.ensures) (read.cause (fetched.source_tells tells))) in
     record {
       done = λ tells told is. absurd (no_done is);
       front = λ tells told is. absurd (no_write is);

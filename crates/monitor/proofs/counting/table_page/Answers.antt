@@ -23,7 +23,8 @@ returns c = λ w are.
     let h = history table_grid table_gain w in
     let whole = c.finish-half_units.ensures.figures table_grid table_gain w are in
     let out = c.as_slice.result.now in
-    let same = table_text-same table_grid figures.counts (λ k. slice_index out k) (half_units h) (λ k some inside. ap (λ (l : List ℕ). slice_index l k) c.as_slice.ensures ∙ whole.1 k (omega (arith, inside, whole.0))) in
+    let same = table_text-same table_grid figures.counts (λ k. slice_index out k) (half_units h)
+    (λ k some inside. ap (λ (l : List ℕ). slice_index l k) c.as_slice.ensures ∙ whole.1 k (omega (arith, inside, whole.0))) in
     ap (λ (p : PageValue). p.bytes) c.table_text.ensures
     ∙ ap (λ (g : GridValue). table_text g figures.counts (λ k. slice_index out k)) c.grid_of_table.ensures
     ∙ same ∙ ap (λ (k : SampleCounts). table_text table_grid k (half_units h)) are.counts

@@ -10,7 +10,8 @@ use Rattle.monitor.proofs.read.read_recording.Goals as goal
 
 pub returns-in_err-read_head-clause-cause : goal.returns-in_err-read_head-clause-cause
 returns-in_err-read_head-clause-cause g c = λ tells.
-    head_cause 0 _ c.in_err-read_head.field-0.0 (g.S.Source.left c.args.src.now) c.from_residual.ensures.1 (λ other. c.in_err-read_head.ensures.head tells (λ is. other (err_is is)))
+    head_cause 0 _ c.in_err-read_head.field-0.0 (g.S.Source.left c.args.src.now) c.from_residual.ensures.1
+    (λ other. c.in_err-read_head.ensures.head tells (λ is. other (err_is is)))
 
 pub returns-in_err-read_head-clause-fault : goal.returns-in_err-read_head-clause-fault
 returns-in_err-read_head-clause-fault g c = λ is.
@@ -20,7 +21,8 @@ pub returns-in_err-read_head-clause-later : goal.returns-in_err-read_head-clause
 returns-in_err-read_head-clause-later g c = c.read_head.ensures.later
 
 pub returns-in_err-figures-clause-cause : goal.returns-in_err-figures-clause-cause
-returns-in_err-figures-clause-cause g c = λ tells. memory_cause 0 _ (g.S.Source.left c.args.src.now) c.from_residual-in_err-figures.ensures.1
+returns-in_err-figures-clause-cause g c =
+    λ tells. memory_cause 0 _ (g.S.Source.left c.args.src.now) c.from_residual-in_err-figures.ensures.1
 
 pub returns-in_err-figures-clause-fault : goal.returns-in_err-figures-clause-fault
 returns-in_err-figures-clause-fault g c = λ is. absurd (memory_fault _ c.from_residual-in_err-figures.ensures.1 is)
@@ -41,7 +43,14 @@ pub loop-init : goal.loop-init
 loop-init g c =
     let figures = c.in_ok-figures.ensures table_grid table_gain (omega arith) in
     record {
-      read = ([], figures, λ tells. (ap samples (sym (c.in_ok-read_head.ensures.left tells (λ is. cc))), ap torn_bytes (c.in_ok-read_head.ensures.left tells (λ is. cc))));
+      read = (
+        [],
+        figures,
+        λ tells. (
+          ap samples (sym (c.in_ok-read_head.ensures.left tells (λ is. cc))),
+          ap torn_bytes (c.in_ok-read_head.ensures.left tells (λ is. cc)),
+        ),
+      );
       turns = omega arith;
       few = omega (arith, ap (λ k. k.samples) figures.counts);
       later = c.read_head.ensures.later;
@@ -52,9 +61,25 @@ loop-init g c =
 pub take-requires : goal.take-requires
 take-requires g c = record {
   samples = c.loop.invariant.few;
-  few = omega (arith, length-take c.fill-filled.result.n c.fill-filled.new.buf, c.fill-filled.ensures.within, c.fill-filled.ensures.length, c.loop.invariant.raws);
-  room = omega (arith, length-take c.fill-filled.result.n c.fill-filled.new.buf, c.fill-filled.ensures.length, c.loop.invariant.raws, c.loop.invariant.levels);
-  figures = (c.loop.invariant.read.0, of_classifier _ table_grid _ table_gain c.loop.figures _ c.table_classifier-classifier.ensures.grid c.table_classifier-classifier.ensures.gain c.loop.invariant.read.1);
+  few = omega (
+    arith,
+    length-take c.fill-filled.result.n c.fill-filled.new.buf,
+    c.fill-filled.ensures.within,
+    c.fill-filled.ensures.length,
+    c.loop.invariant.raws,
+  );
+  room = omega (
+    arith,
+    length-take c.fill-filled.result.n c.fill-filled.new.buf,
+    c.fill-filled.ensures.length,
+    c.loop.invariant.raws,
+    c.loop.invariant.levels,
+  );
+  figures = (
+    c.loop.invariant.read.0,
+    of_classifier _ table_grid _ table_gain c.loop.figures _ c.table_classifier-classifier.ensures.grid
+        c.table_classifier-classifier.ensures.gain c.loop.invariant.read.1,
+  );
 }
 
 pub loop-preserved : goal.loop-preserved
@@ -63,11 +88,27 @@ loop-preserved g c =
     let read = c.loop.invariant.read in
     let fill = c.fill-filled.ensures in
     let table = c.table_classifier-classifier.ensures in
-    let taken = by_classifier _ table_grid _ table_gain c.loop.figures c.take.new.self _ table.grid table.gain c.take.ensures.figures read.0 read.1 in
+    let taken = by_classifier _ table_grid _ table_gain c.loop.figures c.take.new.self _ table.grid table.gain c.take.ensures.figures
+    read.0 read.1 in
     let filled : c.fill-filled.result.n ≡ length c.loop.raws = fill.full.0 c.in-More.is in
     record {
-      read = (read.0 ++ take c.fill-filled.result.n c.fill-filled.new.buf, taken, λ tells. more_read table_grid table_gain c.take.new.self read.0 (drop 32 file) (g.S.Source.left c.loop.src) (g.S.Source.left c.fill-filled.new.src) (length c.loop.raws) c.fill-filled.result.n c.fill-filled.result.end c.fill-filled.new.buf (read.2 tells) (fill.samples tells) (fill.taken tells) taken c.in-More.is);
-      turns = omega (arith, c.take.ensures.samples, length-take c.fill-filled.result.n c.fill-filled.new.buf, filled, fill.length, c.loop.invariant.turns, c.loop.invariant.raws);
+      read = (
+        read.0 ++ take c.fill-filled.result.n c.fill-filled.new.buf,
+        taken,
+        λ tells. more_read table_grid table_gain c.take.new.self
+            read.0 (drop 32 file) (g.S.Source.left c.loop.src) (g.S.Source.left c.fill-filled.new.src) (length c.loop.raws)
+            c.fill-filled.result.n c.fill-filled.result.end c.fill-filled.new.buf (read.2 tells) (fill.samples tells) (fill.taken tells)
+            taken c.in-More.is,
+      );
+      turns = omega (
+        arith,
+        c.take.ensures.samples,
+        length-take c.fill-filled.result.n c.fill-filled.new.buf,
+        filled,
+        fill.length,
+        c.loop.invariant.turns,
+        c.loop.invariant.raws,
+      );
       few = c.if-figures-gt-MAX_SAMPLES.false;
       later = omega (arith, c.loop.invariant.later, fill.later);
       raws = fill.length ∙ c.loop.invariant.raws;
@@ -80,11 +121,16 @@ returns-then-figures-gt-MAX_SAMPLES g c =
     let read = c.loop.invariant.read in
     let fill = c.fill-filled.ensures in
     let table = c.table_classifier-classifier.ensures in
-    let taken = by_classifier _ table_grid _ table_gain c.loop.figures c.take.new.self _ table.grid table.gain c.take.ensures.figures read.0 read.1 in
+    let taken = by_classifier _ table_grid _ table_gain c.loop.figures c.take.new.self _ table.grid table.gain c.take.ensures.figures
+    read.0 read.1 in
     record {
       figures = tt;
       few = tt;
-      cause = λ tells. sym (ap (answer_for 0) (state_with_head file c.in_ok-read_head.field-0 (c.in_ok-read_head.ensures.head tells (λ is. cc)) ∙ too_many table_grid table_gain c.take.new.self read.0 (drop 32 file) (g.S.Source.left c.loop.src) (g.S.Source.left c.fill-filled.new.src) (length c.loop.raws) c.fill-filled.result.n c.fill-filled.result.end c.fill-filled.new.buf (read.2 tells) (fill.samples tells) (fill.taken tells) taken c.if-figures-gt-MAX_SAMPLES.true));
+      cause = λ tells. sym (ap (answer_for 0) (state_with_head file c.in_ok-read_head.field-0
+          (c.in_ok-read_head.ensures.head tells (λ is. cc)) ∙ too_many table_grid table_gain c.take.new.self read.0 (drop 32 file)
+          (g.S.Source.left c.loop.src) (g.S.Source.left c.fill-filled.new.src) (length c.loop.raws) c.fill-filled.result.n
+          c.fill-filled.result.end c.fill-filled.new.buf (read.2 tells) (fill.samples tells) (fill.taken tells) taken
+          c.if-figures-gt-MAX_SAMPLES.true));
       fault = λ is. absurd (cc);
       later = omega (arith, c.loop.invariant.later, fill.later);
     }
@@ -95,11 +141,21 @@ returns-in-Ended g c =
     let read = c.loop.invariant.read in
     let fill = c.fill-filled.ensures in
     let table = c.table_classifier-classifier.ensures in
-    let taken = by_classifier _ table_grid _ table_gain c.loop.figures c.take.new.self _ table.grid table.gain c.take.ensures.figures read.0 read.1 in
+    let taken = by_classifier _ table_grid _ table_gain c.loop.figures c.take.new.self _ table.grid table.gain c.take.ensures.figures
+    read.0 read.1 in
     record {
-      figures = (_, taken, λ tells. all_read table_grid table_gain c.take.new.self read.0 (drop 32 file) (g.S.Source.left c.loop.src) (g.S.Source.left c.fill-filled.new.src) (length c.loop.raws) c.fill-filled.result.n c.fill-filled.result.end c.fill-filled.new.buf (read.2 tells) (fill.samples tells) (fill.taken tells) taken c.in-Ended.is);
+      figures = (
+        _,
+        taken,
+        λ tells. all_read table_grid table_gain c.take.new.self read.0 (drop 32 file) (g.S.Source.left c.loop.src)
+            (g.S.Source.left c.fill-filled.new.src) (length c.loop.raws) c.fill-filled.result.n c.fill-filled.result.end c.fill-filled.new.buf
+            (read.2 tells) (fill.samples tells) (fill.taken tells) taken c.in-Ended.is,
+      );
       few = c.if-figures-gt-MAX_SAMPLES.false;
-      cause = λ tells. state_with_head file c.in_ok-read_head.field-0 (c.in_ok-read_head.ensures.head tells (λ is. cc)) ∙ sound_end table_grid table_gain c.take.new.self read.0 (drop 32 file) (g.S.Source.left c.loop.src) (g.S.Source.left c.fill-filled.new.src) (length c.loop.raws) c.fill-filled.result.n c.fill-filled.result.end c.fill-filled.new.buf (read.2 tells) (fill.samples tells) (fill.taken tells) taken c.in-Ended.is c.if-figures-gt-MAX_SAMPLES.false;
+      cause = λ tells. state_with_head file c.in_ok-read_head.field-0 (c.in_ok-read_head.ensures.head tells (λ is. cc)) ∙ sound_end
+          table_grid table_gain c.take.new.self read.0 (drop 32 file) (g.S.Source.left c.loop.src) (g.S.Source.left c.fill-filled.new.src)
+          (length c.loop.raws) c.fill-filled.result.n c.fill-filled.result.end c.fill-filled.new.buf (read.2 tells) (fill.samples tells)
+          (fill.taken tells) taken c.in-Ended.is c.if-figures-gt-MAX_SAMPLES.false;
       fault = λ is. absurd (cc);
       later = omega (arith, c.loop.invariant.later, fill.later);
     }
@@ -110,9 +166,14 @@ returns-in-Torn-clause-cause g c =
     let read = c.loop.invariant.read in
     let fill = c.fill-filled.ensures in
     let table = c.table_classifier-classifier.ensures in
-    let taken = by_classifier _ table_grid _ table_gain c.loop.figures c.take.new.self _ table.grid table.gain c.take.ensures.figures read.0 read.1 in
+    let taken = by_classifier _ table_grid _ table_gain c.loop.figures c.take.new.self _ table.grid table.gain c.take.ensures.figures
+    read.0 read.1 in
     λ tells.
-    let answer : Torn 0 c.in-Torn.bytes ≡ answer_for 0 (state_of file) = sym (ap (answer_for 0) (state_with_head file c.in_ok-read_head.field-0 (c.in_ok-read_head.ensures.head tells (λ is. cc)) ∙ torn_end table_grid table_gain c.take.new.self read.0 (drop 32 file) (g.S.Source.left c.loop.src) (g.S.Source.left c.fill-filled.new.src) (length c.loop.raws) c.fill-filled.result.n c.fill-filled.result.end c.fill-filled.new.buf (read.2 tells) (fill.samples tells) (fill.taken tells) taken _ c.in-Torn.is c.if-figures-gt-MAX_SAMPLES.false)) in
+    let answer : Torn 0 c.in-Torn.bytes ≡ answer_for 0 (state_of file) = sym
+    (ap (answer_for 0) (state_with_head file c.in_ok-read_head.field-0 (c.in_ok-read_head.ensures.head tells (λ is. cc)) ∙ torn_end
+    table_grid table_gain c.take.new.self read.0 (drop 32 file) (g.S.Source.left c.loop.src) (g.S.Source.left c.fill-filled.new.src)
+    (length c.loop.raws) c.fill-filled.result.n c.fill-filled.result.end c.fill-filled.new.buf (read.2 tells) (fill.samples tells)
+    (fill.taken tells) taken _ c.in-Torn.is c.if-figures-gt-MAX_SAMPLES.false)) in
     search rules
 
 pub returns-in-Torn-clause-fault : goal.returns-in-Torn-clause-fault

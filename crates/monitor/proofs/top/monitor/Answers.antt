@@ -15,7 +15,8 @@ pub returns-in-Ok-Some-Table-clause-last : goal.returns-in-Ok-Some-Table-clause-
 returns-in-Ok-Some-Table-clause-last g c = λ name told tells some.
     let here = c.in-Ok-Some-Table in
     let words = command_of (map string_bytes c.args.words.now) in
-    let is : words ≡ Some (Table here.file.now) = sym here.ensures.line ∙ ap meaning_of here.field-0-is ∙ ap (λ x. meaning_of (Some x)) here.field-0-0-is in
+    let is : words ≡ Some (Table here.file.now) = sym here.ensures.line ∙ ap meaning_of here.field-0-is ∙ ap (λ x. meaning_of (Some x))
+    here.field-0-0-is in
     table_last words here.file.now name c.told_table.result
     (shown g.C.Source g.T.Site g.K.Station g.O.Sink c.args.config.now c.args.site.now c.args.station.now c.args.out.now)
     (shown g.C.Source g.T.Site g.K.Station g.O.Sink c.args.config.now c.told_table.new.site c.told_table.new.station c.told_table.new.out)
@@ -50,13 +51,15 @@ returns-in-Ok-None-clause-last g c = λ name told tells some.
 
 pub returns-in-Err-clause-table : goal.returns-in-Err-clause-table
 returns-in-Err-clause-table g c = λ file is.
-    inr (nothing_done (outside g.T.Site g.O.Sink c.args.site.now c.args.out.now) c.no_memory.result c.no_memory.ensures.status c.requires.home)
+    inr (nothing_done (outside g.T.Site g.O.Sink c.args.site.now c.args.out.now) c.no_memory.result c.no_memory.ensures.status
+    c.requires.home)
 
 pub returns-in-Err-clause-init : goal.returns-in-Err-clause-init
 returns-in-Err-clause-init g c = λ is.
     init_without_memory (shown g.C.Source g.T.Site g.K.Station g.O.Sink c.args.config.now c.args.site.now c.args.station.now c.args.out.now)
     (shown g.C.Source g.T.Site g.K.Station g.O.Sink c.args.config.now c.args.site.now c.no_memory.new.station c.args.out.now)
-    c.no_memory.result c.no_memory.ensures.status c.no_memory.ensures.told c.no_memory.ensures.last (λ shows. refl) c.requires.home (λ shows. refl)
+    c.no_memory.result c.no_memory.ensures.status c.no_memory.ensures.told c.no_memory.ensures.last (λ shows. refl) c.requires.home
+    (λ shows. refl)
 
 pub returns-in-Ok-Some-Report-clause-report : goal.returns-in-Ok-Some-Report-clause-report
 returns-in-Ok-Some-Report-clause-report g c = λ is.
@@ -68,7 +71,8 @@ returns-in-Ok-Some-Report-clause-report g c = λ is.
       quiet = run.quiet;
       last = λ tells some.
           ends_at (shown g.C.Source g.T.Site g.K.Station g.O.Sink c.args.config.now c.args.site.now c.args.station.now c.args.out.now)
-          (shown g.C.Source g.T.Site g.K.Station g.O.Sink c.report_command.new.config c.args.site.now c.report_command.new.station c.report_command.new.out)
+          (shown g.C.Source g.T.Site g.K.Station g.O.Sink c.report_command.new.config c.args.site.now c.report_command.new.station
+          c.report_command.new.out)
           _ (run.last tells some);
       answer_is = run.answer;
       complete = run.complete;
@@ -80,19 +84,22 @@ returns-in-Ok-Some-Report-clause-report g c = λ is.
 
 pub returns-in-Err-clause-report : goal.returns-in-Err-clause-report
 returns-in-Err-clause-report g c = λ is.
-    report_without_memory (shown g.C.Source g.T.Site g.K.Station g.O.Sink c.args.config.now c.args.site.now c.args.station.now c.args.out.now)
+    report_without_memory (shown g.C.Source g.T.Site g.K.Station g.O.Sink c.args.config.now c.args.site.now c.args.station.now
+    c.args.out.now)
     (shown g.C.Source g.T.Site g.K.Station g.O.Sink c.args.config.now c.args.site.now c.no_memory.new.station c.args.out.now)
     c.no_memory.result c.no_memory.ensures.status c.no_memory.ensures.told c.no_memory.ensures.last refl
 
 pub returns-in-Err-clause-demo : goal.returns-in-Err-clause-demo
 returns-in-Err-clause-demo g c = λ seed samples workers is.
-    demo_without_memory seed samples g.O.Sink.tells (g.O.Sink.written c.args.out.now) (g.O.Sink.faults c.args.out.now) c.no_memory.result c.no_memory.ensures.status
+    demo_without_memory seed samples g.O.Sink.tells (g.O.Sink.written c.args.out.now) (g.O.Sink.faults c.args.out.now) c.no_memory.result
+    c.no_memory.ensures.status
 
 pub returns-in-Ok-Some-Demo-clause-last : goal.returns-in-Ok-Some-Demo-clause-last
 returns-in-Ok-Some-Demo-clause-last g c = λ name told tells some.
     let here = c.in-Ok-Some-Demo in
     let words = command_of (map string_bytes c.args.words.now) in
-    let is : words ≡ Some (Demo here.seed here.samples here.workers) = sym here.ensures.line ∙ ap meaning_of here.field-0-is ∙ ap (λ x. meaning_of (Some x)) here.field-0-0-is in
+    let is : words ≡ Some (Demo here.seed here.samples here.workers) = sym here.ensures.line ∙ ap meaning_of here.field-0-is
+    ∙ ap (λ x. meaning_of (Some x)) here.field-0-0-is in
     demo_last words here.seed here.samples here.workers name c.told_demo.result
     (shown g.C.Source g.T.Site g.K.Station g.O.Sink c.args.config.now c.args.site.now c.args.station.now c.args.out.now)
     (shown g.C.Source g.T.Site g.K.Station g.O.Sink c.args.config.now c.args.site.now c.told_demo.new.station c.told_demo.new.out)
@@ -120,7 +127,8 @@ returns-in-Ok-Some-Count-clause-count g c = λ workers is.
 
 pub returns-in-Err-clause-count : goal.returns-in-Err-clause-count
 returns-in-Err-clause-count g c = λ workers is.
-    count_without_memory (shown g.C.Source g.T.Site g.K.Station g.O.Sink c.args.config.now c.args.site.now c.args.station.now c.args.out.now)
+    count_without_memory (shown g.C.Source g.T.Site g.K.Station g.O.Sink c.args.config.now c.args.site.now c.args.station.now
+    c.args.out.now)
     (shown g.C.Source g.T.Site g.K.Station g.O.Sink c.args.config.now c.args.site.now c.no_memory.new.station c.args.out.now)
     c.no_memory.result c.no_memory.ensures.status (λ tells. g.met.K.Station.only_now tells c.args.station.now)
     c.no_memory.ensures.told c.no_memory.ensures.last refl
@@ -137,7 +145,8 @@ returns-in-Ok-Some-Audit-clause-audit g c = λ is.
       quiet = run.quiet;
       last = λ tells reads some.
           ends_at (shown g.C.Source g.T.Site g.K.Station g.O.Sink c.args.config.now c.args.site.now c.args.station.now c.args.out.now)
-          (shown g.C.Source g.T.Site g.K.Station g.O.Sink c.audit_command.new.config c.audit_command.new.site c.audit_command.new.station c.audit_command.new.out)
+          (shown g.C.Source g.T.Site g.K.Station g.O.Sink c.audit_command.new.config c.audit_command.new.site c.audit_command.new.station
+          c.audit_command.new.out)
           _ (run.last tells reads some);
       named = run.named;
       read = run.read;
@@ -147,7 +156,8 @@ returns-in-Ok-Some-Audit-clause-audit g c = λ is.
 
 pub returns-in-Err-clause-audit : goal.returns-in-Err-clause-audit
 returns-in-Err-clause-audit g c = λ is.
-    audit_without_memory (shown g.C.Source g.T.Site g.K.Station g.O.Sink c.args.config.now c.args.site.now c.args.station.now c.args.out.now)
+    audit_without_memory (shown g.C.Source g.T.Site g.K.Station g.O.Sink c.args.config.now c.args.site.now c.args.station.now
+    c.args.out.now)
     (shown g.C.Source g.T.Site g.K.Station g.O.Sink c.args.config.now c.args.site.now c.no_memory.new.station c.args.out.now)
     c.no_memory.result c.no_memory.ensures.status c.no_memory.ensures.told c.no_memory.ensures.last refl
 
@@ -160,7 +170,8 @@ returns-in-Ok-Some-Repeat-clause-repeat g c = λ is.
       quiet = run.quiet;
       last = λ tells some.
           ends_at (shown g.C.Source g.T.Site g.K.Station g.O.Sink c.args.config.now c.args.site.now c.args.station.now c.args.out.now)
-          (shown g.C.Source g.T.Site g.K.Station g.O.Sink c.repeat_command.new.config c.args.site.now c.repeat_command.new.station c.repeat_command.new.out)
+          (shown g.C.Source g.T.Site g.K.Station g.O.Sink c.repeat_command.new.config c.args.site.now c.repeat_command.new.station
+          c.repeat_command.new.out)
           _ (run.last tells some);
       answer_is = run.answer;
       complete = run.complete;
@@ -172,7 +183,8 @@ returns-in-Ok-Some-Repeat-clause-repeat g c = λ is.
 
 pub returns-in-Err-clause-repeat : goal.returns-in-Err-clause-repeat
 returns-in-Err-clause-repeat g c = λ is.
-    repeat_without_memory (shown g.C.Source g.T.Site g.K.Station g.O.Sink c.args.config.now c.args.site.now c.args.station.now c.args.out.now)
+    repeat_without_memory (shown g.C.Source g.T.Site g.K.Station g.O.Sink c.args.config.now c.args.site.now c.args.station.now
+    c.args.out.now)
     (shown g.C.Source g.T.Site g.K.Station g.O.Sink c.args.config.now c.args.site.now c.no_memory.new.station c.args.out.now)
     c.no_memory.result c.no_memory.ensures.status c.no_memory.ensures.told c.no_memory.ensures.last refl
 
@@ -180,15 +192,18 @@ pub returns-in-Ok-Some-Column-clause-last : goal.returns-in-Ok-Some-Column-claus
 returns-in-Ok-Some-Column-clause-last g c = λ name told tells some.
     let here = c.in-Ok-Some-Column in
     let words = command_of (map string_bytes c.args.words.now) in
-    let is : words ≡ Some (Column here.file.now here.name.now here.id here.period_us) = sym here.ensures.line ∙ ap meaning_of here.field-0-is ∙ ap (λ x. meaning_of (Some x)) here.field-0-0-is in
+    let is : words ≡ Some (Column here.file.now here.name.now here.id here.period_us) = sym here.ensures.line ∙ ap meaning_of
+    here.field-0-is ∙ ap (λ x. meaning_of (Some x)) here.field-0-0-is in
     column_last words here.file.now here.name.now here.id here.period_us name c.told_column.result
     (shown g.C.Source g.T.Site g.K.Station g.O.Sink c.args.config.now c.args.site.now c.args.station.now c.args.out.now)
-    (shown g.C.Source g.T.Site g.K.Station g.O.Sink c.args.config.now c.told_column.new.site c.told_column.new.station c.told_column.new.out)
+    (shown g.C.Source g.T.Site g.K.Station g.O.Sink c.args.config.now c.told_column.new.site c.told_column.new.station
+    c.told_column.new.out)
     is told (c.told_column.ensures.last tells some)
 
 pub returns-in-Err-clause-column : goal.returns-in-Err-clause-column
 returns-in-Err-clause-column g c = λ file name id period is.
-    inr (nothing_done (outside g.T.Site g.O.Sink c.args.site.now c.args.out.now) c.no_memory.result c.no_memory.ensures.status c.requires.home)
+    inr (nothing_done (outside g.T.Site g.O.Sink c.args.site.now c.args.out.now) c.no_memory.result c.no_memory.ensures.status
+    c.requires.home)
 
 pub returns-in-Ok-Some-Sheet-clause-sheet : goal.returns-in-Ok-Some-Sheet-clause-sheet
 returns-in-Ok-Some-Sheet-clause-sheet g c = λ is.
@@ -207,6 +222,7 @@ returns-in-Ok-Some-Sheet-clause-sheet g c = λ is.
 
 pub returns-in-Err-clause-sheet : goal.returns-in-Err-clause-sheet
 returns-in-Err-clause-sheet g c = λ is.
-    sheet_without_memory (shown g.C.Source g.T.Site g.K.Station g.O.Sink c.args.config.now c.args.site.now c.args.station.now c.args.out.now)
+    sheet_without_memory (shown g.C.Source g.T.Site g.K.Station g.O.Sink c.args.config.now c.args.site.now c.args.station.now
+    c.args.out.now)
     (shown g.C.Source g.T.Site g.K.Station g.O.Sink c.args.config.now c.args.site.now c.no_memory.new.station c.args.out.now)
     c.no_memory.result c.no_memory.ensures.status c.no_memory.ensures.told c.no_memory.ensures.last refl

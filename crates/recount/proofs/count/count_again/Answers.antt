@@ -21,5 +21,11 @@ finish-requires-clause-counted g c =
 
 pub returns-clause-counted : goal.returns-clause-counted
 returns-clause-counted g c =
-    let w = c.in_ok-take_samples.ensures.counted in
-    (w.0, (recount_of _ _ _ _ c.new-classifier.ensures.grid c.new-classifier.ensures.gain c.take_samples.new.count c.finish.result w.0 w.1.0 (c.finish.ensures.holds MAX_TOTAL _ _ w.0 w.1.0) c.finish.ensures.classes, (w.1.1.0, w.1.1.1)))
+    let w = c.in_ok-take_samples.ensures.counted in (
+      w.0,
+      (
+        recount_of _ _ _ _ c.new-classifier.ensures.grid c.new-classifier.ensures.gain c.take_samples.new.count c.finish.result w.0 w.1.0
+            (c.finish.ensures.holds MAX_TOTAL _ _ w.0 w.1.0) c.finish.ensures.classes,
+        (w.1.1.0, w.1.1.1),
+      ),
+    )

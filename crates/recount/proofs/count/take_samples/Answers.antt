@@ -12,7 +12,12 @@ loop-count-preserved g c =
     let fill = c.fill-filled.ensures in
     let inside : c.fill-filled.result.n ≤ length c.fill-filled.new.buf = omega (arith, fill.within, fill.length) in
     record {
-      read = (_, c.take.ensures.counted MAX_TOTAL read.0 read.1, λ tells. more_read _ c.fill-filled.result.n c.fill-filled.new.buf _ _ _ _ read.0 _ (read.2 tells) (fill.samples tells) (fill.taken tells) inside c.in-More.is);
+      read = (
+        _,
+        c.take.ensures.counted MAX_TOTAL read.0 read.1,
+        λ tells. more_read _ c.fill-filled.result.n c.fill-filled.new.buf _ _ _ _
+            read.0 _ (read.2 tells) (fill.samples tells) (fill.taken tells) inside c.in-More.is,
+      );
       few = search rules;
       later = omega (arith, c.loop-count.invariant.later, fill.later);
       raws = search rules;

@@ -13,7 +13,8 @@ returns-clause-ok g c = λ tells gain w s.
     let text = c.bytes.ensures ∙ (ap (λ (p : PageValue). p.bytes) c.repeat_text.ensures
     ∙ count_is c.of.new.self grid c.args.name.now (repeating_cycles (history grid gain w)) (c.of.ensures.grid ∙ c.requires.grid)
     (omega (arith, c.of.ensures.rules.limits.classes_from)) (c.of.ensures.stands gain w s)) in
-    subst (λ (t : List ℕ). OnOk c.put.result (g.O.Sink.written c.put.new.self ≡ g.O.Sink.written c.args.out.now ++ t)) text (c.put.ensures.ok tells)
+    subst (λ (t : List ℕ). OnOk c.put.result (g.O.Sink.written c.put.new.self ≡ g.O.Sink.written c.args.out.now ++ t)) text
+    (c.put.ensures.ok tells)
 
 pub returns-clause-failed : goal.returns-clause-failed
 returns-clause-failed g c = λ tells gain w s.

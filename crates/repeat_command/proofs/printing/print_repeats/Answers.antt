@@ -17,7 +17,8 @@ print_repeat-requires-clause-name g c =
     (short_name (name_of c.args.conf.now c.loop-gauge.gauge) (c.requires.conf.names c.loop-gauge.gauge known))
 
 pub print_repeat-requires-clause-grid : goal.print_repeat-requires-clause-grid
-print_repeat-requires-clause-grid g c = c.loop-gauge.invariant.grid ∙ sym (c.held.ensures.grid ∙ ap (λ (s : Setup). s.grid) c.requires.setup)
+print_repeat-requires-clause-grid g c =
+    c.loop-gauge.invariant.grid ∙ sym (c.held.ensures.grid ∙ ap (λ (s : Setup). s.grid) c.requires.setup)
 
 pub loop-gauge-init : goal.loop-gauge-init
 loop-gauge-init g c = record {

@@ -37,7 +37,8 @@ loop-n-preserved c =
     let h = few c.args.segment.now c.args.lo (c.args.lo + 1 + i) _ c.requires.rules e in
     record {
       hi = omega (arith, v.hi);
-      added = row_more held c.args.tally.now.cells c.loop-n.tally.cells c.add.new.self.cells c.args.lo c.loop-n.hi _ (e ∙ ap (count_of held c.args.lo) (omega (arith, v.hi))) v.added c.add.ensures.added;
+      added = row_more held c.args.tally.now.cells c.loop-n.tally.cells c.add.new.self.cells c.args.lo c.loop-n.hi _
+          (e ∙ ap (count_of held c.args.lo) (omega (arith, v.hi))) v.added c.add.ensures.added;
       total = omega (arith, h, v.total, c.add.ensures.total);
       classes = c.add.ensures.classes ∙ v.classes;
       room = c.add.ensures.room ∙ v.room;

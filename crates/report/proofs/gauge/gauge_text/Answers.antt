@@ -11,7 +11,11 @@ pub push_gauge-requires : goal.push_gauge-requires
 push_gauge-requires c =
     let fewer : c.args.seg.now.grid.classes ≤ c.clear.new.self.classes = search rules in
     let is = c.grid-grid.ensures.rules in
-    record { room = gauge_text-fits c.clear.new.self c.args.seg.now.grid c.args.name.now (figures_of c.args.seg.now) (ap (λ (p : PageValue). p.bytes) c.clear.ensures.value) c.clear.ensures.room fewer is.over.limits (few_figures c.args.seg.now is) c.requires.name }
+    record {
+      room = gauge_text-fits c.clear.new.self c.args.seg.now.grid c.args.name.now (figures_of c.args.seg.now)
+          (ap (λ (p : PageValue). p.bytes) c.clear.ensures.value) c.clear.ensures.room fewer is.over.limits (few_figures c.args.seg.now is)
+          c.requires.name;
+    }
 
 pub returns-clause-stands : goal.returns-clause-stands
 returns-clause-stands c = λ gain w s.
@@ -19,4 +23,5 @@ returns-clause-stands c = λ gain w s.
     let page = c.args.page.now in
     let is = c.grid-grid.ensures.rules in
     let own : c.push_gauge.new.page ≡ record page { bytes = gauge_text v.grid c.args.name.now (figures_of v) } = search rules in
-    own ∙ ap (λ (text : List ℕ). record page { bytes = text }) (gauge_text-same v.grid (figures_of v) (figures v.grid gain w) (figures_stand v gain w s is) is.over.limits.classes_from c.args.name.now)
+    own ∙ ap (λ (text : List ℕ). record page { bytes = text }) (gauge_text-same v.grid (figures_of v) (figures v.grid gain w)
+    (figures_stand v gain w s is) is.over.limits.classes_from c.args.name.now)

@@ -13,7 +13,8 @@ push_range_line-requires c =
     let k = c.loop-k.k - 1 in
     let some : 1 ≤ k = search rules in
     let width : c.from-width.result ≡ v.grid.w2 = search rules in
-    let line = same_line c.from.result c.from-width.result c.ranges-in-loop-k.result k v.grid.w2 ((figures_of v).ranges k) c.from.ensures width c.ranges-in-loop-k.ensures.value in
+    let line = same_line c.from.result c.from-width.result c.ranges-in-loop-k.result k v.grid.w2 ((figures_of v).ranges k) c.from.ensures
+    width c.ranges-in-loop-k.ensures.value in
     record { room = range-fits _ _ v.grid.w2 (figures_of v).ranges k _ _ some line c.loop-k.invariant c.requires.room }
 
 pub loop-k-preserved : goal.loop-k-preserved
@@ -22,5 +23,6 @@ loop-k-preserved c =
     let k = c.loop-k.k - 1 in
     let some : 1 ≤ k = search rules in
     let width : c.from-width.result ≡ v.grid.w2 = search rules in
-    let line = same_line c.from.result c.from-width.result c.ranges-in-loop-k.result k v.grid.w2 ((figures_of v).ranges k) c.from.ensures width c.ranges-in-loop-k.ensures.value in
+    let line = same_line c.from.result c.from-width.result c.ranges-in-loop-k.result k v.grid.w2 ((figures_of v).ranges k) c.from.ensures
+    width c.ranges-in-loop-k.ensures.value in
     range-step _ _ _ v.grid.w2 (figures_of v).ranges k _ _ some line c.push_range_line.ensures c.loop-k.invariant

@@ -7,6 +7,7 @@ use Rattle.report.proofs.gauge.push_rows.Given as goal
 
 abbrev pub invariant-loop-lo : goal.invariant-loop-lo
 invariant-loop-lo l = record {
-  text : Leaves l.fn.page l.page (lines_from (spec.row_lines (figures_of l.seg).pairs l.seg.grid.classes) l.lo (l.seg.grid.classes - l.lo)) (lines_from (spec.row_lines (figures_of l.seg).pairs l.seg.grid.classes) 0 l.seg.grid.classes);
+  text : Leaves l.fn.page l.page (lines_from (spec.row_lines (figures_of l.seg).pairs l.seg.grid.classes) l.lo (l.seg.grid.classes - l.lo))
+      (lines_from (spec.row_lines (figures_of l.seg).pairs l.seg.grid.classes) 0 l.seg.grid.classes);
   places : length l.row ≡ l.seg.grid.classes;
 }

@@ -7,7 +7,8 @@ overflow_add-cycles c =
     let cells = c.args.rep.now.tally.cells in
     omega (
       arith,
-      one_more cells c.args.k c.loop-lo.lo c.loop-lo.cycles c.cycles-cycles.result (omega (arith, c.grid.ensures.rules.few)) c.loop-lo.invariant
+      one_more cells c.args.k c.loop-lo.lo c.loop-lo.cycles c.cycles-cycles.result (omega (arith, c.grid.ensures.rules.few))
+          c.loop-lo.invariant
           c.cycles-cycles.ensures,
     )
 

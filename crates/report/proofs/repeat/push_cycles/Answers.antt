@@ -14,8 +14,12 @@ push_range_line-requires c =
     let k = c.loop-k.k - 1 in
     let some : 1 ≤ k = search rules in
     let width : c.from-width.result ≡ v.grid.w2 = search rules in
-    let line = same_line c.from.result c.from-width.result c.doubled_at.result k v.grid.w2 (doubled_at (count_of v.tally.cells) v.grid.classes k) c.from.ensures width c.doubled_at.ensures in
-    record { room = range-fits _ _ v.grid.w2 (doubled_at (count_of v.tally.cells) v.grid.classes) k _ _ some line c.loop-k.invariant c.requires.room }
+    let line = same_line c.from.result c.from-width.result c.doubled_at.result k v.grid.w2
+    (doubled_at (count_of v.tally.cells) v.grid.classes k) c.from.ensures width c.doubled_at.ensures in
+    record {
+      room = range-fits _ _ v.grid.w2 (doubled_at (count_of v.tally.cells) v.grid.classes) k _ _ some line c.loop-k.invariant
+          c.requires.room;
+    }
 
 pub loop-k-preserved : goal.loop-k-preserved
 loop-k-preserved c =
@@ -23,5 +27,7 @@ loop-k-preserved c =
     let k = c.loop-k.k - 1 in
     let some : 1 ≤ k = search rules in
     let width : c.from-width.result ≡ v.grid.w2 = search rules in
-    let line = same_line c.from.result c.from-width.result c.doubled_at.result k v.grid.w2 (doubled_at (count_of v.tally.cells) v.grid.classes k) c.from.ensures width c.doubled_at.ensures in
-    range-step _ _ _ v.grid.w2 (doubled_at (count_of v.tally.cells) v.grid.classes) k _ _ some line c.push_range_line.ensures c.loop-k.invariant
+    let line = same_line c.from.result c.from-width.result c.doubled_at.result k v.grid.w2
+    (doubled_at (count_of v.tally.cells) v.grid.classes k) c.from.ensures width c.doubled_at.ensures in
+    range-step _ _ _ v.grid.w2 (doubled_at (count_of v.tally.cells) v.grid.classes) k _ _ some line c.push_range_line.ensures
+    c.loop-k.invariant

@@ -7,4 +7,6 @@ use Rattle.report.proofs.table.table_text.Goals as goal
 pub push_table-requires-clause-room : goal.push_table-requires-clause-room
 push_table-requires-clause-room c =
     let fewer : c.args.grid.now.classes ≤ c.clear.new.self.classes = search rules in
-    table_text-fits c.clear.new.self c.args.grid.now (counts_in c.args.samples) (λ (k : ℕ). slice_index c.args.halves.now k) (ap (λ (p : PageValue). p.bytes) c.clear.ensures.value) c.clear.ensures.room fewer c.classes-classes.ensures.limits c.requires.numbers c.requires.halves
+    table_text-fits c.clear.new.self c.args.grid.now (counts_in c.args.samples) (λ (k : ℕ). slice_index c.args.halves.now k)
+    (ap (λ (p : PageValue). p.bytes) c.clear.ensures.value) c.clear.ensures.room fewer c.classes-classes.ensures.limits
+    c.requires.numbers c.requires.halves

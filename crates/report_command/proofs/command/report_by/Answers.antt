@@ -48,7 +48,8 @@ pub returns-in-Ok-resume-clause-answer : goal.returns-in-Ok-resume-clause-answer
 returns-in-Ok-resume-clause-answer g c = λ tells.
     let k = g.K.Station in
     printed_answer c.args.conf.now (k.seen c.args.station.now) c.print_held.result c.print_held.ensures.kind
-    (reads_as c.args.conf.now.setup c.in-Ok-resume.store (k.seen c.resume.new.station) (k.seen c.args.station.now) (k.leaves c.resume.new.station)
+    (reads_as c.args.conf.now.setup c.in-Ok-resume.store (k.seen c.resume.new.station) (k.seen c.args.station.now)
+    (k.leaves c.resume.new.station)
     c.in-Ok-resume.ensures.setup (c.in-Ok-resume.ensures.on tells) (c.resume.ensures.quiet tells).seen_same)
 
 pub returns-in-Ok-resume-clause-complete : goal.returns-in-Ok-resume-clause-complete
@@ -72,7 +73,8 @@ returns-clause-kept g c = λ writes tells head bodies ends of reads.
 pub returns-clause-complete : goal.returns-clause-complete
 returns-clause-complete g c = λ tells r station out.
     subst (λ (s : Status). (s ≡ Done) ⊎ (s ≡ OutOfMemory)) (sym c.status_of.ensures)
-    (refused_complete StoreValue c.in-Err.fault _ _ _ (c.in-Err.ensures.unharmed tells r.head r.bodies r.ends r.of_setup r.reads) c.in-Err.ensures.disk
+    (refused_complete StoreValue c.in-Err.fault _ _ _ (c.in-Err.ensures.unharmed tells r.head r.bodies r.ends r.of_setup r.reads)
+    c.in-Err.ensures.disk
     (omega arith) station)
 
 -- which answers there are

@@ -24,21 +24,25 @@ returns-in_default-clause-kept g c = λ writes tells reads conf is head bodies e
 pub returns-clause-kept : goal.returns-clause-kept
 returns-clause-kept g c = λ writes tells reads conf is head bodies ends of read.
     let old = g.O.Sink.written c.args.out.now in
-    kept_unprinted c.in-Err.status conf bodies old (unread_prints c.in-Err.status c.in-Err.ensures.refusal conf (kept_figures conf [] bodies) old)
+    kept_unprinted c.in-Err.status conf bodies old (unread_prints c.in-Err.status c.in-Err.ensures.refusal conf
+    (kept_figures conf [] bodies) old)
 
 -- one that is sound
 pub returns-in-Ok-read_config-clause-prints : goal.returns-in-Ok-read_config-clause-prints
 returns-in-Ok-read_config-clause-prints g c = λ writes tells reads conf is w n h.
     let written = g.O.Sink.written in
-    let same = ok_same (config_of_bytes (g.C.Source.left c.args.config.now)) c.in-Ok-read_config.conf conf (c.in-Ok-read_config.ensures.meaning reads) is in
-    subst (λ (x : Config). Holds x.setup w n (g.K.Station.seen c.args.station.now) → Prints c.report_by-status.result x (figures_by x (held_of w n))
+    let same = ok_same (config_of_bytes (g.C.Source.left c.args.config.now)) c.in-Ok-read_config.conf conf
+    (c.in-Ok-read_config.ensures.meaning reads) is in
+    subst (λ (x : Config). Holds x.setup w n (g.K.Station.seen c.args.station.now) → Prints c.report_by-status.result x
+    (figures_by x (held_of w n))
     (written c.args.out.now) (written c.report_by-status.new.out)) same
     (λ held. c.report_by-status.ensures.prints writes tells w n held) h
 
 pub returns-in-Ok-read_config-clause-kept : goal.returns-in-Ok-read_config-clause-kept
 returns-in-Ok-read_config-clause-kept g c = λ writes tells reads conf is head bodies ends of read.
     let written = g.O.Sink.written in
-    let same = ok_same (config_of_bytes (g.C.Source.left c.args.config.now)) c.in-Ok-read_config.conf conf (c.in-Ok-read_config.ensures.meaning reads) is in
+    let same = ok_same (config_of_bytes (g.C.Source.left c.args.config.now)) c.in-Ok-read_config.conf conf
+    (c.in-Ok-read_config.ensures.meaning reads) is in
     subst (λ (x : Config). ◌≡◌ {A = Setup} head.setup x.setup → PrintsKept c.report_by-status.result x bodies
     (written c.args.out.now) (written c.report_by-status.new.out)) same
     (λ same_setup. c.report_by-status.ensures.kept writes tells head bodies ends same_setup read) of
@@ -64,7 +68,8 @@ returns-in-Ok-read_config-clause-answer g c = λ tells reads.
 
 pub returns-in-Ok-read_config-clause-complete : goal.returns-in-Ok-read_config-clause-complete
 returns-in-Ok-read_config-clause-complete g c = λ tells reads sound config station out.
-    let same = ok_same (config_of_bytes (g.C.Source.left c.args.config.now)) sound.0 c.in-Ok-read_config.conf sound.1 (c.in-Ok-read_config.ensures.meaning reads) in
+    let same = ok_same (config_of_bytes (g.C.Source.left c.args.config.now)) sound.0 c.in-Ok-read_config.conf sound.1
+    (c.in-Ok-read_config.ensures.meaning reads) in
     c.report_by-status.ensures.complete tells (subst (λ (x : Config). ReadsAs x.setup (g.K.Station.seen c.args.station.now)) same sound.2)
     (λ rose. station (rose_more _ _ _ rose c.tell_fault.ensures.later)) out
 

@@ -30,7 +30,8 @@ room_by s t len n i m e f k w (inr h) = inr (omega arith)
 pub push-requires-clause-room : goal.push-requires-clause-room
 push-requires-clause-room c =
     let v = c.loop-level.invariant in
-    room_by c.loop-level.tally c.args.tally.now _ _ c.loop-level.level-index _ v.tally_classes v.tally_room v.cells c.loop-level-test.true c.requires.room
+    room_by c.loop-level.tally c.args.tally.now _ _ c.loop-level.level-index _ v.tally_classes v.tally_room v.cells c.loop-level-test.true
+    c.requires.room
 
 pub loop-level-preserved : goal.loop-level-preserved
 loop-level-preserved c =

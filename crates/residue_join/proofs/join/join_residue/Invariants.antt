@@ -13,7 +13,8 @@ invariant-loop-level l = record {
   lengths : 2 * total_of l.tally.cells + length l.left.residue ≡ 2 * total_of l.initial.tally.cells + length
       (points (l.initial.left.residue ++ take l.level-index l.right));
   room : total_of l.tally.cells + length l.left.residue ≤ total_of l.initial.tally.cells + length l.initial.left.residue + l.level-index;
-  cells : 2 * length l.tally.cells + length l.left.residue ≤ 2 * length l.initial.tally.cells + length l.initial.left.residue + l.level-index;
+  cells : 2 * length l.tally.cells + length l.left.residue ≤ 2 * length l.initial.tally.cells + length l.initial.left.residue
+      + l.level-index;
   tally_room : l.tally.room ≡ l.initial.tally.room;
   classes : l.left.classes ≡ l.initial.left.classes;
   tally_classes : l.tally.classes ≡ l.initial.tally.classes;

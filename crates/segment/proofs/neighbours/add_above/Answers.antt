@@ -17,10 +17,22 @@ loop-i-preserved c =
     let new : c.add_if.new.table ≡ (if min (get_or l (i - 1) 0) (get_or l i 0) == c.args.lo then raise out place else out) = search rules in
     let next : i + 1 - 1 ≡ i = omega arith in
     record {
-      pairs = λ hi. omega (arith, ap (λ j. half_units_of_pair c.args.lo hi (neighbours (drop j l))) next, v.pairs hi, above_step out l i c.args.lo hi one c.loop-i-test.true w, ap (λ (t : List ℕ). get_or t hi 0) new);
-      few = λ k. omega (arith, v.few k, raised_few out place k (min (get_or l (i - 1) 0) (get_or l i 0) == c.args.lo) w, ap (λ (t : List ℕ). get_or t k 0) new);
+      pairs = λ hi. omega (
+        arith,
+        ap (λ j. half_units_of_pair c.args.lo hi (neighbours (drop j l))) next,
+        v.pairs hi,
+        above_step out l i c.args.lo hi one c.loop-i-test.true w,
+        ap (λ (t : List ℕ). get_or t hi 0) new,
+      );
+      few = λ k. omega (
+        arith,
+        v.few k,
+        raised_few out place k (min (get_or l (i - 1) 0) (get_or l i 0) == c.args.lo) w,
+        ap (λ (t : List ℕ). get_or t k 0) new,
+      );
       length = search rules;
     }
 
 pub returns-clause-pairs : goal.returns-clause-pairs
-returns-clause-pairs c = λ hi. omega (arith, c.loop-i.invariant.pairs hi, pairs_end c.args.residue.now (c.loop-i.i - 1) (omega arith) c.args.lo hi)
+returns-clause-pairs c =
+    λ hi. omega (arith, c.loop-i.invariant.pairs hi, pairs_end c.args.residue.now (c.loop-i.i - 1) (omega arith) c.args.lo hi)

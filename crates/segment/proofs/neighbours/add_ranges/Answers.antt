@@ -19,7 +19,14 @@ loop-i-preserved c =
     let new : c.raise.new.table ≡ raise out c.from.result = c.raise.ensures in
     let next : i + 1 - 1 ≡ i = omega arith in
     record {
-      ranges = λ k. omega (arith, ap (λ j. half_units_at_range k (neighbours (drop j l))) next, v.ranges k, range_step out l i c.from.result k one c.loop-i-test.true e w, ap (λ (t : List ℕ). get_or t k 0) new);
+      ranges = λ k. omega (
+        arith,
+        ap (λ j. half_units_at_range k (neighbours (drop j l))) next,
+        v.ranges k,
+        range_step out l i c.from.result
+            k one c.loop-i-test.true e w,
+        ap (λ (t : List ℕ). get_or t k 0) new,
+      );
       few = λ k. omega (arith, v.few k, raised_few out c.from.result k true w, ap (λ (t : List ℕ). get_or t k 0) new);
       length = search rules;
     }

@@ -5,7 +5,8 @@ use Rattle.segment.proofs.neighbours.add_ranges.Given as goal
 
 abbrev pub invariant-loop-i : goal.invariant-loop-i
 invariant-loop-i l = record {
-  ranges : (k : ℕ) → get_or l.out k 0 + half_units_at_range k (neighbours (drop (l.i - 1) l.residue)) ≡ get_or l.initial.out k 0 + half_units_at_range k (neighbours l.residue);
+  ranges : (k : ℕ) → get_or l.out k 0 + half_units_at_range k (neighbours (drop (l.i - 1) l.residue)) ≡ get_or l.initial.out k 0 +
+      half_units_at_range k (neighbours l.residue);
   few : (k : ℕ) → get_or l.out k 0 + 1 ≤ get_or l.initial.out k 0 + l.i;
   length : length l.out ≡ length l.initial.out;
 }

@@ -23,7 +23,16 @@ loop-preserved g c =
           let split = was.read tells in
           subst (λ (w : List ℤ). Splits body w after) (sym items)
           (split.0 ∙ (ap (λ (l : List ℤ). old ++ l) piece.0 ∙ sym (append_assoc old (take n buf) (samples after))), piece.1 ∙ split.1);
-      turns = omega (arith, was.turns, ap length items, length-append old (take n buf), length-take n buf, fill.full.0 c.in-More.is, fill.length, was.piece);
+      turns = omega (
+        arith,
+        was.turns,
+        ap length items,
+        length-append old (take n buf),
+        length-take n buf,
+        fill.full.0 c.in-More.is,
+        fill.length,
+        was.piece,
+      );
       few = omega (arith, c.len.ensures, c.if-len-gt-MAX_SAMPLES.false);
       later = omega (arith, was.later, fill.later);
       piece = fill.length ∙ was.piece;

@@ -17,9 +17,12 @@ returns-in-Err-clause-refused g c = λ tells.
     let files = g.T.Site.files c.args.site.now in
     let here = c.index-gauges-number.result in
     let lt : c.loop-number.number < length gauges = omega (arith, c.loop-number-test.true, ap length c.as_slice-gauges.ensures) in
-    let is : here ≡ get_or gauges c.loop-number.number here = c.index-gauges-number.is ∙ ap (λ (l : List Gauge). get_or l c.loop-number.number here) c.as_slice-gauges.ensures in
-    refused gauges files c.loop-number.number here lt is (answer_over c.args.conf.now files) c.in-Err.status (was.sound tells) c.in-Err.ensures.kind
-    (subst (λ (f : Files). MayAnswerFor c.loop-number.number c.in-Err.status (file_state (f here.file))) (was.files tells) (c.in-Err.ensures.refused tells))
+    let is : here ≡ get_or gauges c.loop-number.number here = c.index-gauges-number.is
+    ∙ ap (λ (l : List Gauge). get_or l c.loop-number.number here) c.as_slice-gauges.ensures in
+    refused gauges files c.loop-number.number here lt is (answer_over c.args.conf.now files) c.in-Err.status (was.sound tells)
+    c.in-Err.ensures.kind
+    (subst (λ (f : Files). MayAnswerFor c.loop-number.number c.in-Err.status (file_state (f here.file))) (was.files tells)
+    (c.in-Err.ensures.refused tells))
 
 pub loop-number-preserved : goal.loop-number-preserved
 loop-number-preserved g c =
@@ -31,9 +34,12 @@ loop-number-preserved g c =
     let samples = c.in-Ok-read_recording.samples in
     let old = c.loop-number.recordings.items in
     let lt : c.loop-number.number < length gauges = omega (arith, c.loop-number-test.true, ap length c.as_slice-gauges.ensures) in
-    let is : here ≡ get_or gauges c.loop-number.number here = c.index-gauges-number.is ∙ ap (λ (l : List Gauge). get_or l c.loop-number.number here) c.as_slice-gauges.ensures in
-    let seen : map (λ (w : Vec ℤ Global). w.items) c.push_reserved.new.self.items ≡ map (λ (w : Vec ℤ Global). w.items) old ++ samples.items ∷ [] =
-    ap (map (λ (w : Vec ℤ Global). w.items)) c.push_reserved.ensures.items ∙ map-append (λ (w : Vec ℤ Global). w.items) old (samples ∷ []) in
+    let is : here ≡ get_or gauges c.loop-number.number here = c.index-gauges-number.is
+    ∙ ap (λ (l : List Gauge). get_or l c.loop-number.number here) c.as_slice-gauges.ensures in
+    let seen : map (λ (w : Vec ℤ Global). w.items) c.push_reserved.new.self.items ≡ map (λ (w : Vec ℤ Global). w.items) old ++
+    samples.items ∷ [] =
+    ap (map (λ (w : Vec ℤ Global). w.items)) c.push_reserved.ensures.items ∙ map-append (λ (w : Vec ℤ Global). w.items) old
+    (samples ∷ []) in
     record {
       read = λ tells. ap (λ (l : List (List ℤ)). l ++ recordings_of (drop (c.loop-number.number + 1) gauges) files) seen
           ∙ read_more gauges files c.loop-number.number here lt is (map (λ (w : Vec ℤ Global). w.items) old) samples.items (was.read tells)
@@ -50,4 +56,5 @@ loop-number-preserved g c =
 pub returns-clause-sound : goal.returns-clause-sound
 returns-clause-sound g c = λ tells.
     sound_all c.args.conf.now.gauges (g.T.Site.files c.args.site.now) c.loop-number.number _
-    (omega (arith, c.loop-number-test.false, c.loop-number.auto.number-end, ap length c.as_slice-gauges.ensures)) (c.loop-number.invariant.sound tells)
+    (omega (arith, c.loop-number-test.false, c.loop-number.auto.number-end, ap length c.as_slice-gauges.ensures))
+    (c.loop-number.invariant.sound tells)

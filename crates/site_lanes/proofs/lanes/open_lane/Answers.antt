@@ -9,12 +9,18 @@ use Rattle.site_lanes.proofs.lanes.open_lane.Goals as goal
 
 pub returns-in-Ok-open_recording-clause-answer : goal.returns-in-Ok-open_recording-clause-answer
 returns-in-Ok-open_recording-clause-answer g c = λ shows.
-    gauge_fault c.args.conf.now c.args.store.now.head.heads (slice_index (ends_of c.args.store.now.held)) (g.T.Site.files c.args.site.now) c.args.gauge (omega (arith, c.requires.known, c.requires.heads)) _ _ (c.in-Ok.ensures.file shows)
-    (file_is c.args.conf.now c.args.gauge _ _ _ c.requires.known c.as_slice.ensures c.as_str-name.ensures) c.as_slice-2.result.now _ _ (c.as_slice-2.ensures ∙ ap (λ (h : HeadValue). h.heads) c.head.ensures)
-    (ap (λ (x : Name). x.to) c.name-held.ensures.value ∙ c.held.ensures.end) _ (c.in-Ok-open_recording.ensures.answer (c.in-Ok.ensures.source_tells shows))
+    gauge_fault c.args.conf.now c.args.store.now.head.heads (slice_index (ends_of c.args.store.now.held)) (g.T.Site.files c.args.site.now)
+    c.args.gauge (omega (arith, c.requires.known, c.requires.heads)) _ _ (c.in-Ok.ensures.file shows)
+    (file_is c.args.conf.now c.args.gauge _ _ _ c.requires.known c.as_slice.ensures c.as_str-name.ensures) c.as_slice-2.result.now _ _
+    (c.as_slice-2.ensures ∙ ap (λ (h : HeadValue). h.heads) c.head.ensures)
+    (ap (λ (x : Name). x.to) c.name-held.ensures.value ∙ c.held.ensures.end) _
+    (c.in-Ok-open_recording.ensures.answer (c.in-Ok.ensures.source_tells shows))
 
 pub returns-in-Err-open_recording-clause-answer : goal.returns-in-Err-open_recording-clause-answer
 returns-in-Err-open_recording-clause-answer g c = λ shows.
-    gauge_refused c.args.conf.now c.args.store.now.head.heads (slice_index (ends_of c.args.store.now.held)) (g.T.Site.files c.args.site.now) c.args.gauge (omega (arith, c.requires.known, c.requires.heads)) _ _ (c.in-Ok.ensures.file shows)
-    (file_is c.args.conf.now c.args.gauge _ _ _ c.requires.known c.as_slice.ensures c.as_str-name.ensures) c.as_slice-2.result.now _ _ (c.as_slice-2.ensures ∙ ap (λ (h : HeadValue). h.heads) c.head.ensures)
-    (ap (λ (x : Name). x.to) c.name-held.ensures.value ∙ c.held.ensures.end) (Lane g.row.T-Src.Denot) c.in-Err-open_recording.fault _ c.status_of.ensures (c.in-Err-open_recording.ensures.answer (c.in-Ok.ensures.source_tells shows))
+    gauge_refused c.args.conf.now c.args.store.now.head.heads (slice_index (ends_of c.args.store.now.held)) (g.T.Site.files c.args.site.now)
+    c.args.gauge (omega (arith, c.requires.known, c.requires.heads)) _ _ (c.in-Ok.ensures.file shows)
+    (file_is c.args.conf.now c.args.gauge _ _ _ c.requires.known c.as_slice.ensures c.as_str-name.ensures) c.as_slice-2.result.now _ _
+    (c.as_slice-2.ensures ∙ ap (λ (h : HeadValue). h.heads) c.head.ensures)
+    (ap (λ (x : Name). x.to) c.name-held.ensures.value ∙ c.held.ensures.end) (Lane g.row.T-Src.Denot) c.in-Err-open_recording.fault _
+    c.status_of.ensures (c.in-Err-open_recording.ensures.answer (c.in-Ok.ensures.source_tells shows))

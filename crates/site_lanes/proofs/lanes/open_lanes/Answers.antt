@@ -16,8 +16,10 @@ pub returns-in-Err-clause-answer : goal.returns-in-Err-clause-answer
 returns-in-Err-clause-answer g c = λ shows.
     let was = c.loop-gauge.invariant in
     let n = slice_index (ends_of c.args.store.now.held) in
-    open_refused (Lane g.row.T-Src.Denot) c.args.conf.now c.args.store.now.head.heads n (g.T.Site.files c.args.site.now) c.loop-gauge.gauge (omega (arith, ap length c.as_slice-gauge-end.ensures)) (was.sound shows) c.in-Err.status
-    (subst (λ (f : Files). GaugeAnswers {A = Lane g.row.T-Src.Denot} c.args.conf.now c.args.store.now.head.heads n f c.loop-gauge.gauge (Err c.in-Err.status)) (was.files shows) (c.in-Err.ensures.answer shows))
+    open_refused (Lane g.row.T-Src.Denot) c.args.conf.now c.args.store.now.head.heads n (g.T.Site.files c.args.site.now) c.loop-gauge.gauge
+    (omega (arith, ap length c.as_slice-gauge-end.ensures)) (was.sound shows) c.in-Err.status
+    (subst (λ (f : Files). GaugeAnswers {A = Lane g.row.T-Src.Denot} c.args.conf.now c.args.store.now.head.heads n f c.loop-gauge.gauge
+    (Err c.in-Err.status)) (was.files shows) (c.in-Err.ensures.answer shows))
 
 pub loop-gauge-preserved : goal.loop-gauge-preserved
 loop-gauge-preserved g c =
@@ -34,17 +36,24 @@ loop-gauge-preserved g c =
       out = omega (arith, now.one_more, was.out, c.push_reserved.ensures.len);
       many = omega (arith, was.many, c.push_reserved.ensures.len);
       room = c.push_reserved.ensures.capacity ∙ was.room;
-      sources = each_more (λ (k : ℕ) (x : Lane g.row.T-Src.Denot). HasSource x) old more l c.loop-gauge.gauge is long was.sources now.source;
+      sources = each_more (λ (k : ℕ) (x : Lane g.row.T-Src.Denot). HasSource x) old more l c.loop-gauge.gauge is long
+          was.sources now.source;
       new = each_more (λ (k : ℕ) (x : Lane g.row.T-Src.Denot). x.end ≡ More) old more l c.loop-gauge.gauge is long was.new now.new;
-      held = each_more (λ (k : ℕ) (x : Lane g.row.T-Src.Denot). CanRound k x × (n k ≡ x.at)) old more l c.loop-gauge.gauge is long was.held now.held;
+      held = each_more (λ (k : ℕ) (x : Lane g.row.T-Src.Denot). CanRound k x × (n k ≡ x.at)) old more l c.loop-gauge.gauge is long
+          was.held now.held;
       source_tells = λ shows some. now.source_tells shows;
-      lanes = λ shows. each_more (λ (k : ℕ) (x : Lane g.row.T-Src.Denot). IsLane g.T.Src.Source.tells g.T.Src.Source.left r k x) old more l c.loop-gauge.gauge is long (was.lanes shows)
-          (subst (λ (f : Files). IsLane g.T.Src.Source.tells g.T.Src.Source.left (recorded c.args.conf.now f) c.loop-gauge.gauge l) (was.files shows) (now.lane shows));
-      sound = λ shows. all_more_opened c.args.conf.now c.args.store.now.head.heads n (g.T.Site.files c.args.site.now) c.loop-gauge.gauge (was.sound shows)
-          (subst (λ (f : Files). FaultOf c.args.conf.now c.args.store.now.head.heads n f c.loop-gauge.gauge None) (was.files shows) (now.answer shows));
+      lanes = λ shows. each_more (λ (k : ℕ) (x : Lane g.row.T-Src.Denot). IsLane g.T.Src.Source.tells g.T.Src.Source.left r k x) old more l
+          c.loop-gauge.gauge is long (was.lanes shows)
+          (subst (λ (f : Files). IsLane g.T.Src.Source.tells g.T.Src.Source.left (recorded c.args.conf.now f) c.loop-gauge.gauge l)
+          (was.files shows) (now.lane shows));
+      sound = λ shows. all_more_opened c.args.conf.now c.args.store.now.head.heads n (g.T.Site.files c.args.site.now) c.loop-gauge.gauge
+          (was.sound shows)
+          (subst (λ (f : Files). FaultOf c.args.conf.now c.args.store.now.head.heads n f c.loop-gauge.gauge None) (was.files shows)
+          (now.answer shows));
       files = λ shows. c.open_lane.ensures.files shows ∙ was.files shows;
       later = omega (arith, was.later, c.open_lane.ensures.later);
     }
 
 pub returns-clause-answer : goal.returns-clause-answer
-returns-clause-answer g c = λ shows h lt. c.loop-gauge.invariant.sound shows h (omega (arith, lt, c.loop-gauge-test.false, ap length c.as_slice-gauge-end.ensures))
+returns-clause-answer g c =
+    λ shows h lt. c.loop-gauge.invariant.sound shows h (omega (arith, lt, c.loop-gauge-test.false, ap length c.as_slice-gauge-end.ensures))

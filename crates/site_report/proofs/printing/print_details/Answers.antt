@@ -14,14 +14,16 @@ returns-in_err-put-clause-failed g c = λ tells.
     let within2 : c.loop-i.i < length c.args.conf.now.details = omega (arith, within, c.requires.one_each) in
     let item = c.index-as_slice-i.is ∙ ap (λ (l : List NamedDetail). get_or l c.loop-i.i c.index-as_slice-i.result) c.as_slice.ensures in
     let on : c.index-as_slice-i.result.gauge < length c.args.conf.now.gauges =
-    subst (λ (d : NamedDetail). d.gauge < length c.args.conf.now.gauges) (sym item) (c.requires.conf.on c.loop-i.i c.index-as_slice-i.result within2) in
+    subst (λ (d : NamedDetail). d.gauge < length c.args.conf.now.gauges) (sym item)
+    (c.requires.conf.on c.loop-i.i c.index-as_slice-i.result within2) in
     let at : c.from.result < length c.args.conf.now.gauges = omega (arith, on, c.from.ensures) in
     let gauge = ap (name_of c.args.conf.now) (sym c.from.ensures)
     ∙ name_is c.args.conf.now c.from.result _ c.index-as_slice-from.result _ at c.as_slice-in-loop-i.ensures c.as_str-gauge.ensures in
     let text = c.bytes.ensures ∙ (ap (λ (p : PageValue). p.bytes) c.detail_text.ensures
     ∙ line_is c.args.conf.now c.args.conf.now.details c.args.damages.now c.loop-i.i c.index-as_slice-i.result c.index-damages-i.result
     c.as_str.result.now c.as_str-gauge.result.now item c.index-damages-i.is c.as_str.ensures gauge) in
-    on_err _ (details_front c.args.conf.now c.args.conf.now.details c.args.damages.now c.loop-i.i c.index-as_slice-i.result c.index-damages-i.result
+    on_err _ (details_front c.args.conf.now c.args.conf.now.details c.args.damages.now c.loop-i.i c.index-as_slice-i.result
+    c.index-damages-i.result
     within2 within (g.O.Sink.written c.args.out.now) (g.O.Sink.written c.loop-i.out) (g.O.Sink.written c.put.new.self)
     (detail_lines c.args.conf.now c.args.conf.now.details c.args.damages.now) (c.loop-i.invariant.printed tells)
     (subst (AppendsPrefix (g.O.Sink.written c.loop-i.out) (g.O.Sink.written c.put.new.self)) text (c.in_err-put.ensures.failed tells)))

@@ -17,7 +17,8 @@ print_gauge-requires-clause-name g c =
 pub loop-gauge-init : goal.loop-gauge-init
 loop-gauge-init g c = record {
   classes = refl;
-  printed = λ tells figures agrees. lines_start (text_of_gauge c.args.conf.now figures) (length c.args.conf.now.gauges) (g.O.Sink.written c.args.out.now);
+  printed = λ tells figures agrees. lines_start (text_of_gauge c.args.conf.now figures) (length c.args.conf.now.gauges)
+      (g.O.Sink.written c.args.out.now);
   later = omega arith;
 }
 
@@ -29,7 +30,8 @@ loop-gauge-preserved g c =
     let name = name_is c.args.conf.now c.loop-gauge.gauge _ _ _ known c.as_slice.ensures c.as_str-name.ensures in
     record {
       classes = c.print_gauge.ensures.classes ∙ was.classes;
-      printed = λ tells figures agrees. lines_more (text_of_gauge c.args.conf.now figures) c.loop-gauge.gauge (length c.args.conf.now.gauges)
+      printed = λ tells figures agrees. lines_more (text_of_gauge c.args.conf.now figures) c.loop-gauge.gauge
+          (length c.args.conf.now.gauges)
           (g.O.Sink.written c.args.out.now) (g.O.Sink.written c.loop-gauge.out) (g.O.Sink.written c.print_gauge.new.out)
           (gauge_lines c.args.conf.now figures) known (was.printed tells figures agrees)
           (c.in_ok-print_gauge.ensures.ok tells (figures c.loop-gauge.gauge)
@@ -57,5 +59,6 @@ returns-in_err-print_gauge-clause-failed g c = λ tells figures agrees.
 
 pub returns-clause-ok : goal.returns-clause-ok
 returns-clause-ok g c = λ tells figures agrees. lines_whole (text_of_gauge c.args.conf.now figures) c.loop-gauge.gauge
-    (length c.args.conf.now.gauges) (g.O.Sink.written c.args.out.now) (g.O.Sink.written c.loop-gauge.out) (gauge_lines c.args.conf.now figures)
+    (length c.args.conf.now.gauges) (g.O.Sink.written c.args.out.now) (g.O.Sink.written c.loop-gauge.out)
+    (gauge_lines c.args.conf.now figures)
     (omega (arith, c.loop-gauge-test.false, ap length c.as_slice-gauge-end.ensures)) (c.loop-gauge.invariant.printed tells figures agrees)

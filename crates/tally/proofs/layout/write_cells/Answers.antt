@@ -38,5 +38,6 @@ loop-i-preserved c =
 pub returns : goal.returns
 returns c =
     let v = c.loop-i.invariant in
-    written_cells c.args.classes c.args.counts.now c.args.touched.now c.args.used c.loop-i.out c.requires.few c.requires.places c.requires.listing c.requires.ordered
+    written_cells c.args.classes c.args.counts.now c.args.touched.now c.args.used c.loop-i.out c.requires.few c.requires.places
+    c.requires.listing c.requires.ordered
     (omega (arith, v.length_kept, c.requires.room)) (λ j d h. v.written j d (omega arith))

@@ -50,12 +50,15 @@ loop-entry-preserved c =
 
 pub returns-clause-merged : goal.returns-clause-merged
 returns-clause-merged c =
-    entries-counts _ _ c.args.entries.now c.loop-entry.entry-index c.requires.counts c.requires.each c.loop-entry-test.false c.loop-entry.invariant
+    entries-counts _ _ c.args.entries.now c.loop-entry.entry-index c.requires.counts c.requires.each c.loop-entry-test.false
+    c.loop-entry.invariant
 
 pub returns-clause-total : goal.returns-clause-total
 returns-clause-total c =
-    entries-sum _ _ c.args.entries.now c.loop-entry.entry-index c.requires.counts c.requires.each c.loop-entry-test.false c.loop-entry.invariant
+    entries-sum _ _ c.args.entries.now c.loop-entry.entry-index c.requires.counts c.requires.each c.loop-entry-test.false
+    c.loop-entry.invariant
 
 pub returns-clause-cells : goal.returns-clause-cells
 returns-clause-cells c =
-    entries-length _ _ c.args.entries.now c.loop-entry.entry-index c.requires.counts c.requires.each c.loop-entry-test.false c.loop-entry.invariant
+    entries-length _ _ c.args.entries.now c.loop-entry.entry-index c.requires.counts c.requires.each c.loop-entry-test.false
+    c.loop-entry.invariant

@@ -29,15 +29,19 @@ loop-len-preserved g c =
     let reached = c.closes.ensures.0 c.if-closes.true in
     record {
       fewer = omega arith;
-      below = subst (λ m. All (λ x. x < m) (take (n - 2) s)) (sym k.classes) (All-first_few _ s (n - 2) n (omega arith) (omega arith) i.below);
+      below = subst (λ m. All (λ x. x < m) (take (n - 2) s)) (sym k.classes)
+          (All-first_few _ s (n - 2) n (omega arith) (omega arith) i.below);
       live = cycle_live s n z (omega arith) (omega arith) reached ∙ i.live;
-      counted = λ given h. holding_more _ (i.counted given h) k.holds (cycle_counted s n z (omega arith) (omega arith) reached ∙ ap (λ r. r ∷ ranges_counted z (reverse (take (n - 2) s))) (sym c.range_between-else-len-eq2.ensures));
+      counted = λ given h. holding_more _ (i.counted given h) k.holds (cycle_counted s n z (omega arith) (omega arith) reached
+          ∙ ap (λ r. r ∷ ranges_counted z (reverse (take (n - 2) s))) (sym c.range_between-else-len-eq2.ensures));
       room = omega (arith, i.room, k.room, ap (λ r. r.halves) c.range_between-else-len-eq2.ensures);
       classes = k.classes ∙ i.classes;
     }
 
 pub returns-clause-live : goal.returns-clause-live
-returns-clause-live g c = open_live c.loop-len.live c.loop-len.len c.args.point (omega arith) (omega arith) (is_open g c) ∙ c.loop-len.invariant.live
+returns-clause-live g c =
+    open_live c.loop-len.live c.loop-len.len c.args.point (omega arith) (omega arith) (is_open g c) ∙ c.loop-len.invariant.live
 
 pub returns-clause-holds : goal.returns-clause-holds
-returns-clause-holds g c given h = holding_done _ (c.loop-len.invariant.counted given h) (open_counted c.loop-len.live c.loop-len.len c.args.point (omega arith) (is_open g c))
+returns-clause-holds g c given h = holding_done _ (c.loop-len.invariant.counted given h)
+    (open_counted c.loop-len.live c.loop-len.len c.args.point (omega arith) (is_open g c))

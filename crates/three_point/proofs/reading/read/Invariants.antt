@@ -11,7 +11,8 @@ invariant-loop-len g l = record {
   below : All (λ x. x < g.C.RangeCounter.classes l.counter) (take l.len l.live);
   live : live_after l.point (reverse (take l.len l.live)) ≡ live_after l.point (reverse (take l.initial.len l.initial.live));
   counted : (given : List CountedRange) → g.C.RangeCounter.holds l.initial.counter given →
-      Holding (g.C.RangeCounter.holds l.counter) (ranges_counted l.point (reverse (take l.len l.live))) (given ++ ranges_counted l.point (reverse (take l.initial.len l.initial.live)));
+      Holding (g.C.RangeCounter.holds l.counter) (ranges_counted l.point (reverse (take l.len l.live)))
+      (given ++ ranges_counted l.point (reverse (take l.initial.len l.initial.live)));
   room : g.C.RangeCounter.room l.initial.counter + l.len ≤ g.C.RangeCounter.room l.counter + l.initial.len;
   classes : g.C.RangeCounter.classes l.counter ≡ g.C.RangeCounter.classes l.initial.counter;
 }

@@ -13,7 +13,8 @@ invariant_of-self c =
           c.self.inside.arrivals.items;
     } in
     let rows = take c.self.inside.rows.len (c.begin_all.new.rows ++ drop (length c.begin_all.new.rows) c.self.inside.rows.items) in
-    let f = rows_fresh b c.args.starts.now rows c.self.invariant.1 _ c.begin_all.new.rows c.self.inside.rows.len c.as_mut_slice.ensures.value c.self.inside.rows.ok.0 c.begin_all.ensures refl in (
+    let f = rows_fresh b c.args.starts.now rows c.self.invariant.1 _ c.begin_all.new.rows c.self.inside.rows.len
+    c.as_mut_slice.ensures.value c.self.inside.rows.ok.0 c.begin_all.ensures refl in (
       omega (arith, c.self.invariant.0, c.clear.ensures.capacity),
       fresh_board (record { grid = b.grid; block = b.block; rows = rows; arrivals = c.clear.new.self.items })
           (λ g. get_or c.args.starts.now g 0) c.clear.ensures.items f.1 c.self.invariant.1.block
@@ -31,7 +32,8 @@ returns-clause-begun c =
           c.self.inside.arrivals.items;
     } in
     let rows = take c.self.inside.rows.len (c.begin_all.new.rows ++ drop (length c.begin_all.new.rows) c.self.inside.rows.items) in
-    let f = rows_fresh b c.args.starts.now rows c.self.invariant.1 _ c.begin_all.new.rows c.self.inside.rows.len c.as_mut_slice.ensures.value c.self.inside.rows.ok.0 c.begin_all.ensures refl in
+    let f = rows_fresh b c.args.starts.now rows c.self.invariant.1 _ c.begin_all.new.rows c.self.inside.rows.len
+    c.as_mut_slice.ensures.value c.self.inside.rows.ok.0 c.begin_all.ensures refl in
     fresh_begun (record { grid = b.grid; block = b.block; rows = rows; arrivals = c.clear.new.self.items })
     (λ g. get_or c.args.starts.now g 0) c.clear.ensures.items f.1
 

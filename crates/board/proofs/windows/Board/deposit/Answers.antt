@@ -102,7 +102,8 @@ invariant_of-self-in-None c =
         arrivals =
             c.push_reserved.new.self.items;
       })) (sym is)
-          (placed_board b c.in-Some.number seg c.place.new.self row c.push_reserved.new.self.items known start c.self.invariant.1 kind fits put grown),
+          (placed_board b c.in-Some.number seg c.place.new.self row c.push_reserved.new.self.items known start c.self.invariant.1 kind
+          fits put grown),
     )
 
 pub returns-in-Some-place-clause-answer : goal.returns-in-Some-place-clause-answer
@@ -218,7 +219,8 @@ returns-in-None-clause-carries c =
       arrivals =
           c.push_reserved.new.self.items;
     }) gain w) (sym is)
-    (placed_carries b c.in-Some.number seg c.place.new.self row c.push_reserved.new.self.items known start c.self.invariant.1 kind fits put grown gain w (subst (λ v. Carries v gain w) (sym c.self.view_is) all) one)
+    (placed_carries b c.in-Some.number seg c.place.new.self row c.push_reserved.new.self.items known start c.self.invariant.1 kind fits put
+    grown gain w (subst (λ v. Carries v gain w) (sym c.self.view_is) all) one)
 
 pub returns-in-None-clause-board : goal.returns-in-None-clause-board
 returns-in-None-clause-board c = (invariant_of-self-in-None c).1

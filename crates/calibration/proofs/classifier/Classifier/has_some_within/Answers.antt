@@ -16,7 +16,9 @@ loop-raw-preserved c =
     let bounds = c.self.inside.bounds in
     record {
       some = λ e.
-          let (none, out) = none_within c.loop-raw.some bounds.first raw bounds.last _ _ _ (to_z-of_z w32 bounds.first (search rules)) (to_z-of_z w32 raw fits) (to_z-of_z w32 bounds.last (search rules)) e in
+          let (none, out) = none_within c.loop-raw.some bounds.first raw bounds.last _ _ _ (to_z-of_z w32 bounds.first (search rules))
+          (to_z-of_z w32 raw fits) (to_z-of_z w32 bounds.last (search rules)) e in
           no_level_more c.args.self.now.gain c.args.self.now.grid raws c.loop-raw.raw-index (pos 0) raw c.loop-raw-test.true refl
-          (subst (λ v. level_in (reading_of v.gain v.grid raw) ≡ None) c.self.view_is (c.self.invariant.bounds raw fits out)) (c.loop-raw.invariant.some none);
+          (subst (λ v. level_in (reading_of v.gain v.grid raw) ≡ None) c.self.view_is (c.self.invariant.bounds raw fits out))
+          (c.loop-raw.invariant.some none);
     }

@@ -40,7 +40,14 @@ loop-from-preserved c =
     let kept = c.levels_of-used.ensures in
     let ahead : from ≤ to = omega (arith, c.min-to.ensures, c.loop-from-test.true) in
     let few = few_levels gain grid (take from raws) in
-    let inside : used ≤ length levels = omega (arith, few, length-take from raws, c.loop-from.invariant.used, c.loop-from.invariant.length, c.requires.room) in
+    let inside : used ≤ length levels = omega (
+      arith,
+      few,
+      length-take from raws,
+      c.loop-from.invariant.used,
+      c.loop-from.invariant.length,
+      c.requires.room,
+    ) in
     let short = few_levels gain grid (take (to - from) (drop from raws)) in
     let within : c.levels_of-used.result ≤ length c.levels_of-used.new.levels =
     omega (
@@ -61,7 +68,8 @@ loop-from-preserved c =
     ) in
     record {
       from = omega (arith, c.min-to.ensures);
-      levels = stretch_levels gain grid raws from to ahead used c.levels_of-used.result levels c.levels_of-used.new.levels inside within c.loop-from.invariant.levels kept.levels;
+      levels = stretch_levels gain grid raws from to ahead used c.levels_of-used.result levels c.levels_of-used.new.levels inside within
+          c.loop-from.invariant.levels kept.levels;
       used = stretch_used gain grid raws from to ahead used c.levels_of-used.result c.loop-from.invariant.used kept.used;
       length = same_len_mid used (length levels - used) levels c.levels_of-used.new.levels kept.length ∙ c.loop-from.invariant.length;
     }
@@ -76,7 +84,13 @@ overflow_sub-result-2 c =
     let raws = c.args.raws.now in
     let all : take c.loop-from.from raws ≡ raws = take_all c.loop-from.from raws (omega (arith, c.loop-from-test.false)) in
     let whole = counts_add c.args.self.now.gain c.args.self.now.grid raws in
-    omega (arith, whole, c.loop-from.invariant.used, c.missing_among-missing.ensures, ap (λ l. length (history c.args.self.now.grid c.args.self.now.gain l)) all)
+    omega (
+      arith,
+      whole,
+      c.loop-from.invariant.used,
+      c.missing_among-missing.ensures,
+      ap (λ l. length (history c.args.self.now.grid c.args.self.now.gain l)) all,
+    )
 
 pub returns-clause-refused : goal.returns-clause-refused
 returns-clause-refused c =
@@ -85,4 +99,11 @@ returns-clause-refused c =
     let raws = c.args.raws.now in
     let all : take c.loop-from.from raws ≡ raws = take_all c.loop-from.from raws (omega (arith, c.loop-from-test.false)) in
     let whole = counts_add gain grid raws in
-    omega (arith, whole, c.loop-from.invariant.used, c.missing_among-missing.ensures, ap (λ l. length (history grid gain l)) all, ap (missing_count grid gain) all)
+    omega (
+      arith,
+      whole,
+      c.loop-from.invariant.used,
+      c.missing_among-missing.ensures,
+      ap (λ l. length (history grid gain l)) all,
+      ap (missing_count grid gain) all,
+    )

@@ -12,5 +12,6 @@ loop-raw-preserved c =
     let i = c.loop-raw.raw-index in
     let raw = to_z-of_z w32 (get_or raws i (pos 0)) (search rules) in
     record {
-      missing = ap (λ b. c.loop-raw.missing + bool_byte b) c.is_missing.ensures ∙ missing_more c.args.self.now.gain c.args.self.now.grid raws i (pos 0) _ c.loop-raw.missing c.loop-raw-test.true raw c.loop-raw.invariant.missing;
+      missing = ap (λ b. c.loop-raw.missing + bool_byte b) c.is_missing.ensures ∙ missing_more c.args.self.now.gain c.args.self.now.grid
+          raws i (pos 0) _ c.loop-raw.missing c.loop-raw-test.true raw c.loop-raw.invariant.missing;
     }

@@ -15,8 +15,11 @@ stress_above-requires-clause-shift c =
 
 pub returns : goal.returns
 returns c =
-    subst (λ v. level_in (reading_of v.gain v.grid c.args.raw) ≡ (if nat_lt c.cast_unsigned-above.result c.self.inside.limit && not c.is_missing.result then Some (c.divide-class.result % 65536) else None)) c.self.view_is
-    (place_is c.self.inside.gain c.self.inside.grid c.args.raw c.self.inside.shift _ c.stress_above.result _ c.self.inside.limit c.self.inside.scale
-    c.self.inside.multiplier c.divide-class.result c.is_missing.result c.self.invariant.gain c.self.invariant.grid c.ranges.raw (c.is_missing.ensures ∙ ap is_missing (to_z-of_z w32 c.args.raw c.ranges.raw))
+    subst (λ v. level_in (reading_of v.gain v.grid c.args.raw) ≡ (if nat_lt c.cast_unsigned-above.result c.self.inside.limit &&
+    not c.is_missing.result then Some (c.divide-class.result % 65536) else None)) c.self.view_is
+    (place_is c.self.inside.gain c.self.inside.grid c.args.raw c.self.inside.shift _ c.stress_above.result _ c.self.inside.limit
+    c.self.inside.scale
+    c.self.inside.multiplier c.divide-class.result c.is_missing.result c.self.invariant.gain c.self.invariant.grid c.ranges.raw
+    (c.is_missing.ensures ∙ ap is_missing (to_z-of_z w32 c.args.raw c.ranges.raw))
     c.self.invariant.shift c.self.invariant.limit c.self.invariant.scale c.self.invariant.multiplier
     c.num.ensures.value c.stress_above.ensures (search rules) c.cast_unsigned-above.ensures c.divide-class.ensures)

@@ -10,7 +10,15 @@ pub bounds-levels-used : goal.bounds-levels-used
 bounds-levels-used c =
     let raws = c.args.raws.now in
     let so_far = counts_add c.args.self.now.gain c.args.self.now.grid (take c.loop-raw.raw-index raws) in
-    omega (arith, so_far, c.loop-raw.invariant.used, length-take c.loop-raw.raw-index raws, c.loop-raw-test.true, c.requires.room, c.loop-raw.auto.levels)
+    omega (
+      arith,
+      so_far,
+      c.loop-raw.invariant.used,
+      length-take c.loop-raw.raw-index raws,
+      c.loop-raw-test.true,
+      c.requires.room,
+      c.loop-raw.auto.levels,
+    )
 
 pub loop-raw-preserved : goal.loop-raw-preserved
 loop-raw-preserved c =
@@ -25,6 +33,8 @@ loop-raw-preserved c =
     let room : c.loop-raw.used < length c.loop-raw.levels =
     omega (arith, so_far, c.loop-raw.invariant.used, length-take i raws, c.loop-raw-test.true, c.requires.room, c.loop-raw.auto.levels) in
     record {
-      levels = levels_more gain grid raws i (pos 0) _ b v c.loop-raw.used c.loop-raw.levels c.loop-raw-test.true raw room c.place-place.ensures c.loop-raw.invariant.levels;
-      used = used_more gain grid raws i (pos 0) _ b v c.loop-raw.used c.loop-raw-test.true raw c.place-place.ensures c.loop-raw.invariant.used;
+      levels = levels_more gain grid raws i (pos 0) _ b v c.loop-raw.used c.loop-raw.levels c.loop-raw-test.true raw room
+          c.place-place.ensures c.loop-raw.invariant.levels;
+      used = used_more gain grid raws i (pos 0) _ b v c.loop-raw.used c.loop-raw-test.true raw c.place-place.ensures
+          c.loop-raw.invariant.used;
     }

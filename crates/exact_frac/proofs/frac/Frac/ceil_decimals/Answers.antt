@@ -12,11 +12,13 @@ pub returns-then-rounded-eq-BILLION-clause-least :
     goal.returns-then-rounded-eq-BILLION-clause-least
 returns-then-rounded-eq-BILLION-clause-least c =
     subst (IsCeilingInBillionths c.args.self.now) (omega arith)
-    (is_ceiling c.args.self.now c.add_times.new.self.whole c.add_times.new.self.num c.add_times.new.self.den c.add_times.new.self.below_one (c.add_times.ensures.den ∙ c.zero-billionths.ensures.den)
+    (is_ceiling c.args.self.now c.add_times.new.self.whole c.add_times.new.self.num c.add_times.new.self.den c.add_times.new.self.below_one
+    (c.add_times.ensures.den ∙ c.zero-billionths.ensures.den)
     (from_nothing _ _ _ _ _ c.zero-billionths.ensures.whole c.zero-billionths.ensures.num c.add_times.ensures.sum))
 
 pub returns-else-rounded-eq-BILLION-clause-least :
     goal.returns-else-rounded-eq-BILLION-clause-least
 returns-else-rounded-eq-BILLION-clause-least c =
-    is_ceiling c.args.self.now c.add_times.new.self.whole c.add_times.new.self.num c.add_times.new.self.den c.add_times.new.self.below_one (c.add_times.ensures.den ∙ c.zero-billionths.ensures.den)
+    is_ceiling c.args.self.now c.add_times.new.self.whole c.add_times.new.self.num c.add_times.new.self.den c.add_times.new.self.below_one
+    (c.add_times.ensures.den ∙ c.zero-billionths.ensures.den)
     (from_nothing _ _ _ _ _ c.zero-billionths.ensures.whole c.zero-billionths.ensures.num c.add_times.ensures.sum)

@@ -9,10 +9,12 @@ pub returns-clause-counts : goal.returns-clause-counts
 returns-clause-counts c = λ l.
     let limits = c.replace_by.ensures.rules in
     subst (λ v. count_at v l ≡ count_of_bins l c.args.bins.now) (sym c.replace_by.ensures.value)
-    (crossed_counts c.args.self.now.classes c.args.self.now.reference (end_points c.args.ends.now) c.args.bins.now (limits.classes, limits.reference) c.requires l)
+    (crossed_counts c.args.self.now.classes c.args.self.now.reference (end_points c.args.ends.now) c.args.bins.now
+    (limits.classes, limits.reference) c.requires l)
 
 pub returns-clause-rules : goal.returns-clause-rules
 returns-clause-rules c =
     let limits = c.replace_by.ensures.rules in
     subst (λ v. IsCrossings v) (sym c.replace_by.ensures.value)
-    (crossed_is c.args.self.now.classes c.args.self.now.reference (end_points c.args.ends.now) c.args.bins.now (limits.classes, limits.reference) c.requires)
+    (crossed_is c.args.self.now.classes c.args.self.now.reference (end_points c.args.ends.now) c.args.bins.now
+    (limits.classes, limits.reference) c.requires)

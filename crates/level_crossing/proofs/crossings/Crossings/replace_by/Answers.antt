@@ -18,4 +18,6 @@ load_bins-requires-2 c =
 pub invariant_of-self : goal.invariant_of-self
 invariant_of-self c =
     let h = subst (λ v. CanLoad v.classes (end_points c.args.ends.now) c.args.bins.now) (sym c.self.view_is) c.requires in
-    crossed_closed c.self.inside.classes c.self.inside.reference (end_points c.args.ends.now) c.args.bins.now (c.self.invariant.classes, c.self.invariant.reference) h _ _ _ _ c.self.invariant.begins c.self.invariant.stops c.load_bins.ensures c.load_bins-2.ensures
+    crossed_closed c.self.inside.classes c.self.inside.reference (end_points c.args.ends.now) c.args.bins.now
+    (c.self.invariant.classes, c.self.invariant.reference) h _ _ _ _ c.self.invariant.begins c.self.invariant.stops c.load_bins.ensures
+    c.load_bins-2.ensures

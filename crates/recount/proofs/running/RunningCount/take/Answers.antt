@@ -5,7 +5,8 @@ use Rattle.recount.proofs.running.RunningCount.take.Goals as goal
 pub push_all-requires-clause-points : goal.push_all-requires-clause-points
 push_all-requires-clause-points g c =
     let k = c.levels-kinds.ensures in
-    points_below _ _ c.args.raws.now _ _ _ k.used k.missing k.refused _ _ _ _ c.args.self.now _ _ _ _ k.levels c.keep_decided-decided.ensures.turned c.requires.counted.1.1
+    points_below _ _ c.args.raws.now _ _ _ k.used k.missing k.refused _ _ _ _ c.args.self.now _ _ _ _ k.levels
+    c.keep_decided-decided.ensures.turned c.requires.counted.1.1
 
 pub invariant_of-self : goal.invariant_of-self
 invariant_of-self g c =
@@ -29,6 +30,11 @@ pub returns-clause-counted : goal.returns-clause-counted
 returns-clause-counted g c =
     let k = c.levels-kinds.ensures in
     let push = c.push_all.ensures in
-    let few : length (take c.keep_decided-decided.result c.keep_decided-decided.new.levels) ≤ c.levels-kinds.result.used = omega
-    (arith, length-take c.keep_decided-decided.result c.keep_decided-decided.new.levels, c.keep_decided-decided.ensures.within, length-take c.levels-kinds.result.used c.levels-kinds.new.levels) in
-    λ start w are. counted_more _ _ c.args.raws.now _ _ _ k.used k.missing k.refused _ _ _ start c.args.self.now w _ _ _ k.levels c.keep_decided-decided.ensures.turned _ refl c.plus-self.ensures push.counted push.classes push.counter_classes few push.room are
+    let few : length (take c.keep_decided-decided.result c.keep_decided-decided.new.levels) ≤ c.levels-kinds.result.used = omega (
+      arith,
+      length-take c.keep_decided-decided.result c.keep_decided-decided.new.levels,
+      c.keep_decided-decided.ensures.within,
+      length-take c.levels-kinds.result.used c.levels-kinds.new.levels,
+    ) in
+    λ start w are. counted_more _ _ c.args.raws.now _ _ _ k.used k.missing k.refused _ _ _ start c.args.self.now w _ _ _ k.levels
+    c.keep_decided-decided.ensures.turned _ refl c.plus-self.ensures push.counted push.classes push.counter_classes few push.room are

@@ -25,9 +25,11 @@ module _ (c : goal.After-classes-counts) where
       let v = c.args.segment.now in
       let s = c.residue-residue.ensures.rules in
       let r = c.residue-residue.ensures.residue in
-      let p = ap (λ l. length (points (l ++ c.residue-residue.result.now))) is_closed.residue ∙ ap (λ l. length (points (v.reducer.residue ++ l))) r in
+      let p = ap (λ l. length (points (l ++ c.residue-residue.result.now))) is_closed.residue
+      ∙ ap (λ l. length (points (v.reducer.residue ++ l))) r in
       let n = ap total_of c.copy_cycles.ensures.cells in
-      let h = few_cycles v.reducer.residue c.join_residue.new.left.residue (total_of v.tally.cells) (total_of c.join_residue.new.tally.cells)
+      let h = few_cycles v.reducer.residue c.join_residue.new.left.residue (total_of v.tally.cells)
+      (total_of c.join_residue.new.tally.cells)
       v.simple.ends.points is_closed.again (omega (arith, c.join_residue.ensures.lengths, p, n)) s.balance in
       omega (arith, h, s.used)
 
@@ -50,7 +52,8 @@ module _ (c : goal.After-classes-counts) where
 pub returns-clause-cycles : goal.returns-clause-cycles
 returns-clause-cycles c =
     let v = c.args.segment.now in
-    subst (λ l. AddsCycles (points (v.reducer.residue ++ v.reducer.residue)) (count_of v.tally.cells) l (count_of c.join_residue.new.tally.cells))
+    subst (λ l. AddsCycles (points (v.reducer.residue ++ v.reducer.residue)) (count_of v.tally.cells) l
+    (count_of c.join_residue.new.tally.cells))
     (is_closed c).again (is_closed c).adds
 
 pub returns-clause-stands : goal.returns-clause-stands

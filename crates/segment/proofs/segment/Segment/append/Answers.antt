@@ -16,17 +16,21 @@ use Rattle.segment.proofs.segment.Segment.append.Goals as goal
 pub merge-requires-clause-room : goal.merge-requires-clause-room
 merge-requires-clause-room c =
     let long = subst (λ v. (v.to - v.from) + (c.right.inside.to - c.right.inside.from) ≤ v.longest) (sym c.self.view_is)
-    (subst (λ w. (c.args.self.now.to - c.args.self.now.from) + (w.to - w.from) ≤ c.args.self.now.longest) (sym c.right.view_is) c.requires.longest) in
+    (subst (λ w. (c.args.self.now.to - c.args.self.now.from) + (w.to - w.from) ≤ c.args.self.now.longest) (sym c.right.view_is)
+    c.requires.longest) in
     merge_room _ _ c.self.invariant c.right.invariant c.classes-classes.ensures.counts c.classes-right.ensures.counts long
 
 pub join_residue-requires-clause-room : goal.join_residue-requires-clause-room
 join_residue-requires-clause-room c =
     let m = c.merge.ensures in
     let long = subst (λ v. (v.to - v.from) + (c.right.inside.to - c.right.inside.from) ≤ v.longest) (sym c.self.view_is)
-    (subst (λ w. (c.args.self.now.to - c.args.self.now.from) + (w.to - w.from) ≤ c.args.self.now.longest) (sym c.right.view_is) c.requires.longest) in
-    subst (λ r. HasGreatestRoom c.merge.new.self ⊎ (2 * length c.merge.new.self.cells + length c.self.inside.reducer.residue + length r ≤ 2 * c.merge.new.self.room + 1))
+    (subst (λ w. (c.args.self.now.to - c.args.self.now.from) + (w.to - w.from) ≤ c.args.self.now.longest) (sym c.right.view_is)
+    c.requires.longest) in
+    subst (λ r. HasGreatestRoom c.merge.new.self ⊎ (2 * length c.merge.new.self.cells + length c.self.inside.reducer.residue + length r ≤ 2
+    * c.merge.new.self.room + 1))
     (sym c.residue.ensures.residue)
-    (join_room _ _ c.self.invariant c.right.invariant c.classes-classes.ensures.counts c.classes-right.ensures.counts long c.merge.new.self m.counts m.classes m.room m.total)
+    (join_room _ _ c.self.invariant c.right.invariant c.classes-classes.ensures.counts c.classes-right.ensures.counts long c.merge.new.self
+    m.counts m.classes m.room m.total)
 
 pub join-requires-clause-few : goal.join-requires-clause-few
 join-requires-clause-few c = λ l.
@@ -40,8 +44,10 @@ join-requires-clause-few c = λ l.
       arith,
       i.readings,
       j.readings,
-      crossed_both s.crossings.some r.crossings.some s.crossings.reference l s.crossings.last r.crossings.first (count_at s.crossings l) (count_at r.crossings l)
-          s.used r.used (some_used s.crossings s.simple.ends s.used i.ends i.used) (some_used r.crossings r.simple.ends r.used j.ends j.used) (i.crossed l) (j.crossed l),
+      crossed_both s.crossings.some r.crossings.some s.crossings.reference l s.crossings.last r.crossings.first (count_at s.crossings l)
+          (count_at r.crossings l)
+          s.used r.used (some_used s.crossings s.simple.ends s.used i.ends i.used)
+          (some_used r.crossings r.simple.ends r.used j.ends j.used) (i.crossed l) (j.crossed l),
     )
 
 pub invariant_of-self : goal.invariant_of-self
@@ -53,13 +59,17 @@ invariant_of-self c =
     let z = c.join-2.ensures in
     let e = c.residue.ensures.residue in
     let long = subst (λ v. (v.to - v.from) + (c.right.inside.to - c.right.inside.from) ≤ v.longest) (sym c.self.view_is)
-    (subst (λ w. (c.args.self.now.to - c.args.self.now.from) + (w.to - w.from) ≤ c.args.self.now.longest) (sym c.right.view_is) c.requires.longest) in
-    joined_rules _ _ c.merge.new.self c.join_residue.new.tally c.join_residue.new.left c.join.new.self c.join-2.new.self c.self.invariant c.right.invariant
+    (subst (λ w. (c.args.self.now.to - c.args.self.now.from) + (w.to - w.from) ≤ c.args.self.now.longest) (sym c.right.view_is)
+    c.requires.longest) in
+    joined_rules _ _ c.merge.new.self c.join_residue.new.tally c.join_residue.new.left c.join.new.self c.join-2.new.self c.self.invariant
+    c.right.invariant
     (ap (λ v. v.grid) c.self.view_is ∙ c.requires.grid ∙ sym (ap (λ v. v.grid) c.right.view_is))
     (ap (λ v. v.to) c.self.view_is ∙ c.requires.next ∙ sym (ap (λ v. v.from) c.right.view_is))
     long m.total
-    (subst (λ r. AddsCycles (points (s.reducer.residue ++ r)) (count_of c.merge.new.self.cells) c.join_residue.new.left.residue (count_of c.join_residue.new.tally.cells)) e p.step)
-    (subst (λ r. 2 * total_of c.join_residue.new.tally.cells + length c.join_residue.new.left.residue ≡ 2 * total_of c.merge.new.self.cells + length (points (s.reducer.residue ++ r))) e p.lengths)
+    (subst (λ r. AddsCycles (points (s.reducer.residue ++ r)) (count_of c.merge.new.self.cells) c.join_residue.new.left.residue
+    (count_of c.join_residue.new.tally.cells)) e p.step)
+    (subst (λ r. 2 * total_of c.join_residue.new.tally.cells + length c.join_residue.new.left.residue ≡ 2 * total_of c.merge.new.self.cells
+    + length (points (s.reducer.residue ++ r))) e p.lengths)
     p.shape p.classes (p.tally_classes ∙ m.classes) (p.tally_room ∙ m.room) x.grid x.some x.first x.last x.counts z.grid z.ends z.rules
 
 pub returns-clause-histories : goal.returns-clause-histories
@@ -80,7 +90,8 @@ returns-clause-kept c =
     let p = c.join_residue.ensures in
     let s = c.self.inside in
     let r = c.right.inside in
-    let step = subst (λ l. AddsCycles (points (s.reducer.residue ++ l)) (count_of c.merge.new.self.cells) c.join_residue.new.left.residue (count_of c.join_residue.new.tally.cells)) c.residue.ensures.residue p.step in
+    let step = subst (λ l. AddsCycles (points (s.reducer.residue ++ l)) (count_of c.merge.new.self.cells) c.join_residue.new.left.residue
+    (count_of c.join_residue.new.tally.cells)) c.residue.ensures.residue p.step in
     let v = c.self.view_is in
     let w = c.right.view_is in
     same_kept _ _ _ (ap (λ k. k.to) w)
@@ -89,7 +100,8 @@ returns-clause-kept c =
     (omega (arith, ap (λ k. k.refused) v, ap (λ k. k.refused) w))
     (λ q lo hi. omega (
       arith,
-      joined_halves s.reducer.residue r.reducer.residue _ _ (count_of c.merge.new.self.cells) (count_of c.join_residue.new.tally.cells) step p.shape q lo hi,
+      joined_halves s.reducer.residue r.reducer.residue _ _ (count_of c.merge.new.self.cells) (count_of c.join_residue.new.tally.cells) step
+          p.shape q lo hi,
       c.merge.ensures.merged lo hi,
       ap (λ k. count_of k.tally.cells lo hi) v,
       ap (λ k. count_of k.tally.cells lo hi) w,

@@ -20,12 +20,27 @@ pub returns-clause-each : goal.returns-clause-each
 returns-clause-each c = λ k a b.
     let v = c.args.self.now in
     let residue = c.residue.ensures.residue ∙ ap (λ (s : SegmentValue). s.reducer.residue) c.self.view_is in
-    let below = subst (λ (s : SegmentValue). All (λ level. level < s.grid.classes) s.reducer.residue) c.self.view_is c.self.invariant.residue.within in
-    omega (arith, c.add_ranges.ensures.ranges k, c.put_cycles.ensures.each k a b, range_parts v k below b, ap (λ (l : List ℕ). half_units_at_range k (neighbours l)) residue)
+    let below = subst (λ (s : SegmentValue). All (λ level. level < s.grid.classes) s.reducer.residue) c.self.view_is
+    c.self.invariant.residue.within in
+    omega (
+      arith,
+      c.add_ranges.ensures.ranges k,
+      c.put_cycles.ensures.each k a b,
+      range_parts v k below b,
+      ap (λ (l : List ℕ). half_units_at_range k (neighbours l)) residue,
+    )
 
 pub returns-clause-stands : goal.returns-clause-stands
 returns-clause-stands c = λ gain w s k a b.
     let v = c.args.self.now in
     let residue = c.residue.ensures.residue ∙ ap (λ (s : SegmentValue). s.reducer.residue) c.self.view_is in
-    let below = subst (λ (s : SegmentValue). All (λ level. level < s.grid.classes) s.reducer.residue) c.self.view_is c.self.invariant.residue.within in
-    omega (arith, c.add_ranges.ensures.ranges k, c.put_cycles.ensures.each k a b, range_parts v k below b, ap (λ (l : List ℕ). half_units_at_range k (neighbours l)) residue, range_stands v gain w k s.history b)
+    let below = subst (λ (s : SegmentValue). All (λ level. level < s.grid.classes) s.reducer.residue) c.self.view_is
+    c.self.invariant.residue.within in
+    omega (
+      arith,
+      c.add_ranges.ensures.ranges k,
+      c.put_cycles.ensures.each k a b,
+      range_parts v k below b,
+      ap (λ (l : List ℕ). half_units_at_range k (neighbours l)) residue,
+      range_stands v gain w k s.history b,
+    )

@@ -11,4 +11,10 @@ returns-clause-stands c = λ gain w s hi a b.
     let v = c.args.self.now in
     let lo = c.args.lo in
     let residue = c.residue.ensures.residue ∙ ap (λ (s : SegmentValue). s.reducer.residue) c.self.view_is in
-    omega (arith, c.add_above.ensures.pairs hi, c.put_cycles_above.ensures.each hi a b, ap (λ (l : List ℕ). half_units_of_pair lo hi (neighbours l)) residue, halves_stand v (history v.grid gain w) s.history lo hi)
+    omega (
+      arith,
+      c.add_above.ensures.pairs hi,
+      c.put_cycles_above.ensures.each hi a b,
+      ap (λ (l : List ℕ). half_units_of_pair lo hi (neighbours l)) residue,
+      halves_stand v (history v.grid gain w) s.history lo hi,
+    )

@@ -9,4 +9,5 @@ returns-clause-stands c = λ gain g h a b.
     let e = c.append.ensures in
     let v = c.args.self.now in
     let w = c.args.right.now in
-    stands_append v w c.append.new.self gain g h a b c.requires.grid n e.start.0 e.start.2 e.end e.readings.1 e.readings.2 (e.histories (history v.grid gain g) (history w.grid gain h))
+    stands_append v w c.append.new.self gain g h a b c.requires.grid n e.start.0 e.start.2 e.end e.readings.1 e.readings.2
+    (e.histories (history v.grid gain g) (history w.grid gain h))

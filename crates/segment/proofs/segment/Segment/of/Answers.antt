@@ -19,18 +19,30 @@ pub invariant_of-result : goal.invariant_of-result
 invariant_of-result c =
     let x = c.in_ok-crossings.ensures in
     let s = c.in_ok-simple.ensures in
-    made_kept c.args.grid.now (parts_value c.args.parts.now) c.longest_of-longest.result c.in_ok-tally.tally c.args.reducer c.in_ok-crossings.crossings c.in_ok-simple.simple
+    made_kept c.args.grid.now (parts_value c.args.parts.now) c.longest_of-longest.result c.in_ok-tally.tally c.args.reducer
+    c.in_ok-crossings.crossings c.in_ok-simple.simple
     c.requires.limits c.requires.rules c.longest_of-longest.ensures
-    (subst (λ l. c.in_ok-tally.tally ≡ record { classes = c.args.grid.now.classes; room = room_for c.args.grid.now.classes c.longest_of-longest.result; cells = l })
+    (subst (λ l. c.in_ok-tally.tally ≡ record {
+      classes = c.args.grid.now.classes;
+      room = room_for c.args.grid.now.classes
+          c.longest_of-longest.result;
+      cells = l;
+    })
     c.as_slice.ensures c.in_ok-tally.ensures) c.requires.residue x.grid x.counts x.ends s.grid s.rules s.ends s.ranges s.peaks s.valleys
 
 pub returns-clause-parts : goal.returns-clause-parts
 returns-clause-parts c =
     let x = c.in_ok-crossings.ensures in
     let s = c.in_ok-simple.ensures in
-    parts_are c.args.grid.now (parts_value c.args.parts.now) c.longest_of-longest.result c.in_ok-tally.tally c.args.reducer c.in_ok-crossings.crossings c.in_ok-simple.simple
+    parts_are c.args.grid.now (parts_value c.args.parts.now) c.longest_of-longest.result c.in_ok-tally.tally c.args.reducer
+    c.in_ok-crossings.crossings c.in_ok-simple.simple
     c.requires.limits c.requires.rules c.longest_of-longest.ensures
-    (subst (λ l. c.in_ok-tally.tally ≡ record { classes = c.args.grid.now.classes; room = room_for c.args.grid.now.classes c.longest_of-longest.result; cells = l })
+    (subst (λ l. c.in_ok-tally.tally ≡ record {
+      classes = c.args.grid.now.classes;
+      room = room_for c.args.grid.now.classes
+          c.longest_of-longest.result;
+      cells = l;
+    })
     c.as_slice.ensures c.in_ok-tally.ensures) c.requires.residue x.grid x.counts x.ends s.grid s.rules s.ends s.ranges s.peaks s.valleys
 
 pub simple_of-requires : goal.simple_of-requires

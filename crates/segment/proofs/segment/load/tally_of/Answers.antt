@@ -14,12 +14,15 @@ loop-cell-preserved c =
       room = c.add.ensures.room ∙ v.room;
       counts = c.add.ensures.counts;
       few = omega (arith, c.add.ensures.cells, v.few);
-      so_far = tally_step i cells (cell_of 0 0 0) c.loop-cell.tally c.add.new.self c.requires.cells.ascending c.loop-cell-test.true c.add.ensures.added v.so_far;
-      total = total_step i cells (cell_of 0 0 0) (total_of c.loop-cell.tally.cells) (total_of c.add.new.self.cells) c.loop-cell-test.true c.add.ensures.total v.total;
+      so_far = tally_step i cells (cell_of 0 0 0) c.loop-cell.tally c.add.new.self c.requires.cells.ascending c.loop-cell-test.true
+          c.add.ensures.added v.so_far;
+      total = total_step i cells (cell_of 0 0 0) (total_of c.loop-cell.tally.cells) (total_of c.add.new.self.cells) c.loop-cell-test.true
+          c.add.ensures.total v.total;
     }
 
 pub returns : goal.returns
 returns c =
     let v = c.loop-cell.invariant in
-    tally_is c.args.grid.now.classes c.args.longest c.loop-cell.cell-index c.loop-cell.tally c.args.cells.now v.counts v.classes v.room c.requires.cells c.requires.total
+    tally_is c.args.grid.now.classes c.args.longest c.loop-cell.cell-index c.loop-cell.tally c.args.cells.now v.counts v.classes v.room
+    c.requires.cells c.requires.total
     c.requires.room (omega (arith, c.loop-cell-test.false)) v.so_far

@@ -33,7 +33,8 @@ returns-clause-ok g c = λ tells figures agrees.
         are_damages = subst (AreDamages conf figures) (sym c.deref.ensures.value) (c.sum_damages.ensures.damages figures agrees);
         is_text = refl;
       },
-      put ∙ (ap (λ (l : List ℕ). l ++ detail_lines conf conf.details c.deref.result.now) (c.in_ok-print_gauges.ensures.ok tells figures agrees)
+      put ∙ (ap (λ (l : List ℕ). l ++ detail_lines conf conf.details c.deref.result.now)
+          (c.in_ok-print_gauges.ensures.ok tells figures agrees)
           ∙ append_assoc old first second),
     )) (c.print_details.ensures.ok tells)
 
@@ -48,6 +49,8 @@ returns-clause-failed g c = λ tells figures agrees.
         are_damages = subst (AreDamages conf figures) (sym c.deref.ensures.value) (c.sum_damages.ensures.damages figures agrees);
         is_text = refl;
       },
-      second_part_front (g.O.Sink.written c.args.out.now) (g.O.Sink.written c.print_gauges.new.out) (g.O.Sink.written c.print_details.new.out)
-          (gauge_lines conf figures) (detail_lines conf conf.details c.deref.result.now) (c.in_ok-print_gauges.ensures.ok tells figures agrees) put,
+      second_part_front (g.O.Sink.written c.args.out.now) (g.O.Sink.written c.print_gauges.new.out)
+          (g.O.Sink.written c.print_details.new.out)
+          (gauge_lines conf figures) (detail_lines conf conf.details c.deref.result.now)
+          (c.in_ok-print_gauges.ensures.ok tells figures agrees) put,
     )) (c.print_details.ensures.failed tells)

@@ -77,7 +77,8 @@ returns-clause-added c =
     (get_or i.counts.items (place_of i.classes c.args.lo c.args.hi) 0 + c.args.n) =
     rw (← c.deref_mut.ensures.value, ← p) r.ensures.counts in
     let w : c.args.hi < i.classes = omega (arith, ap (λ t. t.classes) c.self.view_is) in
-    let a = counts_added i.classes c.args.lo c.args.hi c.args.n i.counts.items r.new.counts c.requires.ordered w c.self.invariant.places f in
+    let a = counts_added i.classes c.args.lo c.args.hi c.args.n i.counts.items r.new.counts c.requires.ordered w
+    c.self.invariant.places f in
     rw (with_items_is i.counts r.new.counts l, ← c.self.view_is) a
 
 pub returns-clause-total : goal.returns-clause-total

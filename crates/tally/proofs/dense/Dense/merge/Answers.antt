@@ -70,7 +70,8 @@ invariant_of-self c =
     (arith, total_of_layout c.self.invariant, total_of_layout c.other.invariant, e, g) in
     let f = adds _ _ _ _ _ c.deref_mut.ensures.value c.deref.ensures.value r.ensures.counts in
     let o = subst
-    (λ n. IsLayout n c.other.inside.room c.other.inside.counts.items c.other.inside.touched.items c.other.inside.used c.other.inside.total) (sym same) c.other.invariant in
+    (λ n. IsLayout n c.other.inside.room c.other.inside.counts.items c.other.inside.touched.items c.other.inside.used c.other.inside.total)
+    (sym same) c.other.invariant in
     subst (λ t. IsLayout i.classes i.room t (with_items i.touched r.new.touched).items r.result (i.total + c.other.inside.total))
     (sym (with_items_is i.counts r.new.counts l))
     (subst (λ t. IsLayout i.classes i.room r.new.counts t r.result (i.total + c.other.inside.total))

@@ -44,7 +44,8 @@ returns-then-n-gt0-clause-added c =
     (sym (items_are c))
     (subst (λ t. (a b : ℕ) →
     count_of (cells_of
-    (now c ++ cell_of c.args.lo c.args.hi c.args.n ∷ [])) a b ≡ count_of t.cells a b + one_of a b c.args.lo c.args.hi c.args.n) c.self.view_is
+    (now c ++ cell_of c.args.lo c.args.hi c.args.n ∷ [])) a b ≡ count_of t.cells a b + one_of a b c.args.lo c.args.hi c.args.n)
+    c.self.view_is
     (log_count c.args.lo c.args.hi c.args.n c.self.invariant c.make_place.ensures.entries c.requires.ordered (within c) c.if-n-gt0.true
     (free c)))
 

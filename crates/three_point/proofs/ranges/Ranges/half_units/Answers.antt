@@ -19,17 +19,25 @@ zero_by s z k (inr h) = get_or_past s k 0 h
 pub loop-range-init : goal.loop-range-init
 loop-range-init c =
     let same : c.deref-range-items.result.now ≡ c.args.self.now = c.deref-range-items.ensures.value ∙ c.self.view_is in
-    let zero : (k : ℕ) → slice_index c.fill.new.self k ≡ 0 = λ k. zero_by c.fill.new.self (λ j h. c.fill.ensures.clones j 0 (omega (arith, h, c.fill.ensures.len)) refl) k (cases_lt k (length c.fill.new.self)) in
+    let zero : (k : ℕ) → slice_index c.fill.new.self k ≡ 0 = λ k. zero_by c.fill.new.self
+    (λ j h. c.fill.ensures.clones j 0 (omega (arith, h, c.fill.ensures.len)) refl) k (cases_lt k (length c.fill.new.self)) in
     record {
-      left = subst (λ (l : List Range). All (IsWithin (length c.fill.new.self)) (counted_ranges l)) (sym same) (subst (λ n. All (IsWithin n) (counted_ranges c.args.self.now)) (sym c.fill.ensures.len) c.requires.within);
+      left = subst (λ (l : List Range). All (IsWithin (length c.fill.new.self)) (counted_ranges l)) (sym same)
+          (subst (λ n. All (IsWithin n) (counted_ranges c.args.self.now)) (sym c.fill.ensures.len) c.requires.within);
       added = λ k inside. omega (arith, zero k, ap (λ (l : List Range). half_units_at_range k (counted_ranges l)) same);
       few = λ k. omega (arith, zero k);
     }
 
 pub add_half_units-requires : goal.add_half_units-requires
 add_half_units-requires c =
-    let first = within_first _ c.deref-range-items.result.now c.loop-range.range-index none c.loop-range-test.true c.loop-range.invariant.left in
-    record { ordered = first.is.ordered; below = first.is.below; room = λ k. let f = first.is.few in omega (arith, c.loop-range.invariant.few k) }
+    let first = within_first _ c.deref-range-items.result.now c.loop-range.range-index none c.loop-range-test.true
+    c.loop-range.invariant.left in
+    record {
+      ordered = first.is.ordered;
+      below = first.is.below;
+      room = λ k. let f = first.is.few in
+          omega (arith, c.loop-range.invariant.few k);
+    }
 
 pub loop-range-preserved : goal.loop-range-preserved
 loop-range-preserved c =
@@ -38,10 +46,20 @@ loop-range-preserved c =
     let same : length c.loop-range.out ≡ length c.add_half_units.new.out = omega arith in
     record {
       left = subst (λ (n : ℕ). All (IsWithin n) (counted_ranges (drop (c.loop-range.range-index + 1) items))) same first.others;
-      added = λ k inside. omega (arith, half_units_at_range-first k items c.loop-range.range-index none c.loop-range-test.true, c.loop-range.invariant.added k (subst (λ (n : ℕ). k < n) (sym same) inside), c.add_half_units.ensures.added k (subst (λ (n : ℕ). k < n) (sym same) inside));
+      added = λ k inside. omega (
+        arith,
+        half_units_at_range-first k items c.loop-range.range-index none c.loop-range-test.true,
+        c.loop-range.invariant.added k (subst (λ (n : ℕ). k < n) (sym same) inside),
+        c.add_half_units.ensures.added k
+            (subst (λ (n : ℕ). k < n) (sym same) inside),
+      );
       few = λ k. let f = first.is.few in omega (arith, c.loop-range.invariant.few k, c.add_half_units.ensures.few k);
     }
 
 pub returns : goal.returns
 returns c = λ k inside. let same : length c.loop-range.out ≡ length c.args.out.now = omega arith in
-    omega (arith, half_units_at_range-past k c.deref-range-items.result.now c.loop-range.range-index c.loop-range-test.false, c.loop-range.invariant.added k (subst (λ (n : ℕ). k < n) (sym same) inside))
+    omega (
+      arith,
+      half_units_at_range-past k c.deref-range-items.result.now c.loop-range.range-index c.loop-range-test.false,
+      c.loop-range.invariant.added k (subst (λ (n : ℕ). k < n) (sym same) inside),
+    )

@@ -9,6 +9,7 @@ use Rattle.three_point.proofs.ranges.Ranges.half_units.Given as goal
 abbrev pub invariant-loop-range : goal.invariant-loop-range
 invariant-loop-range l = record {
   left : All (IsWithin (length l.out)) (counted_ranges (drop l.range-index l.range-items));
-  added : (k : ℕ) → k < length l.out → slice_index l.out k + half_units_at_range k (counted_ranges (drop l.range-index l.range-items)) ≡ half_units_at_range k (counted_ranges l.self);
+  added : (k : ℕ) → k < length l.out → slice_index l.out k + half_units_at_range k (counted_ranges (drop l.range-index l.range-items)) ≡
+      half_units_at_range k (counted_ranges l.self);
   few : (k : ℕ) → slice_index l.out k ≤ 2 * l.range-index;
 }

@@ -15,4 +15,5 @@ pub returns-clause-counted : goal.returns-clause-counted
 returns-clause-counted g c points h =
     let same = ap (λ s. reverse (take c.self.inside.len s)) c.deref.ensures.value ∙ ap (λ r. r.live) c.self.view_is in
     counted_all (g.C.RangeCounter.holds c.count_left.new.counter) h
-    (λ given k. subst (λ l. g.C.RangeCounter.holds c.count_left.new.counter (given ++ ranges_left l)) same (c.count_left.ensures.holds given k))
+    (λ given k. subst (λ l. g.C.RangeCounter.holds c.count_left.new.counter (given ++ ranges_left l)) same
+    (c.count_left.ensures.holds given k))

@@ -17,7 +17,8 @@ invariant_of-self g c =
     let same : length r.new.live ≡ length old.items = omega (arith, ap length c.deref_mut.ensures.value) in
     let point : c.args.point < c.self.inside.classes = omega (arith, c.requires.point, ap (λ r. r.classes) c.self.view_is) in
     subst (λ t. IsRunBuffer c.self.inside.classes t r.result) (sym (take-written_back old.len r.new.live old.items (omega arith)))
-    (buffer_after point c.self.invariant same r.ensures.within (r.ensures.live ∙ ap (λ s. live_after c.args.point (reverse (take c.self.inside.len s))) c.deref_mut.ensures.value))
+    (buffer_after point c.self.invariant same r.ensures.within (r.ensures.live
+    ∙ ap (λ s. live_after c.args.point (reverse (take c.self.inside.len s))) c.deref_mut.ensures.value))
 
 pub returns-clause-bound : goal.returns-clause-bound
 returns-clause-bound g c = length-live c.self.inside.classes _ (invariant_of-self g c).is_live

@@ -20,8 +20,10 @@ loop-point-preserved g c =
     record {
       buffer = buffer_after below i.buffer (omega arith) r.within r.live;
       counted = λ before h.
-          let more = ap (λ l. before ++ l) (take_more p n 0 c.loop-point-test.true) ∙ sym (append_assoc before (take n p) (get_or p n 0 ∷ [])) in
-          subst (λ l. HasCounted l (reverse (take c.read-len.result c.read-len.new.live)) (g.C.RangeCounter.holds c.read-len.new.counter)) (sym more)
+          let more = ap (λ l. before ++ l) (take_more p n 0 c.loop-point-test.true)
+          ∙ sym (append_assoc before (take n p) (get_or p n 0 ∷ [])) in
+          subst (λ l. HasCounted l (reverse (take c.read-len.result c.read-len.new.live)) (g.C.RangeCounter.holds c.read-len.new.counter))
+          (sym more)
           (counted_next (get_or p n 0) (i.counted before h) r.holds r.live);
       room = omega (arith, i.room, r.room);
       classes = r.classes ∙ i.classes;

@@ -14,9 +14,12 @@ returns-clause-turned c h given t =
     let k = c.keep_turns-kept in
     let rest = drop c.keep_changes-count.result c.keep_changes-count.new.levels in
     let turns : take k.result (k.new.levels ++ rest) ≡ turns_in p x (changes x l) =
-    take-append-le k.result k.new.levels rest (omega (arith, k.ensures.within, k.auto.levels)) ∙ k.ensures.turns ∙ ap (turns_in p x) c.keep_changes-count.ensures.changes in
+    take-append-le k.result k.new.levels rest (omega (arith, k.ensures.within, k.auto.levels)) ∙ k.ensures.turns ∙ ap (turns_in p x)
+    c.keep_changes-count.ensures.changes in
     let point = c.last_level.ensures ∙ ap (last_of p) turns in
     let newest = c.last_level-newest.ensures ∙ ap (last_of x) c.keep_changes-count.ensures.changes in
-    let state = c.new-self-inside.ensures ∙ ap (λ a. recent_of a c.last_level-newest.result) point ∙ ap (recent_of (last_of p (turns_in p x (changes x l)))) newest in
+    let state = c.new-self-inside.ensures ∙ ap (λ a. recent_of a c.last_level-newest.result) point
+    ∙ ap (recent_of (last_of p (turns_in p x (changes x l)))) newest in
     subst (λ s. HasGiven (h ++ l) (given ++ take k.result (k.new.levels ++ rest)) s) (sym state)
-    (subst (λ g. HasGiven (h ++ l) (given ++ g) (recent_of (last_of p (turns_in p x (changes x l))) (last_of x (changes x l)))) (sym turns) (piece h given p x l t))
+    (subst (λ g. HasGiven (h ++ l) (given ++ g) (recent_of (last_of p (turns_in p x (changes x l))) (last_of x (changes x l)))) (sym turns)
+    (piece h given p x l t))

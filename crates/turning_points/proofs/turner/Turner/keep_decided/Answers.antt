@@ -7,7 +7,8 @@ use Rattle.turning_points.proofs.turner.Turner.keep_decided.Goals as goal
 pub returns-else-is_empty-clause-turned : goal.returns-else-is_empty-clause-turned
 returns-else-is_empty-clause-turned c h given t =
     let some : 0 < length c.args.levels.now = grind (arith, nat_tests, c.is_empty.ensures, c.if-is_empty.false) in
-    first_piece c.args.levels.now c.keep_behind.new.levels c.keep_behind.result (length c.args.levels.now - 1) _ some (omega arith) (omega arith) (omega (arith, c.keep_behind.ensures.within))
+    first_piece c.args.levels.now c.keep_behind.new.levels c.keep_behind.result (length c.args.levels.now - 1) _ some (omega arith)
+    (omega arith) (omega (arith, c.keep_behind.ensures.within))
     c.keep_behind.ensures.turned h given (known c.self.view_is c.in-Nothing.is t)
 
 pub returns-in-One-clause-turned : goal.returns-in-One-clause-turned
