@@ -9,14 +9,19 @@ use turning_points::is_between;
 
 /// Whether the inner two of four points are one full cycle.
 // Points rise and fall in turn, so the two are not further apart than either of their neighbours'
-// distances exactly where both lie between the outer two.
+// distances exactly where both lie between the outer two. Which side of the two is the lower one
+// changes from point to point, so a processor foresees it.
 #[inline(always)]
 fn is_cycle(a: u16, b: u16, c: u16, d: u16) -> bool
     requires first { IsTrue (is_turn a b c) }
     requires second { IsTrue (is_turn b c d) }
     ensures { IsTrue result ↔ ((range b c ≤ range a b) × (range b c ≤ range c d)) }
 {
-    a.min(d) <= b.min(c) && b.max(c) <= a.max(d)
+    if b < c {
+        d <= b && c <= a
+    } else {
+        b <= d && a <= c
+    }
 }
 
 /// Whether a level goes on in the direction from a point to the last one. Each of the three differs
@@ -30,43 +35,47 @@ fn goes_on(before: u16, last: u16, level: u16) -> bool
     (before < last) == (last < level)
 }
 
-/// Puts a level behind the first `len` levels, a list of points, and says how many points there are
-/// then.
+/// How many points there are with a level behind the first `len` levels, a list of points. The level
+/// is the last of them, and those before it stand where they stood.
 #[inline(always)]
-fn extend(levels: &mut [u16], len: usize, level: u16) -> usize
-    requires within { len < length levels.old }
-    requires points { points (take len levels.old) ≡ take len levels.old }
+fn extended(levels: &[u16], len: usize, level: u16) -> usize
+    requires within { len < length levels.now }
+    requires points { points (take len levels.now) ≡ take len levels.now }
+    ensures some { 1 ≤ result }
     ensures within { result ≤ len + 1 }
-    ensures points { take result levels.new ≡ points (take len levels.old ++ level ∷ []) }
-    ensures front { take (result - 1) levels.new ≡ take (result - 1) levels.old }
+    ensures points { take (result - 1) levels.now ++ level ∷ [] ≡
+        points (take len levels.now ++ level ∷ []) }
 {
     if len == 0 {
-        levels[0] = level;
         return 1;
     }
     if levels[len - 1] == level {
         return len;
     }
     if len >= 2 && goes_on(levels[len - 2], levels[len - 1], level) {
-        levels[len - 1] = level;
         return len;
     }
-    levels[len] = level;
     len + 1
 }
 
-/// Deletes cycles from the end of the first `len` levels, and says how many levels are left.
+/// Deletes cycles from the end of `len` points, the first `len - 1` levels and then `last`, and says
+/// how many points are left.
+// The last point stays out of the buffer until its place is known: what was just written would
+// have to be read again at each step.
 #[inline(always)]
-fn delete_cycles(levels: &mut [u16], mut len: usize, tally: &mut Tally) -> usize
+fn delete_cycles(levels: &mut [u16], mut len: usize, last: u16, tally: &mut Tally) -> usize
+    requires some { 1 ≤ len }
     requires within { len ≤ length levels.old }
-    requires below { All (λ level. level < tally.old.classes) (take len levels.old) }
-    requires points { points (take len levels.old) ≡ take len levels.old }
+    requires below { All (λ level. level < tally.old.classes) (take (len - 1) levels.old) }
+    requires last { last < tally.old.classes }
+    requires points { points (take (len - 1) levels.old ++ last ∷ []) ≡
+        take (len - 1) levels.old ++ last ∷ [] }
     requires no_cycle { HasNoCycleBelow levels.old (len - 1) }
     requires total { total_of tally.old.cells + len ≤ MAX_TOTAL + 1 }
     requires room { HasGreatestRoom tally.old
         ⊎ (2 * length tally.old.cells + len ≤ 2 * tally.old.room + 1) }
     ensures within { result ≤ len }
-    ensures cycles { AddsCycles (take len levels.old) (count_of tally.old.cells)
+    ensures cycles { AddsCycles (take (len - 1) levels.old ++ last ∷ []) (count_of tally.old.cells)
         (take result levels.new) (count_of tally.new.cells) }
     ensures below { All (λ level. level < tally.old.classes) (take result levels.new) }
     ensures points { points (take result levels.new) ≡ take result levels.new }
@@ -76,20 +85,13 @@ fn delete_cycles(levels: &mut [u16], mut len: usize, tally: &mut Tally) -> usize
     ensures classes { tally.new.classes ≡ tally.old.classes }
     ensures tally_room { tally.new.room ≡ tally.old.room }
 {
-    while len >= 4
-        && is_cycle(
-            levels[len - 4],
-            levels[len - 3],
-            levels[len - 2],
-            levels[len - 1],
-        )
-    {
+    while len >= 4 && is_cycle(levels[len - 4], levels[len - 3], levels[len - 2], last) {
         let b = levels[len - 3];
         let c = levels[len - 2];
         tally.add(b.min(c), b.max(c), 1);
-        levels[len - 3] = levels[len - 1];
         len -= 2;
     }
+    levels[len - 1] = last;
     len
 }
 
@@ -115,8 +117,8 @@ pub fn push(levels: &mut [u16], len: usize, level: u16, tally: &mut Tally) -> us
     ensures classes { tally.new.classes ≡ tally.old.classes }
     ensures tally_room { tally.new.room ≡ tally.old.room }
 {
-    let longer = extend(levels, len, level);
-    delete_cycles(levels, longer, tally)
+    let longer = extended(levels, len, level);
+    delete_cycles(levels, longer, level, tally)
 }
 
 /// Whether the level at `i` goes on a residue, the levels before it.
