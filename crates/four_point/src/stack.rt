@@ -1,4 +1,4 @@
-ghost use Rattle.std.specs.Prelude.{◌≡◌, ◌≢◌, ◌+◌, ◌*◌, ◌-◌, ◌^◌, ◌<◌, ◌≤◌, ◌↔◌, ◌++◌, ◌∷◌, ◌⊎◌, [], All, IsTrue, length, take};
+ghost use Rattle.std.specs.Prelude.{◌≡◌, ◌≢◌, ◌+◌, ◌*◌, ◌-◌, ◌^◌, ◌<◌, ◌≤◌, ◌↔◌, ◌++◌, ◌∷◌, ◌⊎◌, [], All, IsTrue, length, slice_index, take};
 ghost use Rattle.turning_points.specs.Points.{IsBetween, is_turn, points};
 ghost use Rattle.turning_points.specs.Pairs.{range};
 ghost use Rattle.tally.specs.Counts.{count_of, total_of, HasGreatestRoom};
@@ -35,12 +35,13 @@ fn goes_on(before: u16, last: u16, level: u16) -> bool
     (before < last) == (last < level)
 }
 
-/// How many points there are with a level behind the first `len` levels, a list of points. The level
-/// is the last of them, and those before it stand where they stood.
+/// How many points there are with a level behind the first `len` levels, a list of points that ends
+/// at another level. The level is the last of them, and those before it stand where they stood.
 #[inline(always)]
 fn extended(levels: &[u16], len: usize, level: u16) -> usize
     requires within { len < length levels.now }
     requires points { points (take len levels.now) ≡ take len levels.now }
+    requires change { 0 < len → slice_index levels.now (len - 1) ≢ level }
     ensures some { 1 ≤ result }
     ensures within { result ≤ len + 1 }
     ensures points { take (result - 1) levels.now ++ level ∷ [] ≡
@@ -48,9 +49,6 @@ fn extended(levels: &[u16], len: usize, level: u16) -> usize
 {
     if len == 0 {
         return 1;
-    }
-    if levels[len - 1] == level {
-        return len;
     }
     if len >= 2 && goes_on(levels[len - 2], levels[len - 1], level) {
         return len;
@@ -117,6 +115,9 @@ pub fn push(levels: &mut [u16], len: usize, level: u16, tally: &mut Tally) -> us
     ensures classes { tally.new.classes ≡ tally.old.classes }
     ensures tally_room { tally.new.room ≡ tally.old.room }
 {
+    if len > 0 && levels[len - 1] == level {
+        return len;
+    }
     let longer = extended(levels, len, level);
     delete_cycles(levels, longer, level, tally)
 }

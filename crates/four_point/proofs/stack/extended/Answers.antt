@@ -1,8 +1,7 @@
-use Rattle.std.proofs.Common.{◌-◌, ◌∷◌, ◌++◌, [], ◌∙◌, sym, ap, take, arith}
+use Rattle.std.proofs.Common.{◌∷◌, ◌++◌, [], ◌∙◌, sym, ap, take, arith}
 use Rattle.std.proofs.lemmas.Bool.{both_ways}
 use Rattle.std.proofs.lemmas.List.{take_more_set}
-use Rattle.lemmas.proofs.Lists.{take_next}
-use Rattle.turning_points.proofs.Extended.{at_first, at_equal, at_between, at_turn}
+use Rattle.turning_points.proofs.Extended.{at_first, at_between, at_turn}
 use Rattle.four_point.proofs.Index.{last_differ}
 use Rattle.four_point.proofs.Stacked.{take_with_last}
 use Rattle.four_point.proofs.stack.extended.Goals as goal
@@ -12,13 +11,6 @@ pub returns-then-len-eq0-clause-points : goal.returns-then-len-eq0-clause-points
 returns-then-len-eq0-clause-points c =
     sym (take_with_last c.args.levels.now 1 c.args.level (omega arith) (omega arith))
     ∙ at_first c.args.levels.now c.args.len c.args.level c.if-len-eq0.true c.requires.within
-
-pub returns-then-levels-len-clause-points : goal.returns-then-levels-len-clause-points
-returns-then-levels-len-clause-points c =
-    let s = c.args.levels.now in
-    let n = c.args.len in
-    ap (λ x. take (n - 1) s ++ x ∷ []) (sym c.if-levels-len.true) ∙ sym (take_next s (n - 1) n (omega arith) (omega arith))
-    ∙ at_equal s n c.args.level (omega arith) (omega arith) c.requires.points c.if-levels-len.true
 
 pub returns-then-goes_on-clause-points : goal.returns-then-goes_on-clause-points
 returns-then-goes_on-clause-points c =
@@ -33,7 +25,7 @@ pub returns-clause-points : goal.returns-clause-points
 returns-clause-points c =
     ap (λ n. take n c.args.levels.now ++ c.args.level ∷ []) (omega arith)
     ∙ sym (take_more_set c.args.levels.now c.args.len c.args.level c.requires.within)
-    ∙ at_turn c.args.levels.now c.args.len c.args.level (omega arith) c.requires.within c.requires.points c.if-levels-len.false
+    ∙ at_turn c.args.levels.now c.args.len c.args.level (omega arith) c.requires.within c.requires.points (c.requires.change (omega arith))
     (elim c.else-len-ge2.branch [
       | else-len-ge2-via-then-len-ge2+else-goes_on w ↦ λ h b. both_ways _ w.if-goes_on.false
           (w.goes_on.ensures.1 b)
