@@ -37,7 +37,7 @@ turn_at (x ∷ y ∷ []) i z h = absurd (omega arith)
 turn_at (x ∷ y ∷ w ∷ l) zero (inner t g) h = t
 turn_at (x ∷ y ∷ w ∷ l) (suc i) (inner t g) h = turn_at (y ∷ w ∷ l) i g (omega arith)
 
-turn_here : (p : List ℕ) (i : ℕ) → IsZigzag p → 2 ≤ i → i < length p → Turn (get_or p (i - 2) 0) (get_or p (i - 1) 0) (get_or p i 0)
+pub turn_here : (p : List ℕ) (i : ℕ) → IsZigzag p → 2 ≤ i → i < length p → Turn (get_or p (i - 2) 0) (get_or p (i - 1) 0) (get_or p i 0)
 turn_here p i z o h =
     let t = turn_at p (i - 2) z (omega arith) in
     let a : suc (i - 2) ≡ i - 1 = omega arith in

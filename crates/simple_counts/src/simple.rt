@@ -70,6 +70,16 @@ pub fn is_extreme(reference: u16, a: u16, b: u16, c: u16) -> bool
     }
 }
 
+/// The same of a `b` that is known to turn. No branch is taken on the reference level, on whose
+/// side a point lies by chance.
+#[inline(always)]
+pub fn is_extreme_turn(reference: u16, a: u16, b: u16, c: u16) -> bool
+    requires turn { IsTrue (is_turn a b c) }
+    ensures { result ≡ is_extreme reference a b c }
+{
+    (a < b) == (reference <= b)
+}
+
 /// The distance of two levels.
 #[inline(always)]
 pub fn range(a: u16, b: u16) -> usize
