@@ -1,8 +1,10 @@
-ghost use Rattle.std.specs.Prelude.{◌≡◌, ℕ, ◌+◌, ◌^◌, ◌<◌, ◌≤◌, ◌⊎◌, ◌==◌, ◌&&◌, if◌then◌else◌, [], IfOk, find, length, take, slice_index};
+ghost use Rattle.std.specs.Prelude.{◌≡◌, ℕ, ◌+◌, ◌^◌, ◌<◌, ◌≤◌, ◌⊎◌, ◌==◌, ◌&&◌, if◌then◌else◌, [], All, IfOk, find, length, take, slice_index};
 ghost use Rattle.calibration.specs.declared.grid.TheConstants.{MAX_CLASSES, MIN_CLASSES};
 
 use crate::cells::{Cell, MAX_TOTAL};
-use crate::layout::{empty, first_from, order, place, raise, raise_all, write_cells, write_row};
+use crate::layout::{
+    empty, first_from, order, place, raise, raise_all, raise_each, write_cells, write_row,
+};
 use std::alloc::{AllocError, Global};
 use std::marker::Model;
 
@@ -29,7 +31,8 @@ impl Model for Dense {
 }
 
 impl Dense {
-    ghost use Rattle.tally.specs.Counts.{IsCounts, count_of, total_of, is_from, most_cells, HasGreatestRoom, HasPlace};
+    ghost use Rattle.tally.specs.Counts.{IsCell, IsCounts, count_of, total_of, is_from, most_cells, HasGreatestRoom, HasPlace};
+    ghost use Rattle.tally.specs.Log.{cells_of};
 
     /// Reserves the whole table, and a list of places as long as the room, with one place to spare.
     pub fn new(alloc: Global, classes: u16, room: u32) -> Result<Dense, AllocError>
@@ -143,6 +146,33 @@ impl Dense {
         order(&mut self.touched, self.used);
         write_cells(&self.counts, self.classes, &self.touched, self.used, out);
         self.used
+    }
+
+    /// Adds each entry of a list. They come to `total` together.
+    pub fn add_entries(&mut self, entries: &[Cell], total: u64)
+        requires each { All (IsCell self.old.classes) entries.now }
+        requires sum { total ≡ total_of entries.now }
+        requires total { total_of self.old.cells + total ≤ MAX_TOTAL }
+        requires room { HasGreatestRoom self.old
+            ⊎ (length self.old.cells + length (cells_of entries.now) ≤ self.old.room) }
+        ensures merged { (a b : ℕ) → count_of self.new.cells a b ≡
+            count_of self.old.cells a b + count_of (cells_of entries.now) a b }
+        ensures total { total_of self.new.cells ≡ total_of self.old.cells + total }
+        ensures cells { length self.new.cells ≤
+            length self.old.cells + length (cells_of entries.now) }
+        ensures classes { self.new.classes ≡ self.old.classes }
+        ensures room { self.new.room ≡ self.old.room }
+        ensures counts { IsCounts self.new }
+    {
+        let classes = self.classes;
+        self.used = raise_each(
+            &mut self.counts,
+            &mut self.touched,
+            self.used,
+            classes,
+            entries,
+        );
+        self.total += total;
     }
 
     pub fn merge(&mut self, other: &Dense)

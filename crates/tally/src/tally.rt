@@ -172,16 +172,15 @@ impl Tally {
         ensures counts { IsCounts self.new }
     {
         match &other.storage {
-            Storage::Log(others) => {
-                let is_added = match &mut self.storage {
-                    Storage::Dense(_) => false,
-                    Storage::Log(log) => log.append(others),
-                };
-                if !is_added {
-                    let _counts = self.classes();
-                    add_entries(self, others.entries());
+            Storage::Log(others) => match &mut self.storage {
+                Storage::Dense(dense) => dense.add_entries(others.entries(), others.total()),
+                Storage::Log(log) => {
+                    if !log.append(others) {
+                        let _counts = log.classes();
+                        add_entries(log, others.entries());
+                    }
                 }
-            }
+            },
             Storage::Dense(others) => match &mut self.storage {
                 Storage::Dense(dense) => dense.merge(others),
                 Storage::Log(log) => {
@@ -220,25 +219,25 @@ impl Tally {
     }
 }
 
-/// Adds each entry of a log.
-fn add_entries(tally: &mut Tally, entries: &[Cell])
-    requires counts { IsCounts tally.old }
-    requires each { All (IsCell tally.old.classes) entries.now }
-    requires total { total_of tally.old.cells + total_of entries.now ≤ MAX_TOTAL }
-    requires room { HasGreatestRoom tally.old
-        ⊎ (length tally.old.cells + length (cells_of entries.now) ≤ tally.old.room) }
-    ensures merged { (a b : ℕ) → count_of tally.new.cells a b ≡
-        count_of tally.old.cells a b + count_of (cells_of entries.now) a b }
-    ensures total { total_of tally.new.cells ≡
-        total_of tally.old.cells + total_of (cells_of entries.now) }
-    ensures cells { length tally.new.cells ≤
-        length tally.old.cells + length (cells_of entries.now) }
-    ensures classes { tally.new.classes ≡ tally.old.classes }
-    ensures room { tally.new.room ≡ tally.old.room }
-    ensures counts { IsCounts tally.new }
+/// Adds each entry to a log, one by one: it is put in order where it is full.
+fn add_entries(log: &mut Log, entries: &[Cell])
+    requires counts { IsCounts log.old }
+    requires each { All (IsCell log.old.classes) entries.now }
+    requires total { total_of log.old.cells + total_of entries.now ≤ MAX_TOTAL }
+    requires room { HasGreatestRoom log.old
+        ⊎ (length log.old.cells + length (cells_of entries.now) ≤ log.old.room) }
+    ensures merged { (a b : ℕ) → count_of log.new.cells a b ≡
+        count_of log.old.cells a b + count_of (cells_of entries.now) a b }
+    ensures total { total_of log.new.cells ≡
+        total_of log.old.cells + total_of (cells_of entries.now) }
+    ensures cells { length log.new.cells ≤
+        length log.old.cells + length (cells_of entries.now) }
+    ensures classes { log.new.classes ≡ log.old.classes }
+    ensures room { log.new.room ≡ log.old.room }
+    ensures counts { IsCounts log.new }
 {
     for entry in entries {
-        tally.add(entry.lo, entry.hi, entry.n);
+        log.add(entry.lo, entry.hi, entry.n);
     }
 }
 
