@@ -1,7 +1,7 @@
-//! The bytes that are made of a full segment, and what they take: its text in a report and its body
-//! in a store. For each a digest of its bytes, and with the word `time` also the least processor
-//! time of nine calls, in microseconds, over a segment of so much noise that nearly every pair of
-//! levels was counted.
+//! The bytes that are made of a full segment, and what they take: its text in a report, its body in
+//! a store, and the SHA-256 of the body, which the store has behind it. For each a digest of its
+//! bytes, and with the word `time` also the least processor time of nine calls, in microseconds,
+//! over a segment of so much noise that nearly every pair of levels was counted.
 //!
 //! Only safety is proved here. What the calls write is said by their own contracts.
 #![tactic(auto)]
@@ -12,8 +12,9 @@ use made::{body_of, digest_of, noise_segment};
 use report::{Page, gauge_text};
 use segment::Segment;
 use segment_bytes::{Layout, max_body};
+use sha2::{Digest, Sha256};
 use std::rt::Env;
-use std::time::CpuClock;
+use std::time::{CpuClock, Duration};
 use std::{env, fmt, io};
 
 const REPEATS: u32 = 9;
@@ -30,6 +31,7 @@ fn main(rt: HostRuntime) -> io::Result<()> {
         let segment = noise_segment(rt.alloc(), classes, samples)?;
         show(&rt, repeats, &segment, What::Text)?;
         show(&rt, repeats, &segment, What::Body)?;
+        show(&rt, repeats, &segment, What::Sha256)?;
     }
     Ok(())
 }
@@ -39,6 +41,7 @@ fn main(rt: HostRuntime) -> io::Result<()> {
 enum What {
     Text,
     Body,
+    Sha256,
 }
 
 impl What {
@@ -46,6 +49,7 @@ impl What {
         match self {
             What::Text => time_text(rt, segment),
             What::Body => time_body(rt, segment),
+            What::Sha256 => time_sha256(rt, segment),
         }
     }
 }
@@ -55,7 +59,17 @@ impl fmt::Display for What {
         f.write_str(match self {
             What::Text => "gauge_text",
             What::Body => "body",
+            What::Sha256 => "sha256_of_body",
         })
+    }
+}
+
+// The nanoseconds between two readings of the clock.
+fn nanos(start: Duration, end: Duration) -> u128 {
+    if end >= start {
+        (end - start).as_nanos()
+    } else {
+        u128::MAX
     }
 }
 
@@ -65,12 +79,7 @@ fn time_text<R: CpuClock + AllocGlobal>(rt: &R, segment: &Segment) -> io::Result
     let start = rt.process_cpu_time()?;
     gauge_text(&mut page, "gauge", segment);
     let end = rt.process_cpu_time()?;
-    let time = if end >= start {
-        (end - start).as_nanos()
-    } else {
-        u128::MAX
-    };
-    Ok((digest_of(page.bytes()), time))
+    Ok((digest_of(page.bytes()), nanos(start, end)))
 }
 
 // Likewise of the body in a store.
@@ -80,12 +89,18 @@ fn time_body<R: CpuClock + AllocGlobal>(rt: &R, segment: &Segment) -> io::Result
     let start = rt.process_cpu_time()?;
     let body = body_of(segment, &mut buf);
     let end = rt.process_cpu_time()?;
-    let time = if end >= start {
-        (end - start).as_nanos()
-    } else {
-        u128::MAX
-    };
-    Ok((digest_of(body), time))
+    Ok((digest_of(body), nanos(start, end)))
+}
+
+// Likewise of the SHA-256 of the body.
+fn time_sha256<R: CpuClock + AllocGlobal>(rt: &R, segment: &Segment) -> io::Result<(u64, u128)> {
+    let longest = max_body(Layout::Two, segment.grid().classes());
+    let mut buf = vec![in rt.alloc(); 0; longest]?;
+    let body = body_of(segment, &mut buf);
+    let start = rt.process_cpu_time()?;
+    let sha256 = Sha256::digest(body);
+    let end = rt.process_cpu_time()?;
+    Ok((digest_of(&sha256), nanos(start, end)))
 }
 
 // The same digest and the least time of so many calls.
