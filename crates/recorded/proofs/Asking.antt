@@ -4,8 +4,9 @@
 --   asks_file          it was asked for
 --   asks_more          and so was that of one gauge more
 --   asks_then_none     and then nothing
---   first_names        some of the first gauges
---   first_then_none, none_is_first, first_read
+--   stops_behind       it was the last
+--   first_names        the first so many
+--   none_is_first, first_then_none, first_read
 use Rattle.std.proofs.Common.{◌≡◌, ◌<◌, ◌≤◌, ◌+◌, ℕ, List, [], ◌∷◌, ◌++◌, length, take, slice_index_or, sym, ◌∙◌, ap, subst, append_assoc, append-nil, arith}
 use Rattle.std.proofs.lemmas.List.{get_or_default, length-map, map_more, take-map}
 use Rattle.std.specs.Prelude.{Result, Ok}
@@ -43,6 +44,9 @@ module _ (c : Config) (g : ℕ) (a b : Asked) (asks : Asks a b (take g (file_nam
   asks_more d lt one = λ names has. subst d
       (append_assoc names (take g (file_names c)) (file_of c g ∷ []) ∙ ap (λ (l : List (List ℕ)). names ++ l) (sym (next_name c g lt)))
       (one (names ++ take g (file_names c)) (asks names has))
+
+  pub stops_behind : (d : Asked) → g < length c.gauges → Asks b d (file_of c g ∷ []) → AsksFirst a d (file_names c)
+  stops_behind d lt one = (g + 1, omega (arith, lt, length-map c.gauges (λ (gauge : Gauge). gauge.file)), asks_more d lt one)
 
   pub first_names : g ≤ length c.gauges → AsksFirst a b (file_names c)
   first_names le = (g, omega (arith, le, length-map c.gauges (λ (gauge : Gauge). gauge.file)), asks)

@@ -11,9 +11,8 @@ use Rattle.recording.specs.declared.head.Head.{Head}
 use Rattle.recording.specs.declared.ends.FillEnd.{FillEnd}
 use Rattle.recording.specs.declared.ends.FillEnd.TheVariants.{More, Ended, Torn}
 use Rattle.recording.proofs.SampleLists.{length-samples, samples-drop, torn_bytes-drop}
-use Rattle.site_config.specs.Valid.{file_of, no_gauge}
+use Rattle.site_config.specs.Valid.{file_of}
 use Rattle.site_config.specs.declared.config.Config.{Config}
-use Rattle.site_config.specs.declared.config.Gauge.{Gauge}
 use Rattle.status.specs.declared.status.RecordingFault.{RecordingFault}
 use Rattle.status.specs.declared.status.Status.{Status}
 use Rattle.status.specs.declared.status.Status.TheVariants as status
@@ -36,11 +35,6 @@ behind {n} {k} {body} {before} {left} {end} more same takes =
       samples_left = ap samples (t.left (λ e. cc)) ∙ samples-drop n body;
       torn_left = ap torn_bytes (t.left (λ e. cc)) ∙ torn_bytes-drop n body (omega (arith, many, length-samples body));
     }
-
-pub file_is : (conf : Config) (g : ℕ) (gauges : List Gauge) (here : Gauge) (name : List ℕ) → g < length conf.gauges → gauges ≡ conf.gauges
-    → name ≡ (slice_index_or gauges g here).file → file_of conf g ≡ name
-file_is conf g gauges here name lt same is = ap (λ (x : Gauge). x.file) (get_or_default conf.gauges g no_gauge here lt)
-    ∙ ap (λ (l : List Gauge). (slice_index_or l g here).file) (sym same) ∙ sym is
 
 -- the first fault of a gauge's recording, by that of the file that was fetched
 module _ (conf : Config) (heads : List Head) (n : ℕ → ℕ) (files : Files) (g : ℕ) (lt : g < length heads) (name file : List ℕ)

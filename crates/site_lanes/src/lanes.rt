@@ -12,13 +12,17 @@ ghost use Rattle.std.specs.Prelude.{
   OnOk,
   OnErr,
   Err,
+  [],
+  ◌∷◌,
 };
 ghost use Rattle.std.specs.List.{All};
 ghost use Rattle.outside.specs.Fault.{Rose};
+ghost use Rattle.outside.specs.Site.{Asks};
 ghost use Rattle.lane_loans.specs.Lent.{CanRound};
 ghost use Rattle.segment_store.specs.Held.{ends_of};
-ghost use Rattle.site_config.specs.Valid.{IsConfig};
+ghost use Rattle.site_config.specs.Valid.{IsConfig, file_of};
 ghost use Rattle.recorded.specs.Recorded.{recorded};
+ghost use Rattle.recorded.specs.Asked.{AsksFirst, file_names};
 ghost use Rattle.site_lanes.specs.Lanes.{IsLane, AreLanes, AreHeldTo, HasSource, IsNew};
 ghost use Rattle.site_lanes.specs.Answers.{IsOpening, GaugeAnswers, OpenAnswers};
 ghost use Rattle.site_lanes.specs.Opening.{status_of};
@@ -64,6 +68,8 @@ fn open_lane<T: Site>(
     ensures opening { IfErr result IsOpening }
     ensures one_more { OnOk result (T.out site.new ≡ T.out site.old + 1) }
     ensures no_more { OnErr result (T.out site.new ≡ T.out site.old) }
+    ensures asked { Asks (T.names_asked site.old) (T.names_asked site.new)
+        (file_of conf.now gauge ∷ []) }
     ensures files { T.tells → T.files site.new ≡ T.files site.old }
     ensures cause { result ≡ Err ReadFault → Rose (T.faults site.old) (T.faults site.new) }
     ensures later { T.faults site.old ≤ T.faults site.new }
@@ -118,6 +124,8 @@ pub fn open_lanes<T: Site>(
         (slice_index (ends_of store.now.held)) (T.files site.old) result }
     ensures opening { IfErr result IsOpening }
     ensures out { T.out site.new ≡ vec_len lanes.new }
+    ensures asked { AsksFirst (T.names_asked site.old) (T.names_asked site.new)
+        (file_names conf.now) }
     ensures files { T.tells → T.files site.new ≡ T.files site.old }
     ensures cause { result ≡ Err ReadFault → Rose (T.faults site.old) (T.faults site.new) }
     ensures later { T.faults site.old ≤ T.faults site.new }

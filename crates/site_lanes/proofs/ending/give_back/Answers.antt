@@ -17,6 +17,7 @@ loop-preserved g c =
       out = omega (arith, was.out, c.give_back_one.ensures.back, c.in-Some.ensures.cases);
       sources = each_before (λ (x : Lane g.row.T-Src.Denot). HasSource x) fewer old c.in-Some.lane is was.sources;
       faulty = each_before (λ (x : Lane g.row.T-Src.Denot). IsFaulty g.T.Src.Source.faults x) fewer old c.in-Some.lane is was.faulty;
+      asked = λ names has. c.give_back_one.ensures.asked names (was.asked names has);
       files = λ shows. c.give_back_one.ensures.files shows ∙ was.files shows;
       left = omega (arith, was.left, c.in-Some.ensures.cases);
       fault = λ none whole. was.fault (λ rose. none (rose_more _ _ _ rose c.give_back_one.ensures.later))

@@ -1,10 +1,12 @@
-use Rattle.std.proofs.Common.{◌∙◌, ap, arith}
+use Rattle.std.proofs.Common.{[], ◌∷◌, ◌∙◌, ap, arith}
 use Rattle.std.specs.Prelude.{slice_index}
+use Rattle.site_config.specs.Valid.{file_of}
 use Rattle.segment_rules.specs.declared.name.Name.{Name}
 use Rattle.segment_store.specs.Held.{ends_of}
 use Rattle.store_head.specs.Head.{HeadValue}
 use Rattle.lane_loans.specs.declared.lane.Lane.{Lane}
-use Rattle.site_lanes.proofs.Opened.{file_is, gauge_fault, gauge_refused}
+use Rattle.recorded.proofs.Asking.{asks_file, asks_then_none, file_is}
+use Rattle.site_lanes.proofs.Opened.{gauge_fault, gauge_refused}
 use Rattle.site_lanes.proofs.lanes.open_lane.Goals as goal
 
 pub returns-in-Ok-open_recording-clause-answer : goal.returns-in-Ok-open_recording-clause-answer
@@ -24,3 +26,20 @@ returns-in-Err-open_recording-clause-answer g c = λ shows.
     (c.as_slice-2.ensures ∙ ap (λ (h : HeadValue). h.heads) c.head.ensures)
     (ap (λ (x : Name). x.to) c.name-held.ensures.value ∙ c.held.ensures.end) (Lane g.row.T-Src.Denot) c.in-Err-open_recording.fault _
     c.status_of.ensures (c.in-Err-open_recording.ensures.answer (c.in-Ok.ensures.source_tells shows))
+
+pub returns-in-Err-clause-asked : goal.returns-in-Err-clause-asked
+returns-in-Err-clause-asked g c =
+    asks_file c.args.conf.now c.args.gauge _ _ _ c.requires.known c.as_slice.ensures c.as_str-name.ensures
+    (g.T.Site.names_asked c.args.site.now) (g.T.Site.names_asked c.fetch.new.self) c.fetch.ensures.asked
+
+pub returns-in-Ok-open_recording-clause-asked : goal.returns-in-Ok-open_recording-clause-asked
+returns-in-Ok-open_recording-clause-asked g c =
+    asks_file c.args.conf.now c.args.gauge _ _ _ c.requires.known c.as_slice.ensures c.as_str-name.ensures
+    (g.T.Site.names_asked c.args.site.now) (g.T.Site.names_asked c.fetch.new.self) c.fetch.ensures.asked
+
+pub returns-in-Err-open_recording-clause-asked : goal.returns-in-Err-open_recording-clause-asked
+returns-in-Err-open_recording-clause-asked g c =
+    let asked = g.T.Site.names_asked in
+    asks_then_none (asked c.args.site.now) (asked c.fetch.new.self) (asked c.give_back.new.self) (file_of c.args.conf.now c.args.gauge ∷ [])
+    (asks_file c.args.conf.now c.args.gauge _ _ _ c.requires.known c.as_slice.ensures c.as_str-name.ensures (asked c.args.site.now)
+    (asked c.fetch.new.self) c.fetch.ensures.asked) c.give_back.ensures.asked

@@ -6,6 +6,7 @@ use Rattle.lane_loans.specs.Lent.{CanRound}
 use Rattle.lane_loans.specs.declared.lane.Lane.{Lane}
 use Rattle.lane_ends.specs.declared.end.End.TheVariants.{More}
 use Rattle.recorded.specs.Recorded.{recorded}
+use Rattle.recorded.proofs.Asking.{asks_more, stops_behind, first_names}
 use Rattle.site_lanes.specs.Answers.{GaugeAnswers, FaultOf}
 use Rattle.site_lanes.specs.Lanes.{HasSource, IsLane}
 use Rattle.site_lanes.proofs.Opened.{open_refused, all_more_opened}
@@ -32,6 +33,7 @@ loop-gauge-preserved g c =
     let long : c.loop-gauge.gauge ≡ length old = omega (arith, was.many, c.loop-gauge.lanes.ok.0) in
     let n = slice_index (ends_of c.args.store.now.held) in
     let r = recorded c.args.conf.now (g.T.Site.files c.args.site.now) in
+    let asked = g.T.Site.names_asked in
     record {
       out = omega (arith, now.one_more, was.out, c.push_reserved.ensures.len);
       many = omega (arith, was.many, c.push_reserved.ensures.len);
@@ -50,6 +52,8 @@ loop-gauge-preserved g c =
           (was.sound shows)
           (subst (λ (f : Files). FaultOf c.args.conf.now c.args.store.now.head.heads n f c.loop-gauge.gauge None) (was.files shows)
           (now.answer shows));
+      asked = asks_more c.args.conf.now c.loop-gauge.gauge (asked c.args.site.now) (asked c.loop-gauge.site) was.asked
+          (asked c.open_lane.new.site) (omega (arith, ap length c.as_slice-gauge-end.ensures)) c.open_lane.ensures.asked;
       files = λ shows. c.open_lane.ensures.files shows ∙ was.files shows;
       later = omega (arith, was.later, c.open_lane.ensures.later);
     }
@@ -57,3 +61,14 @@ loop-gauge-preserved g c =
 pub returns-clause-answer : goal.returns-clause-answer
 returns-clause-answer g c =
     λ shows h lt. c.loop-gauge.invariant.sound shows h (omega (arith, lt, c.loop-gauge-test.false, ap length c.as_slice-gauge-end.ensures))
+
+pub returns-in-Err-clause-asked : goal.returns-in-Err-clause-asked
+returns-in-Err-clause-asked g c =
+    let asked = g.T.Site.names_asked in
+    stops_behind c.args.conf.now c.loop-gauge.gauge (asked c.args.site.now) (asked c.loop-gauge.site) c.loop-gauge.invariant.asked
+    (asked c.open_lane.new.site) (omega (arith, ap length c.as_slice-gauge-end.ensures)) c.open_lane.ensures.asked
+
+pub returns-clause-asked : goal.returns-clause-asked
+returns-clause-asked g c =
+    first_names c.args.conf.now c.loop-gauge.gauge (g.T.Site.names_asked c.args.site.now) (g.T.Site.names_asked c.loop-gauge.site)
+    c.loop-gauge.invariant.asked (omega (arith, c.loop-gauge.auto.gauge-end, ap length c.as_slice-gauge-end.ensures))
