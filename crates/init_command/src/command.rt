@@ -4,6 +4,7 @@ ghost use Rattle.station.specs.Station.{Image, Since};
 ghost use Rattle.site_config.specs.Configuration.{config_of_bytes};
 ghost use Rattle.site_config.specs.Valid.{IsConfig};
 ghost use Rattle.site_config.specs.declared.config.Config.{Config};
+ghost use Rattle.recorded.specs.Asked.{AsksFirst, file_names, names_in};
 ghost use Rattle.status.specs.declared.status.Status.TheVariants.{Done, ReadFault, DiskFault, OutOfMemory};
 ghost use Rattle.fault_lines.specs.FaultLine.{fault_line, name_for, name_by};
 ghost use Rattle.fault_lines.specs.Telling.{TellsAtMost, EndsIn};
@@ -74,6 +75,9 @@ pub fn init_command<C: Source, T: Site, K: Station>(
     ensures read { result ≡ ReadFault → Rose (C.faults config.old) (C.faults config.new) ⊎
         Rose (T.faults site.old) (T.faults site.new) }
     ensures disk { result ≡ DiskFault → Rose (K.faults station.old) (K.faults station.new) }
+    // The gauges' files are asked for, in their order and each once, and no other.
+    ensures asked { C.tells → AsksFirst (T.names_asked site.old) (T.names_asked site.new)
+        (names_in (config_of_bytes (C.left config.old))) }
     ensures back { T.out site.new ≡ 0 }
     ensures files { T.tells → T.files site.new ≡ T.files site.old }
 {
@@ -127,6 +131,7 @@ fn init_by<T: Site, K: Station>(
     ensures kind { IsInit result }
     ensures read { result ≡ ReadFault → Rose (T.faults site.old) (T.faults site.new) }
     ensures disk { result ≡ DiskFault → Rose (K.faults station.old) (K.faults station.new) }
+    ensures asked { AsksFirst (T.names_asked site.old) (T.names_asked site.new) (file_names conf) }
     ensures back { T.out site.new ≡ 0 }
     ensures files { T.tells → T.files site.new ≡ T.files site.old }
 {

@@ -1,6 +1,8 @@
-ghost use Rattle.std.specs.Prelude.{◌≡◌, ◌≤◌, ◌<◌, Err, IfOk, IfErr, length};
+ghost use Rattle.std.specs.Prelude.{◌≡◌, ◌≤◌, ◌<◌, [], ◌∷◌, Err, IfOk, IfErr, length};
 ghost use Rattle.outside.specs.Fault.{Rose};
+ghost use Rattle.outside.specs.Site.{Asks};
 ghost use Rattle.site_config.specs.Valid.{IsConfig};
+ghost use Rattle.recorded.specs.Asked.{AsksFirst, file_names};
 ghost use Rattle.status.specs.declared.status.Status.TheVariants.{ReadFault};
 ghost use Rattle.init_command.specs.Heads.{HeadAnswer, HeadsAnswer, IsHeadsStatus, head_status as head_status_of};
 
@@ -24,6 +26,8 @@ pub(crate) fn read_heads<T: Site>(
     ensures kind { IfErr result IsHeadsStatus }
     ensures cause { result ≡ Err ReadFault → Rose (T.faults site.old) (T.faults site.new) }
     ensures later { T.faults site.old ≤ T.faults site.new }
+    ensures asked { AsksFirst (T.names_asked site.old) (T.names_asked site.new)
+        (file_names conf.now) }
     ensures back { T.out site.new ≡ 0 }
     ensures files { T.tells → T.files site.new ≡ T.files site.old }
 {
@@ -48,6 +52,7 @@ fn read_head_of<T: Site>(gauge: u16, file: &str, site: &mut T) -> Result<Head, S
     ensures kind { IfErr result IsHeadsStatus }
     ensures cause { result ≡ Err ReadFault → Rose (T.faults site.old) (T.faults site.new) }
     ensures later { T.faults site.old ≤ T.faults site.new }
+    ensures asked { Asks (T.names_asked site.old) (T.names_asked site.new) (file.now ∷ []) }
     ensures back { T.out site.new ≡ 0 }
     ensures files { T.tells → T.files site.new ≡ T.files site.old }
 {

@@ -1,5 +1,7 @@
 use Rattle.std.proofs.Common.{inl, inr, ⊎_elim}
 use Rattle.site_config.specs.Configuration.{config_of_bytes}
+use Rattle.recorded.specs.Asked.{names_in}
+use Rattle.recorded.proofs.Asking.{first_read, none_is_first}
 use Rattle.init_command.proofs.StoreMade.{refused_line, init_complete, answers_read}
 use Rattle.init_command.proofs.command.init_command.Goals as goal
 
@@ -23,3 +25,19 @@ returns-in-Ok-read_config-clause-answer g c = λ tells shows gives.
     answers_read (config_of_bytes (g.C.Source.left c.args.config.now)) c.in-Ok-read_config.conf (g.T.Site.files c.args.site.now)
     (g.K.Station.seen c.args.station.now) c.init_by.result (c.in-Ok-read_config.ensures.meaning gives)
     (c.init_by.ensures.answer tells shows)
+
+-- which files are asked for
+pub returns-in_default-clause-asked : goal.returns-in_default-clause-asked
+returns-in_default-clause-asked g c = λ gives.
+    none_is_first (g.T.Site.names_asked c.args.site.now) (g.T.Site.names_asked c.args.site.now)
+    (names_in (config_of_bytes (g.C.Source.left c.args.config.now))) (λ names has. has)
+
+pub returns-clause-asked : goal.returns-clause-asked
+returns-clause-asked g c = λ gives.
+    none_is_first (g.T.Site.names_asked c.args.site.now) (g.T.Site.names_asked c.args.site.now)
+    (names_in (config_of_bytes (g.C.Source.left c.args.config.now))) (λ names has. has)
+
+pub returns-in-Ok-read_config-clause-asked : goal.returns-in-Ok-read_config-clause-asked
+returns-in-Ok-read_config-clause-asked g c = λ gives.
+    first_read (config_of_bytes (g.C.Source.left c.args.config.now)) c.in-Ok-read_config.conf (g.T.Site.names_asked c.args.site.now)
+    (g.T.Site.names_asked c.init_by.new.site) (c.in-Ok-read_config.ensures.meaning gives) c.init_by.ensures.asked

@@ -1,6 +1,8 @@
-use Rattle.std.proofs.Common.{◌+◌, List, [], ◌∷◌, ◌∙◌, length, ap, sym, subst, length-append, arith}
+use Rattle.std.proofs.Common.{◌<◌, ◌+◌, List, [], ◌∷◌, ◌∙◌, length, ap, sym, subst, length-append, arith}
 use Rattle.std.specs.Prelude.{Ok, Err}
 use Rattle.recording.specs.declared.head.Head.{Head}
+use Rattle.recorded.specs.Asked.{file_names}
+use Rattle.recorded.proofs.Asking.{asks_file, asks_more, stops_behind, first_names, none_is_first}
 use Rattle.init_command.specs.Heads.{AreHeadsBelow, AreHeads, HasHeadIn, HeadAnswer}
 use Rattle.init_command.proofs.Reading.{heads_more, heads_all, heads_refused, file_for}
 use Rattle.init_command.proofs.heads.read_heads.Goals as goal
@@ -24,6 +26,9 @@ loop-gauge-preserved g c =
     let h = c.in-Ok-read_head_of.head in
     let old = c.loop-gauge.heads.items in
     let files = g.T.Site.files c.args.site.now in
+    let asked = g.T.Site.names_asked in
+    let lt : c.loop-gauge.gauge < length c.args.conf.now.gauges =
+    omega (arith, c.loop-gauge-test.true, ap length c.as_slice-gauges.ensures) in
     record {
       each = λ tells. subst (λ (l : List Head). AreHeadsBelow c.args.conf.now files (c.loop-gauge.gauge + 1) l)
           (sym c.push_reserved.ensures.items)
@@ -35,6 +40,10 @@ loop-gauge-preserved g c =
       many = omega (arith, was.many, ap length c.push_reserved.ensures.items, length-append old (h ∷ []));
       room = omega (arith, was.room, c.push_reserved.ensures.capacity);
       later = omega (arith, was.later, now.later);
+      asked = asks_more c.args.conf.now c.loop-gauge.gauge (asked c.args.site.now) (asked c.loop-gauge.site) was.asked
+          (asked c.read_head_of.new.site) lt (asks_file c.args.conf.now c.loop-gauge.gauge c.as_slice-gauges.result.now
+          c.index-gauges-gauge.result c.as_str.result.now lt c.as_slice-gauges.ensures c.as_str.ensures (asked c.loop-gauge.site)
+          (asked c.read_head_of.new.site) c.read_head_of.ensures.asked);
       back = now.back;
       files = λ tells. now.files tells ∙ was.files tells;
     }
@@ -46,3 +55,22 @@ returns-clause-answer g c = λ tells.
     subst (λ (l : List Head). AreHeads c.args.conf.now files l) (sym c.from_vec.ensures)
     (heads_all c.args.conf.now files c.loop-gauge.gauge c.loop-gauge.heads.items was.many
     (omega (arith, c.loop-gauge-test.false, c.loop-gauge.auto.gauge-end, ap length c.as_slice-gauges.ensures)) (was.each tells))
+
+pub returns-in-Err-clause-asked : goal.returns-in-Err-clause-asked
+returns-in-Err-clause-asked g c =
+    let asked = g.T.Site.names_asked in
+    let lt : c.loop-gauge.gauge < length c.args.conf.now.gauges =
+    omega (arith, c.loop-gauge-test.true, ap length c.as_slice-gauges.ensures) in
+    stops_behind c.args.conf.now c.loop-gauge.gauge (asked c.args.site.now) (asked c.loop-gauge.site) c.loop-gauge.invariant.asked
+    (asked c.read_head_of.new.site) lt (asks_file c.args.conf.now c.loop-gauge.gauge c.as_slice-gauges.result.now
+    c.index-gauges-gauge.result c.as_str.result.now lt c.as_slice-gauges.ensures c.as_str.ensures (asked c.loop-gauge.site)
+    (asked c.read_head_of.new.site) c.read_head_of.ensures.asked)
+
+pub returns-clause-asked : goal.returns-clause-asked
+returns-clause-asked g c =
+    first_names c.args.conf.now c.loop-gauge.gauge (g.T.Site.names_asked c.args.site.now) (g.T.Site.names_asked c.loop-gauge.site)
+    c.loop-gauge.invariant.asked (omega (arith, c.loop-gauge.auto.gauge-end, ap length c.as_slice-gauges.ensures))
+
+pub returns-in_default-clause-asked : goal.returns-in_default-clause-asked
+returns-in_default-clause-asked g c = none_is_first (g.T.Site.names_asked c.args.site.now) (g.T.Site.names_asked c.args.site.now)
+    (file_names c.args.conf.now) (λ names has. has)

@@ -1,5 +1,7 @@
 use Rattle.std.proofs.Common.{◌≡◌, ◌≤◌, length}
-use Rattle.std.specs.Prelude.{vec_capacity}
+use Rattle.std.specs.Prelude.{take, vec_capacity}
+use Rattle.outside.specs.Site.{Asks}
+use Rattle.recorded.specs.Asked.{file_names}
 use Rattle.init_command.specs.Heads.{AreHeadsBelow}
 use Rattle.init_command.proofs.heads.read_heads.Given as goal
 
@@ -9,6 +11,7 @@ invariant-loop-gauge g l = record {
   many : length l.heads.items ≡ l.gauge;
   room : length l.conf.gauges ≤ vec_capacity l.heads;
   later : g.T.Site.faults l.fn.site ≤ g.T.Site.faults l.site;
+  asked : Asks (g.T.Site.names_asked l.fn.site) (g.T.Site.names_asked l.site) (take l.gauge (file_names l.conf));
   back : g.T.Site.out l.site ≡ 0;
   files : g.T.Site.tells → g.T.Site.files l.site ≡ g.T.Site.files l.fn.site;
 }
