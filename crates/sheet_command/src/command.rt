@@ -3,6 +3,7 @@ ghost use Rattle.outside.specs.Fault.{Rose};
 ghost use Rattle.site_config.specs.Configuration.{config_of_bytes};
 ghost use Rattle.site_config.specs.Valid.{IsConfig};
 ghost use Rattle.site_config.specs.declared.config.Config.{Config};
+ghost use Rattle.recorded.specs.Asked.{AsksFirst, file_names, names_in};
 ghost use Rattle.status.specs.declared.status.Status.TheVariants.{Done, Usage, ReadFault, WriteFault, OutOfMemory};
 ghost use Rattle.fault_lines.specs.FaultLine.{fault_line, name_by};
 ghost use Rattle.fault_lines.specs.Telling.{TellsAtMost, EndsIn};
@@ -59,6 +60,9 @@ pub fn sheet_command<C: Source, T: Site, K: Station, O: Sink>(
     ensures read { result ≡ ReadFault → Rose (C.faults config.old) (C.faults config.new) ⊎
         Rose (T.faults site.old) (T.faults site.new) }
     ensures write { result ≡ WriteFault → Rose (O.faults out.old) (O.faults out.new) }
+    // The gauges' files are asked for, in their order and each once, and no other.
+    ensures asked { C.tells → AsksFirst (T.names_asked site.old) (T.names_asked site.new)
+        (names_in (config_of_bytes (C.left config.old))) }
     ensures back { T.out site.new ≡ 0 }
     ensures files { T.tells → T.files site.new ≡ T.files site.old }
 {
@@ -91,6 +95,8 @@ fn sheet_by<T: Site, O: Sink>(alloc: Global, conf: &Config, site: &mut T, out: &
     ensures named { result ≢ Usage }
     ensures read { result ≡ ReadFault → Rose (T.faults site.old) (T.faults site.new) }
     ensures write { result ≡ WriteFault → Rose (O.faults out.old) (O.faults out.new) }
+    ensures asked { AsksFirst (T.names_asked site.old) (T.names_asked site.new)
+        (file_names conf.now) }
     ensures back { T.out site.new ≡ 0 }
     ensures files { T.tells → T.files site.new ≡ T.files site.old }
 {

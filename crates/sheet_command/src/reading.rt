@@ -1,7 +1,9 @@
-ghost use Rattle.std.specs.Prelude.{◌≡◌, ◌≤◌, ℕ, Err, IfOk, IfErr, OnOk, drop, length, map};
+ghost use Rattle.std.specs.Prelude.{◌≡◌, ◌≤◌, ℕ, [], ◌∷◌, Err, IfOk, IfErr, OnOk, drop, length, map};
 ghost use Rattle.outside.specs.Fault.{Rose};
+ghost use Rattle.outside.specs.Site.{Asks};
 ghost use Rattle.recording.specs.Samples.{samples};
 ghost use Rattle.site_config.specs.Valid.{IsConfig};
+ghost use Rattle.recorded.specs.Asked.{AsksFirst, file_names};
 ghost use Rattle.file_tasks.specs.FileState.{Sound, body_state, file_state, state_of};
 ghost use Rattle.file_tasks.specs.Answer.{MayAnswer as MayAnswerFor, MayGive};
 ghost use Rattle.file_tasks.specs.declared.refusal.Refusal.TheVariants as refusal;
@@ -37,6 +39,8 @@ pub(crate) fn read_recordings<T: Site>(
     ensures kind { IfErr result IsReadStatus }
     ensures cause { result ≡ Err ReadFault → Rose (T.faults site.old) (T.faults site.new) }
     ensures later { T.faults site.old ≤ T.faults site.new }
+    ensures asked { AsksFirst (T.names_asked site.old) (T.names_asked site.new)
+        (file_names conf.now) }
     ensures back { T.out site.new ≡ 0 }
     ensures files { T.tells → T.files site.new ≡ T.files site.old }
 {
@@ -70,6 +74,8 @@ fn read_recording<T: Site>(
     ensures kind { IfErr result IsReadStatus }
     ensures cause { result ≡ Err ReadFault → Rose (T.faults site.old) (T.faults site.new) }
     ensures later { T.faults site.old ≤ T.faults site.new }
+    ensures asked { Asks (T.names_asked site.old) (T.names_asked site.new)
+        (gauge.now.file ∷ []) }
     ensures back { T.out site.new ≡ 0 }
     ensures files { T.tells → T.files site.new ≡ T.files site.old }
 {

@@ -1,4 +1,6 @@
 use Rattle.site_config.specs.Configuration.{config_of_bytes}
+use Rattle.recorded.specs.Asked.{names_in}
+use Rattle.recorded.proofs.Asking.{first_read, none_is_first}
 use Rattle.sheet_command.proofs.Answered.{line_told, refused_told}
 use Rattle.sheet_command.proofs.command.sheet_command.Goals as goal
 
@@ -13,3 +15,19 @@ pub returns-clause-last : goal.returns-clause-last
 returns-clause-last g c = λ tells gives some.
     refused_told (config_of_bytes (g.C.Source.left c.args.config.now)) c.in-Err.status (g.K.Station.told c.args.station.now)
     (g.K.Station.told c.tell_fault-in-Err.new.station) c.in-Err.ensures.refusal (c.tell_fault-in-Err.ensures.last tells some)
+
+-- which files are asked for
+pub returns-in_default-clause-asked : goal.returns-in_default-clause-asked
+returns-in_default-clause-asked g c = λ gives.
+    none_is_first (g.T.Site.names_asked c.args.site.now) (g.T.Site.names_asked c.args.site.now)
+    (names_in (config_of_bytes (g.C.Source.left c.args.config.now))) (λ names has. has)
+
+pub returns-clause-asked : goal.returns-clause-asked
+returns-clause-asked g c = λ gives.
+    none_is_first (g.T.Site.names_asked c.args.site.now) (g.T.Site.names_asked c.args.site.now)
+    (names_in (config_of_bytes (g.C.Source.left c.args.config.now))) (λ names has. has)
+
+pub returns-in-Ok-read_config-clause-asked : goal.returns-in-Ok-read_config-clause-asked
+returns-in-Ok-read_config-clause-asked g c = λ gives.
+    first_read (config_of_bytes (g.C.Source.left c.args.config.now)) c.in-Ok-read_config.conf (g.T.Site.names_asked c.args.site.now)
+    (g.T.Site.names_asked c.sheet_by-status.new.site) (c.in-Ok-read_config.ensures.meaning gives) c.sheet_by-status.ensures.asked

@@ -4,6 +4,8 @@ use Rattle.std.proofs.lemmas.List.{map-append}
 use Rattle.std.specs.declared.alloc.Global.{Global}
 use Rattle.outside.specs.Site.{Files}
 use Rattle.site_config.specs.declared.config.Gauge.{Gauge}
+use Rattle.recorded.specs.Asked.{file_names}
+use Rattle.recorded.proofs.Asking.{asks_file, asks_more, stops_behind, first_names, none_is_first}
 use Rattle.file_tasks.specs.FileState.{Sound, file_state}
 use Rattle.file_tasks.specs.Answer.{MayAnswer as MayAnswerFor}
 use Rattle.sheet_command.specs.Sheet.{samples_of, recordings_of, answer_over}
@@ -32,6 +34,7 @@ loop-number-preserved g c =
     let files = g.T.Site.files c.args.site.now in
     let here = c.index-gauges-number.result in
     let samples = c.in-Ok-read_recording.samples in
+    let asked = g.T.Site.names_asked in
     let old = c.loop-number.recordings.items in
     let lt : c.loop-number.number < length gauges = omega (arith, c.loop-number-test.true, ap length c.as_slice-gauges.ensures) in
     let is : here ≡ get_or gauges c.loop-number.number here = c.index-gauges-number.is
@@ -49,6 +52,10 @@ loop-number-preserved g c =
       many = omega (arith, was.many, ap length c.push_reserved.ensures.items, length-append old (samples ∷ []));
       room = omega (arith, was.room, c.push_reserved.ensures.capacity);
       later = omega (arith, was.later, now.later);
+      asked = asks_more c.args.conf.now c.loop-number.number (asked c.args.site.now) (asked c.loop-number.site) was.asked
+          (asked c.read_recording.new.site) lt (asks_file c.args.conf.now c.loop-number.number c.as_slice-gauges.result.now here here.file lt
+          c.as_slice-gauges.ensures (ap (λ (x : Gauge). x.file) c.index-gauges-number.is) (asked c.loop-number.site)
+          (asked c.read_recording.new.site) c.read_recording.ensures.asked);
       back = now.back;
       files = λ tells. now.files tells ∙ was.files tells;
     }
@@ -58,3 +65,23 @@ returns-clause-sound g c = λ tells.
     sound_all c.args.conf.now.gauges (g.T.Site.files c.args.site.now) c.loop-number.number _
     (omega (arith, c.loop-number-test.false, c.loop-number.auto.number-end, ap length c.as_slice-gauges.ensures))
     (c.loop-number.invariant.sound tells)
+
+pub returns-in-Err-clause-asked : goal.returns-in-Err-clause-asked
+returns-in-Err-clause-asked g c =
+    let asked = g.T.Site.names_asked in
+    let here = c.index-gauges-number.result in
+    let lt : c.loop-number.number < length c.args.conf.now.gauges =
+    omega (arith, c.loop-number-test.true, ap length c.as_slice-gauges.ensures) in
+    stops_behind c.args.conf.now c.loop-number.number (asked c.args.site.now) (asked c.loop-number.site) c.loop-number.invariant.asked
+    (asked c.read_recording.new.site) lt (asks_file c.args.conf.now c.loop-number.number c.as_slice-gauges.result.now here here.file lt
+    c.as_slice-gauges.ensures (ap (λ (x : Gauge). x.file) c.index-gauges-number.is) (asked c.loop-number.site)
+    (asked c.read_recording.new.site) c.read_recording.ensures.asked)
+
+pub returns-clause-asked : goal.returns-clause-asked
+returns-clause-asked g c =
+    first_names c.args.conf.now c.loop-number.number (g.T.Site.names_asked c.args.site.now) (g.T.Site.names_asked c.loop-number.site)
+    c.loop-number.invariant.asked (omega (arith, c.loop-number.auto.number-end, ap length c.as_slice-gauges.ensures))
+
+pub returns-in_default-clause-asked : goal.returns-in_default-clause-asked
+returns-in_default-clause-asked g c = none_is_first (g.T.Site.names_asked c.args.site.now) (g.T.Site.names_asked c.args.site.now)
+    (file_names c.args.conf.now) (λ names has. has)

@@ -1,5 +1,7 @@
 use Rattle.std.proofs.Common.{◌≡◌, ◌≤◌, ◌++◌, length, drop, map}
-use Rattle.std.specs.Prelude.{vec_capacity}
+use Rattle.std.specs.Prelude.{take, vec_capacity}
+use Rattle.outside.specs.Site.{Asks}
+use Rattle.recorded.specs.Asked.{file_names}
 use Rattle.sheet_command.specs.Sheet.{recordings_of, states_of, answer_from, answer_over}
 use Rattle.sheet_command.proofs.reading.read_recordings.Given as goal
 
@@ -13,6 +15,7 @@ invariant-loop-number g l = record {
   many : length l.recordings.items ≡ l.number;
   room : length l.conf.gauges ≤ vec_capacity l.recordings;
   later : g.T.Site.faults l.fn.site ≤ g.T.Site.faults l.site;
+  asked : Asks (g.T.Site.names_asked l.fn.site) (g.T.Site.names_asked l.site) (take l.number (file_names l.conf));
   back : g.T.Site.out l.site ≡ 0;
   files : g.T.Site.tells → g.T.Site.files l.site ≡ g.T.Site.files l.fn.site;
 }
