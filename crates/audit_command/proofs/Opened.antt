@@ -11,9 +11,8 @@ use Rattle.recording.specs.declared.head.Head.{Head}
 use Rattle.recorded.specs.Recorded.{body_in}
 use Rattle.recount.specs.declared.count.RecountFault.{RecountFault}
 use Rattle.recount.specs.declared.count.RecountFault.TheVariants as recount
-use Rattle.site_config.specs.Valid.{file_of, no_gauge}
+use Rattle.site_config.specs.Valid.{file_of}
 use Rattle.site_config.specs.declared.config.Config.{Config}
-use Rattle.site_config.specs.declared.config.Gauge.{Gauge}
 use Rattle.status.specs.declared.status.RecordingFault.{RecordingFault}
 use Rattle.status.specs.declared.status.RecordingFault.TheVariants.{Fewer}
 use Rattle.status.specs.declared.status.Status.{Status}
@@ -84,11 +83,6 @@ not_recounted X kept held file left g recount.ReadFault s is opened behind fewer
     subst (λ (x : Status). SourceAnswers {X = X} (fault_of kept held file) g (Err x)) (sym is) tt
 not_recounted X kept held file left g recount.OutOfMemory s is opened behind fewer =
     subst (λ (x : Status). SourceAnswers {X = X} (fault_of kept held file) g (Err x)) (sym is) tt
-
-pub file_is : (conf : Config) (g : ℕ) (gauges : List Gauge) (here : Gauge) (name : List ℕ) → g < length conf.gauges → gauges ≡ conf.gauges
-    → name ≡ (slice_index_or gauges g here).file → file_of conf g ≡ name
-file_is conf g gauges here name lt same is = ap (λ (x : Gauge). x.file) (get_or_default conf.gauges g no_gauge here lt)
-    ∙ ap (λ (l : List Gauge). (slice_index_or l g here).file) (sym same) ∙ sym is
 
 -- the first fault of a gauge's recording, by that of the file that was fetched
 module _ (conf : Config) (heads : List Head) (n : ℕ → ℕ) (files : Files) (g : ℕ) (lt : g < length heads) (name file : List ℕ)

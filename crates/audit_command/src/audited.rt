@@ -2,6 +2,7 @@ ghost use Rattle.std.specs.Prelude.{◌≡◌, ◌≢◌, ◌≤◌, ◌<◌, �
 ghost use Rattle.outside.specs.Fault.{Rose};
 ghost use Rattle.segment_store.specs.Held.{ends_of};
 ghost use Rattle.site_config.specs.Valid.{IsConfig};
+ghost use Rattle.recorded.specs.Asked.{AsksFirst, file_names};
 ghost use Rattle.status.specs.declared.status.Status.TheVariants.{Done, ReadFault, WriteFault};
 ghost use Rattle.report_command.specs.Printing.{IsPrinting};
 ghost use Rattle.audit_command.specs.Audited.{IsItem};
@@ -37,6 +38,8 @@ pub(crate) fn audit_held<T: Site, O: Sink>(
     ensures kind { IsAuditing result }
     ensures read { result ≡ ReadFault → Rose (T.faults site.old) (T.faults site.new) }
     ensures write { result ≡ WriteFault → Rose (O.faults out.old) (O.faults out.new) }
+    ensures asked { AsksFirst (T.names_asked site.old) (T.names_asked site.new)
+        (file_names conf.now) }
     ensures back { T.out site.new ≡ 0 }
     ensures files { T.tells → T.files site.new ≡ T.files site.old }
     ensures later { T.faults site.old ≤ T.faults site.new }

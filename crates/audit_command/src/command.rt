@@ -7,6 +7,7 @@ ghost use Rattle.site_config.specs.Valid.{IsConfig};
 ghost use Rattle.site_config.specs.declared.config.Config.{Config};
 ghost use Rattle.site_config.specs.declared.limits.TheConstants.{MAX_NAME_BYTES};
 ghost use Rattle.recorded.specs.Recorded.{recorded};
+ghost use Rattle.recorded.specs.Asked.{AsksFirst, file_names, names_in};
 ghost use Rattle.fault_lines.specs.FaultLine.{fault_line, name_by, name_for};
 ghost use Rattle.fault_lines.specs.Telling.{TellsAtMost};
 ghost use Rattle.status.specs.declared.status.Status.TheVariants.{Done, Usage, ReadFault, WriteFault, DiskFault, OutOfMemory};
@@ -73,6 +74,9 @@ pub fn audit_command<C: Source, T: Site, K: Station, O: Sink>(
         Rose (T.faults site.old) (T.faults site.new) }
     ensures write { result ≡ WriteFault → Rose (O.faults out.old) (O.faults out.new) }
     ensures disk { result ≡ DiskFault → Rose (K.faults station.old) (K.faults station.new) }
+    // The gauges' files are asked for, in their order and each once, and no other.
+    ensures asked { C.tells → AsksFirst (T.names_asked site.old) (T.names_asked site.new)
+        (names_in (config_of_bytes (C.left config.old))) }
     ensures back { T.out site.new ≡ 0 }
     ensures files { T.tells → T.files site.new ≡ T.files site.old }
 {
@@ -124,6 +128,8 @@ fn audit_by<T: Site, K: Station, O: Sink>(
     ensures read { result ≡ ReadFault → Rose (T.faults site.old) (T.faults site.new) }
     ensures write { result ≡ WriteFault → Rose (O.faults out.old) (O.faults out.new) }
     ensures disk { result ≡ DiskFault → Rose (K.faults station.old) (K.faults station.new) }
+    ensures asked { AsksFirst (T.names_asked site.old) (T.names_asked site.new)
+        (file_names conf.now) }
     ensures back { T.out site.new ≡ 0 }
     ensures files { T.tells → T.files site.new ≡ T.files site.old }
 {

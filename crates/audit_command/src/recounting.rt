@@ -5,6 +5,8 @@ ghost use Rattle.std.specs.Prelude.{
   ℕ,
   ℤ,
   List,
+  [],
+  ◌∷◌,
   Some,
   Err,
   IfOk,
@@ -17,12 +19,14 @@ ghost use Rattle.std.specs.Prelude.{
   vec_capacity,
 };
 ghost use Rattle.outside.specs.Fault.{Rose};
+ghost use Rattle.outside.specs.Site.{Asks};
 ghost use Rattle.recording.specs.Samples.{samples as samples_of};
 ghost use Rattle.recording.specs.declared.TheConstants.{MAX_SAMPLES};
 ghost use Rattle.recount.specs.Counted.{IsRecount};
 ghost use Rattle.segment_store.specs.Held.{ends_of};
-ghost use Rattle.site_config.specs.Valid.{IsConfig};
+ghost use Rattle.site_config.specs.Valid.{IsConfig, file_of};
 ghost use Rattle.recorded.specs.Recorded.{body_in, recorded};
+ghost use Rattle.recorded.specs.Asked.{AsksFirst, file_names};
 ghost use Rattle.site_lanes.specs.Answers.{GaugeAnswers, OpenAnswers};
 ghost use Rattle.site_lanes.specs.Opening.{fault_of, status_of as opened_status_of};
 ghost use Rattle.status.specs.declared.status.Status.TheVariants.{ReadFault};
@@ -66,6 +70,8 @@ pub(crate) fn recount_all<T: Site>(
     ensures answer { T.tells → OpenAnswers conf.now store.now.head.heads
         (slice_index (ends_of store.now.held)) (T.files site.old) result }
     ensures kind { IfErr result IsRecounting }
+    ensures asked { AsksFirst (T.names_asked site.old) (T.names_asked site.new)
+        (file_names conf.now) }
     ensures back { T.out site.new ≡ 0 }
     ensures files { T.tells → T.files site.new ≡ T.files site.old }
     ensures cause { result ≡ Err ReadFault → Rose (T.faults site.old) (T.faults site.new) }
@@ -99,6 +105,8 @@ fn recount_gauge<T: Site>(
     ensures answer { T.tells → GaugeAnswers conf.now store.now.head.heads
         (slice_index (ends_of store.now.held)) (T.files site.old) gauge result }
     ensures kind { IfErr result IsRecounting }
+    ensures asked { Asks (T.names_asked site.old) (T.names_asked site.new)
+        (file_of conf.now gauge ∷ []) }
     ensures back { T.out site.new ≡ 0 }
     ensures files { T.tells → T.files site.new ≡ T.files site.old }
     ensures cause { result ≡ Err ReadFault → Rose (T.faults site.old) (T.faults site.new) }

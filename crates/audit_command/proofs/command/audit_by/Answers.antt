@@ -3,6 +3,8 @@ use Rattle.segment_store.specs.Held.{ends_of}
 use Rattle.segment_store.specs.Moments.{StoreValue}
 use Rattle.store_head.specs.Head.{HeadValue}
 use Rattle.recorded.specs.Recorded.{recorded}
+use Rattle.recorded.specs.Asked.{file_names}
+use Rattle.recorded.proofs.Asking.{none_is_first}
 use Rattle.status.specs.declared.status.Status.{Status}
 use Rattle.status.specs.declared.status.Status.TheVariants.{Done, OutOfMemory}
 use Rattle.report_command.proofs.Ended.{refused_complete}
@@ -83,3 +85,7 @@ returns-in-Ok-clause-named g c = audited_named c.audit_held.result c.audit_held.
 
 pub returns-in-Err-clause-named : goal.returns-in-Err-clause-named
 returns-in-Err-clause-named g c = refused_named c.status_of.result c.in-Err.fault c.status_of.ensures
+
+pub returns-in-Err-clause-asked : goal.returns-in-Err-clause-asked
+returns-in-Err-clause-asked g c = none_is_first (g.T.Site.names_asked c.args.site.now) (g.T.Site.names_asked c.args.site.now)
+    (file_names c.args.conf.now) (λ names has. has)

@@ -6,6 +6,8 @@ use Rattle.site_config.specs.Configuration.{config_of_bytes}
 use Rattle.site_config.specs.declared.config.Config.{Config}
 use Rattle.site_config.specs.declared.fault.ConfigFault.{ConfigFault}
 use Rattle.recorded.specs.Recorded.{recorded}
+use Rattle.recorded.specs.Asked.{names_in}
+use Rattle.recorded.proofs.Asking.{first_read, none_is_first}
 use Rattle.fault_lines.specs.FaultLine.{fault_line, name_by}
 use Rattle.fault_lines.specs.Room.{FaultLineValue}
 use Rattle.fault_lines.specs.Telling.{TellsAtMost}
@@ -139,3 +141,19 @@ returns-in-Ok-read_config-clause-nothing g c = λ writes not.
 
 pub returns-clause-named : goal.returns-clause-named
 returns-clause-named g c = unread_named c.in-Err.status c.in-Err.ensures.refusal
+
+-- which files are asked for
+pub returns-in_default-clause-asked : goal.returns-in_default-clause-asked
+returns-in_default-clause-asked g c = λ gives.
+    none_is_first (g.T.Site.names_asked c.args.site.now) (g.T.Site.names_asked c.args.site.now)
+    (names_in (config_of_bytes (g.C.Source.left c.args.config.now))) (λ names has. has)
+
+pub returns-clause-asked : goal.returns-clause-asked
+returns-clause-asked g c = λ gives.
+    none_is_first (g.T.Site.names_asked c.args.site.now) (g.T.Site.names_asked c.args.site.now)
+    (names_in (config_of_bytes (g.C.Source.left c.args.config.now))) (λ names has. has)
+
+pub returns-in-Ok-read_config-clause-asked : goal.returns-in-Ok-read_config-clause-asked
+returns-in-Ok-read_config-clause-asked g c = λ gives.
+    first_read (config_of_bytes (g.C.Source.left c.args.config.now)) c.in-Ok-read_config.conf (g.T.Site.names_asked c.args.site.now)
+    (g.T.Site.names_asked c.audit_by-status.new.site) (c.in-Ok-read_config.ensures.meaning gives) c.audit_by-status.ensures.asked

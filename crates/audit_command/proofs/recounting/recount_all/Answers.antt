@@ -4,6 +4,7 @@ use Rattle.outside.specs.Site.{Files}
 use Rattle.recount.specs.declared.count.Recount.{Recount}
 use Rattle.segment_store.specs.Held.{ends_of}
 use Rattle.recorded.specs.Recorded.{recorded}
+use Rattle.recorded.proofs.Asking.{asks_more, stops_behind, first_names}
 use Rattle.site_lanes.specs.Answers.{GaugeAnswers, FaultOf}
 use Rattle.audit_command.proofs.Opened.{open_refused, all_more_opened}
 use Rattle.audit_command.proofs.Recounts.{recounts_more, first_again}
@@ -37,6 +38,8 @@ loop-gauge-preserved g c =
           (was.sound shows)
           (subst (λ (f : Files). FaultOf c.args.conf.now c.args.store.now.head.heads n f c.loop-gauge.gauge None) (was.files shows)
           (now.answer shows));
+      asked = asks_more c.args.conf.now c.loop-gauge.gauge (t.names_asked c.args.site.now) (t.names_asked c.loop-gauge.site) was.asked
+          (t.names_asked c.recount_gauge.new.site) (omega (arith, ap length c.as_slice-gauge-end.ensures)) c.recount_gauge.ensures.asked;
       back = c.recount_gauge.ensures.back;
       files = λ shows. c.recount_gauge.ensures.files shows ∙ was.files shows;
       later = omega (arith, was.later, c.recount_gauge.ensures.later);
@@ -45,3 +48,14 @@ loop-gauge-preserved g c =
 pub returns-clause-answer : goal.returns-clause-answer
 returns-clause-answer g c =
     λ shows h lt. c.loop-gauge.invariant.sound shows h (omega (arith, lt, c.loop-gauge-test.false, ap length c.as_slice-gauge-end.ensures))
+
+pub returns-in-Err-clause-asked : goal.returns-in-Err-clause-asked
+returns-in-Err-clause-asked g c =
+    let asked = g.T.Site.names_asked in
+    stops_behind c.args.conf.now c.loop-gauge.gauge (asked c.args.site.now) (asked c.loop-gauge.site) c.loop-gauge.invariant.asked
+    (asked c.recount_gauge.new.site) (omega (arith, ap length c.as_slice-gauge-end.ensures)) c.recount_gauge.ensures.asked
+
+pub returns-clause-asked : goal.returns-clause-asked
+returns-clause-asked g c =
+    first_names c.args.conf.now c.loop-gauge.gauge (g.T.Site.names_asked c.args.site.now) (g.T.Site.names_asked c.loop-gauge.site)
+    c.loop-gauge.invariant.asked (omega (arith, c.loop-gauge.auto.gauge-end, ap length c.as_slice-gauge-end.ensures))

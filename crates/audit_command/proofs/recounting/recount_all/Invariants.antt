@@ -1,7 +1,9 @@
 use Rattle.std.proofs.Common.{◌≡◌, ◌≤◌, vec_len, vec_capacity}
-use Rattle.std.specs.Prelude.{slice_index}
+use Rattle.std.specs.Prelude.{slice_index, take}
+use Rattle.outside.specs.Site.{Asks}
 use Rattle.segment_store.specs.Held.{ends_of}
 use Rattle.recorded.specs.Recorded.{recorded}
+use Rattle.recorded.specs.Asked.{file_names}
 use Rattle.site_lanes.specs.Answers.{AllOpened}
 use Rattle.audit_command.specs.Recounted.{AreRecounts}
 use Rattle.audit_command.proofs.recounting.recount_all.Given as goal
@@ -16,6 +18,7 @@ invariant-loop-gauge g l =
       counted : AreRecounts l.conf t.tells (recorded l.conf (t.files l.fn.site)).samples (slice_index (ends_of l.store.held))
           l.recounts.items;
       sound : t.tells → AllOpened l.conf l.store.head.heads (slice_index (ends_of l.store.held)) (t.files l.fn.site) l.gauge;
+      asked : Asks (t.names_asked l.fn.site) (t.names_asked l.site) (take l.gauge (file_names l.conf));
       back : t.out l.site ≡ 0;
       files : t.tells → t.files l.site ≡ t.files l.fn.site;
       later : t.faults l.fn.site ≤ t.faults l.site;

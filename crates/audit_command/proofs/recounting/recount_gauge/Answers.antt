@@ -1,11 +1,13 @@
-use Rattle.std.proofs.Common.{ℕ, List, sym, ◌∙◌, ap, arith, slice_index}
+use Rattle.std.proofs.Common.{ℕ, List, [], ◌∷◌, sym, ◌∙◌, ap, arith, slice_index}
 use Rattle.std.specs.Prelude.{Option, Some}
 use Rattle.recording.specs.Samples.{samples}
 use Rattle.segment_rules.specs.declared.name.Name.{Name}
 use Rattle.segment_store.specs.Held.{ends_of}
+use Rattle.site_config.specs.Valid.{file_of}
 use Rattle.store_head.specs.Head.{HeadValue}
 use Rattle.recorded.specs.Recorded.{body_in, recorded}
-use Rattle.audit_command.proofs.Opened.{file_is, gauge_answers}
+use Rattle.recorded.proofs.Asking.{asks_file, asks_then_none, file_is}
+use Rattle.audit_command.proofs.Opened.{gauge_answers}
 use Rattle.audit_command.proofs.Recounts.{gain_is, recounted_first}
 use Rattle.audit_command.proofs.recounting.recount_gauge.Goals as goal
 
@@ -37,3 +39,15 @@ returns-clause-counted g c =
     (λ shows. ap (λ (o : Option (List ℕ)). samples (body_in o)) (sym (ap files
     (file_is c.args.conf.now c.args.gauge _ _ _ c.requires.known c.as_slice.ensures c.as_str-name.ensures) ∙ c.in-Ok.ensures.file shows)))
     c.recount_source-answer.ensures.counted
+
+pub returns-in-Err-clause-asked : goal.returns-in-Err-clause-asked
+returns-in-Err-clause-asked g c =
+    asks_file c.args.conf.now c.args.gauge _ _ _ c.requires.known c.as_slice.ensures c.as_str-name.ensures
+    (g.T.Site.names_asked c.args.site.now) (g.T.Site.names_asked c.fetch.new.self) c.fetch.ensures.asked
+
+pub returns-clause-asked : goal.returns-clause-asked
+returns-clause-asked g c =
+    let asked = g.T.Site.names_asked in
+    asks_then_none (asked c.args.site.now) (asked c.fetch.new.self) (asked c.give_back.new.self) (file_of c.args.conf.now c.args.gauge ∷ [])
+    (asks_file c.args.conf.now c.args.gauge _ _ _ c.requires.known c.as_slice.ensures c.as_str-name.ensures (asked c.args.site.now)
+    (asked c.fetch.new.self) c.fetch.ensures.asked) c.give_back.ensures.asked
