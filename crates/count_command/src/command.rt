@@ -6,6 +6,7 @@ ghost use Rattle.segment_store.specs.Holds.{Holds};
 ghost use Rattle.site_config.specs.Configuration.{config_of_bytes};
 ghost use Rattle.site_config.specs.declared.config.Config.{Config};
 ghost use Rattle.recorded.specs.Recorded.{recorded};
+ghost use Rattle.recorded.specs.Asked.{AsksFirst, names_in};
 ghost use Rattle.held_samples.specs.Going.{AllHold, IsKept};
 ghost use Rattle.held_samples.specs.Told.{Acknowledges};
 ghost use Rattle.site_lanes.specs.Answers.{HeadsFit, AllSound};
@@ -110,6 +111,9 @@ pub fn count_command<
         Rose (K.faults station.old) (K.faults station.new)
         ⊎ EndsIn (fault_line result (name_by (config_of_bytes (C.left config.old)) result))
         (K.told station.new) }
+    // The gauges' files are asked for, in their order and each once, and no other.
+    ensures asked { C.tells → AsksFirst (T.names_asked site.old) (T.names_asked site.new)
+        (names_in (config_of_bytes (C.left config.old))) }
     ensures back { T.out site.new ≡ 0 }
     ensures files { T.tells → T.files site.new ≡ T.files site.old }
 {

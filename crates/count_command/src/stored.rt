@@ -18,6 +18,7 @@ ghost use Rattle.segment_store.specs.Moments.{IsThere};
 ghost use Rattle.segment_store.specs.Quiet.{IsQuiet};
 ghost use Rattle.site_config.specs.Valid.{IsConfig};
 ghost use Rattle.recorded.specs.Recorded.{recorded};
+ghost use Rattle.recorded.specs.Asked.{AsksFirst, file_names};
 ghost use Rattle.held_samples.specs.Going.{AllHold, Going, Safe, IsStored};
 ghost use Rattle.held_samples.specs.Told.{Acknowledges};
 ghost use Rattle.site_lanes.specs.Answers.{HeadsFit, AllSound};
@@ -102,6 +103,8 @@ fn count_stored<
         Rose (T.faults site.old) (T.faults site.new) }
     ensures write { result ≡ WriteFault → Rose (O.faults out.old) (O.faults out.new) }
     ensures disk { result ≡ DiskFault → Rose (K.faults station.old) (K.faults station.new) }
+    ensures asked { AsksFirst (T.names_asked site.old) (T.names_asked site.new)
+        (file_names conf.now) }
     ensures out { T.out site.new ≡ vec_len lanes.new }
     ensures sources { All HasSource lanes.new.items }
     ensures faulty { All (IsFaulty T.Src.faults) lanes.new.items }
@@ -203,6 +206,8 @@ pub fn count_by<
     ensures read { result ≡ ReadFault → Rose (T.faults site.old) (T.faults site.new) }
     ensures write { result ≡ WriteFault → Rose (O.faults out.old) (O.faults out.new) }
     ensures disk { result ≡ DiskFault → Rose (K.faults station.old) (K.faults station.new) }
+    ensures asked { AsksFirst (T.names_asked site.old) (T.names_asked site.new)
+        (file_names conf.now) }
     ensures back { T.out site.new ≡ 0 }
     ensures files { T.tells → T.files site.new ≡ T.files site.old }
     ensures later { K.faults station.old ≤ K.faults station.new }

@@ -2,6 +2,8 @@ use Rattle.std.proofs.Common.{◌≡◌, ℕ, List, sym, subst}
 use Rattle.site_config.specs.Configuration.{config_of_bytes}
 use Rattle.site_config.specs.declared.config.Config.{Config}
 use Rattle.recorded.specs.Recorded.{recorded}
+use Rattle.recorded.specs.Asked.{names_in}
+use Rattle.recorded.proofs.Asking.{first_read, none_is_first}
 use Rattle.held_samples.specs.Going.{AllHold, IsKept}
 use Rattle.count_command.proofs.FaultTold.{safe_fault, fault_below}
 use Rattle.count_command.proofs.Resumed.{safe_starts, same_conf}
@@ -191,3 +193,19 @@ returns-in-Err-clause-named g c = λ is. subst IsRefusal is c.in-Err.ensures.ref
 
 pub returns-clause-named : goal.returns-clause-named
 returns-clause-named g c = λ is. subst IsCounting is c.count_by-status.ensures.kind
+
+-- which files are asked for
+pub returns-in_default-clause-asked : goal.returns-in_default-clause-asked
+returns-in_default-clause-asked g c = λ gives.
+    none_is_first (g.T.Site.names_asked c.args.site.now) (g.T.Site.names_asked c.args.site.now)
+    (names_in (config_of_bytes (g.C.Source.left c.args.config.now))) (λ names has. has)
+
+pub returns-in-Err-clause-asked : goal.returns-in-Err-clause-asked
+returns-in-Err-clause-asked g c = λ gives.
+    none_is_first (g.T.Site.names_asked c.args.site.now) (g.T.Site.names_asked c.args.site.now)
+    (names_in (config_of_bytes (g.C.Source.left c.args.config.now))) (λ names has. has)
+
+pub returns-clause-asked : goal.returns-clause-asked
+returns-clause-asked g c = λ gives.
+    first_read (config_of_bytes (g.C.Source.left c.args.config.now)) c.in-Ok-read_config.conf (g.T.Site.names_asked c.args.site.now)
+    (g.T.Site.names_asked c.count_by-status.new.site) (c.in-Ok-read_config.ensures.meaning gives) c.count_by-status.ensures.asked

@@ -3,6 +3,8 @@ use Rattle.station.specs.Station.{Lines}
 use Rattle.segment_store.specs.Held.{ends_of}
 use Rattle.segment_store.specs.Moments.{StoreValue}
 use Rattle.recorded.specs.Recorded.{recorded}
+use Rattle.recorded.specs.Asked.{file_names}
+use Rattle.recorded.proofs.Asking.{first_then_none, none_is_first}
 use Rattle.held_samples.specs.Told.{Acknowledges}
 use Rattle.segment_store.proofs.Quiet.{quiet_then}
 use Rattle.held_samples.proofs.Going.{safe_quiet, safe_going}
@@ -94,3 +96,16 @@ returns-clause-complete g c = λ tells shows n h fit sound.
 
 pub returns-clause-quiet : goal.returns-clause-quiet
 returns-clause-quiet g c = λ tells leaves. quiet_then (c.resume.ensures.quiet tells) (c.count_stored-status.ensures.quiet tells leaves)
+
+pub returns-in-Err-clause-asked : goal.returns-in-Err-clause-asked
+returns-in-Err-clause-asked g c = none_is_first (g.T.Site.names_asked c.args.site.now) (g.T.Site.names_asked c.args.site.now)
+    (file_names c.args.conf.now) (λ names has. has)
+
+pub returns-in_default-clause-asked : goal.returns-in_default-clause-asked
+returns-in_default-clause-asked g c = none_is_first (g.T.Site.names_asked c.args.site.now) (g.T.Site.names_asked c.args.site.now)
+    (file_names c.args.conf.now) (λ names has. has)
+
+pub returns-clause-asked : goal.returns-clause-asked
+returns-clause-asked g c =
+    first_then_none (g.T.Site.names_asked c.args.site.now) (g.T.Site.names_asked c.count_stored-status.new.site)
+    (g.T.Site.names_asked c.give_back.new.site) (file_names c.args.conf.now) c.count_stored-status.ensures.asked c.give_back.ensures.asked
