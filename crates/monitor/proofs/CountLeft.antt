@@ -3,6 +3,10 @@ use Rattle.std.proofs.Common.{◌≡◌, inr, ℕ, List, [], refl, sym, subst}
 use Rattle.station.specs.Station.{Image, Lines}
 use Rattle.recorded.specs.Recorded.{recorded, Recorded}
 use Rattle.held_samples.specs.Going.{AllHold, IsKept}
+use Rattle.outside.specs.Site.{AsksNothing}
+use Rattle.site_config.specs.Configuration.{config_of_bytes}
+use Rattle.recorded.specs.Asked.{names_in}
+use Rattle.recorded.proofs.Asking.{none_is_first}
 use Rattle.status.specs.declared.status.Status.{Status}
 use Rattle.status.specs.declared.status.Status.TheVariants.{OutOfMemory}
 use Rattle.fault_lines.specs.FaultLine.{fault_line}
@@ -27,8 +31,9 @@ pub count_without_memory : (before after : Shown) (s : Status) → s ≡ OutOfMe
     × before.leaves image)
     → (before.station_tells → Tells (fault_line OutOfMemory []) before after) →
     (before.station_tells → Ends (fault_line OutOfMemory []) before after)
-    → after.written ≡ before.written → CountRuns before after s
-count_without_memory before after s is only tells ends same = subst (λ (x : Status). CountRuns before after x) (sym is) (record {
+    → after.written ≡ before.written →
+    AsksNothing before.names_asked after.names_asked → CountRuns before after s
+count_without_memory before after s is only tells ends same none = subst (λ (x : Status). CountRuns before after x) (sym is) (record {
   every_moment = λ k t c conf is2 a holds. kept_moments before after (recorded conf before.files) a (only k) (tells k) holds;
   ended = λ k t c conf is2 a holds. tt;
   cut = λ k t c conf is2 a holds no. tt;
@@ -43,4 +48,5 @@ count_without_memory before after s is only tells ends same = subst (λ (x : Sta
   write = λ no. absurd (cc);
   disk = λ no. absurd (cc);
   last = λ k c n. ends k;
+  asked = λ c. none_is_first before.names_asked after.names_asked (names_in (config_of_bytes before.config)) none;
 })

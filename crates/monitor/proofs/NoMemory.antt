@@ -13,6 +13,10 @@ use Rattle.init_command.specs.Init.{InMaking}
 use Rattle.report_command.specs.Printing.{PrintsKept}
 use Rattle.report_command.proofs.HeldFigures.{kept_unprinted}
 use Rattle.outside.specs.Fault.{Rose}
+use Rattle.outside.specs.Site.{AsksNothing}
+use Rattle.recorded.specs.Asked.{names_in}
+use Rattle.recorded.proofs.Asking.{none_is_first}
+use Rattle.site_config.specs.Configuration.{config_of_bytes}
 use Rattle.monitor.specs.Line.{IsToldOf}
 use Rattle.file_tasks.specs.Run.{Outside, Runs, no_memory_task}
 use Rattle.monitor.specs.Shown.{Shown, Tells, Ends}
@@ -48,28 +52,31 @@ pub init_without_memory : (before after : Shown) (s : Status) → s ≡ OutOfMem
     (before.station_tells → Tells (fault_line OutOfMemory []) before after)
     → (before.station_tells → Ends (fault_line OutOfMemory []) before after) → (before.output_tells → after.written ≡ before.written) →
     after.out ≡ 0
-    → (before.site_tells → after.files ≡ before.files) → InitRuns before after s
-init_without_memory before after s is tells ends nothing back files = subst (λ (x : Status). InitRuns before after x) (sym is) (record {
-  made = λ k t c no. absurd (cc);
-  told = λ k c no. absurd (cc);
-  any_moment = λ k t c conf is2 none. empty_moments before after (fault_line OutOfMemory []) conf (tells k) none;
-  unmade = λ k c u. tells k;
-  quiet = λ k c some. tells k;
-  last = λ k c n. ends k;
-  answer_is = λ k t c. tt;
-  complete = λ k t c conf is2 sound none r w f. inr refl;
-  kind = tt;
-  read = λ no. absurd (cc);
-  disk = λ no. absurd (cc);
-  nothing = nothing;
-  back = back;
-  files = files;
-})
+    → (before.site_tells → after.files ≡ before.files) → AsksNothing before.names_asked after.names_asked → InitRuns before after s
+init_without_memory before after s is tells ends nothing back files none =
+    subst (λ (x : Status). InitRuns before after x) (sym is) (record {
+      made = λ k t c no. absurd (cc);
+      told = λ k c no. absurd (cc);
+      any_moment = λ k t c conf is2 none. empty_moments before after (fault_line OutOfMemory []) conf (tells k) none;
+      unmade = λ k c u. tells k;
+      quiet = λ k c some. tells k;
+      last = λ k c n. ends k;
+      answer_is = λ k t c. tt;
+      complete = λ k t c conf is2 sound none r w f. inr refl;
+      kind = tt;
+      read = λ no. absurd (cc);
+      disk = λ no. absurd (cc);
+      asked = λ c. none_is_first before.names_asked after.names_asked (names_in (config_of_bytes before.config)) none;
+      nothing = nothing;
+      back = back;
+      files = files;
+    })
 
 pub report_without_memory : (before after : Shown) (s : Status) → s ≡ OutOfMemory →
     (before.station_tells → Tells (fault_line OutOfMemory []) before after)
-    → (before.station_tells → Ends (fault_line OutOfMemory []) before after) → after.written ≡ before.written → ReportRuns before after s
-report_without_memory before after s is tells ends same = subst (λ (x : Status). ReportRuns before after x) (sym is) (record {
+    → (before.station_tells → Ends (fault_line OutOfMemory []) before after) → after.written ≡ before.written →
+    AsksNothing before.names_asked after.names_asked → ReportRuns before after s
+report_without_memory before after s is tells ends same none = subst (λ (x : Status). ReportRuns before after x) (sym is) (record {
   prints = λ o k c conf is2 w n holds. same;
   kept = λ o k c conf is2 head bodies all setup reads.
       subst (λ (new : List ℕ). PrintsKept OutOfMemory conf bodies before.written new) (sym same)
@@ -83,6 +90,7 @@ report_without_memory before after s is tells ends same = subst (λ (x : Status)
   read = λ no. absurd (cc);
   write = λ no. absurd (cc);
   disk = λ no. absurd (cc);
+  asked = none;
 })
 
 pub demo_without_memory : (seed samples : ℕ) (tells : Type 0) (old : List ℕ) (faults : ℕ) (s : Status) → s ≡ OutOfMemory →

@@ -1,5 +1,6 @@
 -- `repeat`, where memory ran out before its configuration was read.
 use Rattle.std.proofs.Common.{◌≡◌, inr, [], refl, sym, subst}
+use Rattle.outside.specs.Site.{AsksNothing}
 use Rattle.status.specs.declared.status.Status.{Status}
 use Rattle.status.specs.declared.status.Status.TheVariants.{OutOfMemory}
 use Rattle.fault_lines.specs.FaultLine.{fault_line}
@@ -8,8 +9,9 @@ use Rattle.monitor.specs.RepeatRun.{RepeatRuns}
 
 pub repeat_without_memory : (before after : Shown) (s : Status) → s ≡ OutOfMemory →
     (before.station_tells → Tells (fault_line OutOfMemory []) before after)
-    → (before.station_tells → Ends (fault_line OutOfMemory []) before after) → after.written ≡ before.written → RepeatRuns before after s
-repeat_without_memory before after s is tells ends same = subst (λ (x : Status). RepeatRuns before after x) (sym is) (record {
+    → (before.station_tells → Ends (fault_line OutOfMemory []) before after) → after.written ≡ before.written →
+    AsksNothing before.names_asked after.names_asked → RepeatRuns before after s
+repeat_without_memory before after s is tells ends same none = subst (λ (x : Status). RepeatRuns before after x) (sym is) (record {
   prints = λ o k c conf is2 w n holds. same;
   nothing = λ o p. same;
   quiet = λ k. tells k;
@@ -20,4 +22,5 @@ repeat_without_memory before after s is tells ends same = subst (λ (x : Status)
   read = λ no. absurd (cc);
   write = λ no. absurd (cc);
   disk = λ no. absurd (cc);
+  asked = none;
 })

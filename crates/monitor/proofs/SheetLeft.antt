@@ -1,5 +1,9 @@
 -- `sheet`, where memory ran out before its configuration was read.
 use Rattle.std.proofs.Common.{◌≡◌, inr, [], refl, sym, subst}
+use Rattle.outside.specs.Site.{AsksNothing}
+use Rattle.site_config.specs.Configuration.{config_of_bytes}
+use Rattle.recorded.specs.Asked.{names_in}
+use Rattle.recorded.proofs.Asking.{none_is_first}
 use Rattle.status.specs.declared.status.Status.{Status}
 use Rattle.status.specs.declared.status.Status.TheVariants.{OutOfMemory}
 use Rattle.fault_lines.specs.FaultLine.{fault_line}
@@ -8,8 +12,9 @@ use Rattle.monitor.specs.SheetRun.{SheetRuns}
 
 pub sheet_without_memory : (before after : Shown) (s : Status) → s ≡ OutOfMemory →
     (before.station_tells → Tells (fault_line OutOfMemory []) before after)
-    → (before.station_tells → Ends (fault_line OutOfMemory []) before after) → after.written ≡ before.written → SheetRuns before after s
-sheet_without_memory before after s is tells ends same = subst (λ (x : Status). SheetRuns before after x) (sym is) (record {
+    → (before.station_tells → Ends (fault_line OutOfMemory []) before after) → after.written ≡ before.written →
+    AsksNothing before.names_asked after.names_asked → SheetRuns before after s
+sheet_without_memory before after s is tells ends same none = subst (λ (x : Status). SheetRuns before after x) (sym is) (record {
   prints = λ o t c conf is2. same;
   nothing = λ o d w. same;
   quiet = λ k c. tells k;
@@ -19,4 +24,5 @@ sheet_without_memory before after s is tells ends same = subst (λ (x : Status).
   named = λ no. absurd (cc);
   read = λ no. absurd (cc);
   write = λ no. absurd (cc);
+  asked = λ c. none_is_first before.names_asked after.names_asked (names_in (config_of_bytes before.config)) none;
 })

@@ -5,6 +5,7 @@ use Rattle.segment_store.specs.Holds.{Holds}
 use Rattle.site_config.specs.Configuration.{config_of_bytes}
 use Rattle.site_config.specs.declared.config.Config.{Config}
 use Rattle.recorded.specs.Recorded.{recorded}
+use Rattle.recorded.specs.Asked.{AsksFirst, names_in}
 use Rattle.status.specs.declared.status.Status.{Status}
 use Rattle.status.specs.declared.status.Status.TheVariants.{Done, Usage, ReadFault, WriteFault, DiskFault, OutOfMemory}
 use Rattle.report_command.specs.Printing.{IsPrinting}
@@ -40,3 +41,6 @@ pub record AuditRuns (before after : Shown) (answer : Status) : Type 0 where
       Rose before.site_faults after.site_faults
   pub write : answer ≡ WriteFault → Rose before.output_faults after.output_faults
   pub disk : answer ≡ DiskFault → Rose before.station_faults after.station_faults
+  -- The gauges' files are asked for, in their order and each once, and no other.
+  pub asked : before.config_tells →
+      AsksFirst before.names_asked after.names_asked (names_in (config_of_bytes before.config))

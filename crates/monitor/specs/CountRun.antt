@@ -6,6 +6,7 @@ use Rattle.segment_store.specs.Holds.{Holds}
 use Rattle.site_config.specs.Configuration.{config_of_bytes}
 use Rattle.site_config.specs.declared.config.Config.{Config}
 use Rattle.recorded.specs.Recorded.{recorded}
+use Rattle.recorded.specs.Asked.{AsksFirst, names_in}
 use Rattle.held_samples.specs.Going.{AllHold, IsKept}
 use Rattle.held_samples.specs.Told.{Acknowledges}
 use Rattle.site_lanes.specs.Answers.{HeadsFit, AllSound}
@@ -57,5 +58,8 @@ pub record CountRuns (before after : Shown) (answer : Status) : Type 0 where
       Rose before.site_faults after.site_faults
   pub write : answer ≡ WriteFault → Rose before.output_faults after.output_faults
   pub disk : answer ≡ DiskFault → Rose before.station_faults after.station_faults
+  -- The gauges' files are asked for, in their order and each once, and no other.
+  pub asked : before.config_tells →
+      AsksFirst before.names_asked after.names_asked (names_in (config_of_bytes before.config))
   -- The last line told is the answer's.
   pub last : before.station_tells → before.config_tells → answer ≢ Done → Ends (line_for before answer) before after

@@ -6,6 +6,7 @@ use Rattle.outside.specs.Fault.{Rose}
 use Rattle.station.specs.Station.{Image, Since}
 use Rattle.site_config.specs.Configuration.{config_of_bytes}
 use Rattle.site_config.specs.declared.config.Config.{Config}
+use Rattle.recorded.specs.Asked.{AsksFirst, names_in}
 use Rattle.status.specs.declared.status.Status.{Status}
 use Rattle.status.specs.declared.status.Status.TheVariants.{Done, ReadFault, DiskFault, OutOfMemory}
 use Rattle.fault_lines.specs.FaultLine.{fault_line, name_by}
@@ -43,6 +44,9 @@ pub record InitRuns (before after : Shown) (answer : Status) : Type 0 where
   pub read : answer ≡ ReadFault → Rose before.config_faults after.config_faults ⊎
       Rose before.site_faults after.site_faults
   pub disk : answer ≡ DiskFault → Rose before.station_faults after.station_faults
+  -- The gauges' files are asked for, in their order and each once, and no other.
+  pub asked : before.config_tells →
+      AsksFirst before.names_asked after.names_asked (names_in (config_of_bytes before.config))
   -- What stays.
   pub nothing : before.output_tells → after.written ≡ before.written
   pub back : after.out ≡ 0

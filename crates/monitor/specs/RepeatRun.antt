@@ -1,6 +1,7 @@
 -- What a run of `repeat` did.
 use Rattle.std.specs.Prelude.{◌≡◌, ◌≢◌, ◌⊎◌, ℕ, ℤ, List, [], Ok}
 use Rattle.outside.specs.Fault.{Rose}
+use Rattle.outside.specs.Site.{AsksNothing}
 use Rattle.segment_store.specs.Holds.{Holds}
 use Rattle.site_config.specs.Configuration.{config_of_bytes}
 use Rattle.site_config.specs.declared.config.Config.{Config}
@@ -32,3 +33,5 @@ pub record RepeatRuns (before after : Shown) (answer : Status) : Type 0 where
   pub read : answer ≡ ReadFault → Rose before.config_faults after.config_faults
   pub write : answer ≡ WriteFault → Rose before.output_faults after.output_faults
   pub disk : answer ≡ DiskFault → Rose before.station_faults after.station_faults
+  -- No file is asked for.
+  pub asked : AsksNothing before.names_asked after.names_asked

@@ -1,6 +1,7 @@
 -- What a run of `report` did.
 use Rattle.std.specs.Prelude.{◌≡◌, ◌≢◌, ◌⊎◌, ℕ, ℤ, List, [], Ok}
 use Rattle.outside.specs.Fault.{Rose}
+use Rattle.outside.specs.Site.{AsksNothing}
 use Rattle.segment_rules.specs.Parts.{PartsValue}
 use Rattle.store_head.specs.Head.{HeadValue}
 use Rattle.segment_store.specs.Holds.{Holds}
@@ -38,3 +39,5 @@ pub record ReportRuns (before after : Shown) (answer : Status) : Type 0 where
   pub read : answer ≡ ReadFault → Rose before.config_faults after.config_faults
   pub write : answer ≡ WriteFault → Rose before.output_faults after.output_faults
   pub disk : answer ≡ DiskFault → Rose before.station_faults after.station_faults
+  -- No file is asked for.
+  pub asked : AsksNothing before.names_asked after.names_asked

@@ -3,6 +3,7 @@ use Rattle.std.specs.Prelude.{◌≡◌, ◌≢◌, ◌⊎◌, Ok}
 use Rattle.outside.specs.Fault.{Rose}
 use Rattle.site_config.specs.Configuration.{config_of_bytes}
 use Rattle.site_config.specs.declared.config.Config.{Config}
+use Rattle.recorded.specs.Asked.{AsksFirst, names_in}
 use Rattle.status.specs.declared.status.Status.{Status}
 use Rattle.status.specs.declared.status.Status.TheVariants.{Done, Usage, ReadFault, WriteFault, OutOfMemory}
 use Rattle.sheet_command.specs.Sheet.{sheet_of, sheet_answer, MayAnswer, Prints}
@@ -27,3 +28,6 @@ pub record SheetRuns (before after : Shown) (answer : Status) : Type 0 where
   pub read : answer ≡ ReadFault → Rose before.config_faults after.config_faults ⊎
       Rose before.site_faults after.site_faults
   pub write : answer ≡ WriteFault → Rose before.output_faults after.output_faults
+  -- The gauges' files are asked for, in their order and each once, and no other.
+  pub asked : before.config_tells →
+      AsksFirst before.names_asked after.names_asked (names_in (config_of_bytes before.config))

@@ -5,7 +5,7 @@
 --   Ends    this line was told last, unless the station failed
 use Rattle.std.specs.Prelude.{◌⊎◌, ℕ, List}
 use Rattle.outside.specs.Fault.{Rose}
-use Rattle.outside.specs.Site.{Files}
+use Rattle.outside.specs.Site.{Files, Asked}
 use Rattle.outside.specs.declared.source.Source as source
 use Rattle.outside.specs.declared.site.Site as site
 use Rattle.outside.specs.declared.sink.Sink as sink
@@ -23,6 +23,8 @@ pub record Shown : Type 1 where
   pub config : List ℕ
   pub config_faults : ℕ
   pub files : Files
+  -- whether these may be the names that the site was asked for until now, in order
+  pub names_asked : Asked
   -- how many sources are out
   pub out : ℕ
   pub site_faults : ℕ
@@ -46,6 +48,7 @@ shown t u v p c s k o = record {
   config = t.left c;
   config_faults = t.faults c;
   files = u.files s;
+  names_asked = u.names_asked s;
   out = u.out s;
   site_faults = u.faults s;
   seen = v.seen k;

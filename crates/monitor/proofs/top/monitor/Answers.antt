@@ -37,6 +37,7 @@ returns-in-Ok-Some-Init-clause-init g c = λ is.
       kind = run.kind;
       read = run.read;
       disk = run.disk;
+      asked = run.asked;
       nothing = λ shows. refl;
       back = run.back;
       files = run.files;
@@ -59,7 +60,7 @@ returns-in-Err-clause-init g c = λ is.
     init_without_memory (shown g.C.Source g.T.Site g.K.Station g.O.Sink c.args.config.now c.args.site.now c.args.station.now c.args.out.now)
     (shown g.C.Source g.T.Site g.K.Station g.O.Sink c.args.config.now c.args.site.now c.no_memory.new.station c.args.out.now)
     c.no_memory.result c.no_memory.ensures.status c.no_memory.ensures.told c.no_memory.ensures.last (λ shows. refl) c.requires.home
-    (λ shows. refl)
+    (λ shows. refl) (λ names has. has)
 
 pub returns-in-Ok-Some-Report-clause-report : goal.returns-in-Ok-Some-Report-clause-report
 returns-in-Ok-Some-Report-clause-report g c = λ is.
@@ -80,6 +81,7 @@ returns-in-Ok-Some-Report-clause-report g c = λ is.
       read = run.read;
       write = run.write;
       disk = run.disk;
+      asked = λ names has. has;
     }
 
 pub returns-in-Err-clause-report : goal.returns-in-Err-clause-report
@@ -87,7 +89,7 @@ returns-in-Err-clause-report g c = λ is.
     report_without_memory (shown g.C.Source g.T.Site g.K.Station g.O.Sink c.args.config.now c.args.site.now c.args.station.now
     c.args.out.now)
     (shown g.C.Source g.T.Site g.K.Station g.O.Sink c.args.config.now c.args.site.now c.no_memory.new.station c.args.out.now)
-    c.no_memory.result c.no_memory.ensures.status c.no_memory.ensures.told c.no_memory.ensures.last refl
+    c.no_memory.result c.no_memory.ensures.status c.no_memory.ensures.told c.no_memory.ensures.last refl (λ names has. has)
 
 pub returns-in-Err-clause-demo : goal.returns-in-Err-clause-demo
 returns-in-Err-clause-demo g c = λ seed samples workers is.
@@ -122,6 +124,7 @@ returns-in-Ok-Some-Count-clause-count g c = λ workers is.
       read = run.read;
       write = run.write;
       disk = run.disk;
+      asked = run.asked;
       last = run.last;
     }
 
@@ -131,7 +134,7 @@ returns-in-Err-clause-count g c = λ workers is.
     c.args.out.now)
     (shown g.C.Source g.T.Site g.K.Station g.O.Sink c.args.config.now c.args.site.now c.no_memory.new.station c.args.out.now)
     c.no_memory.result c.no_memory.ensures.status (λ tells. g.met.K.Station.only_now tells c.args.station.now)
-    c.no_memory.ensures.told c.no_memory.ensures.last refl
+    c.no_memory.ensures.told c.no_memory.ensures.last refl (λ names has. has)
 
 pub returns-in-Ok-Some-Audit-clause-audit : goal.returns-in-Ok-Some-Audit-clause-audit
 returns-in-Ok-Some-Audit-clause-audit g c = λ is.
@@ -152,6 +155,7 @@ returns-in-Ok-Some-Audit-clause-audit g c = λ is.
       read = run.read;
       write = run.write;
       disk = run.disk;
+      asked = run.asked;
     }
 
 pub returns-in-Err-clause-audit : goal.returns-in-Err-clause-audit
@@ -159,7 +163,7 @@ returns-in-Err-clause-audit g c = λ is.
     audit_without_memory (shown g.C.Source g.T.Site g.K.Station g.O.Sink c.args.config.now c.args.site.now c.args.station.now
     c.args.out.now)
     (shown g.C.Source g.T.Site g.K.Station g.O.Sink c.args.config.now c.args.site.now c.no_memory.new.station c.args.out.now)
-    c.no_memory.result c.no_memory.ensures.status c.no_memory.ensures.told c.no_memory.ensures.last refl
+    c.no_memory.result c.no_memory.ensures.status c.no_memory.ensures.told c.no_memory.ensures.last refl (λ names has. has)
 
 pub returns-in-Ok-Some-Repeat-clause-repeat : goal.returns-in-Ok-Some-Repeat-clause-repeat
 returns-in-Ok-Some-Repeat-clause-repeat g c = λ is.
@@ -179,6 +183,7 @@ returns-in-Ok-Some-Repeat-clause-repeat g c = λ is.
       read = run.read;
       write = run.write;
       disk = run.disk;
+      asked = λ names has. has;
     }
 
 pub returns-in-Err-clause-repeat : goal.returns-in-Err-clause-repeat
@@ -186,7 +191,7 @@ returns-in-Err-clause-repeat g c = λ is.
     repeat_without_memory (shown g.C.Source g.T.Site g.K.Station g.O.Sink c.args.config.now c.args.site.now c.args.station.now
     c.args.out.now)
     (shown g.C.Source g.T.Site g.K.Station g.O.Sink c.args.config.now c.args.site.now c.no_memory.new.station c.args.out.now)
-    c.no_memory.result c.no_memory.ensures.status c.no_memory.ensures.told c.no_memory.ensures.last refl
+    c.no_memory.result c.no_memory.ensures.status c.no_memory.ensures.told c.no_memory.ensures.last refl (λ names has. has)
 
 pub returns-in-Ok-Some-Column-clause-last : goal.returns-in-Ok-Some-Column-clause-last
 returns-in-Ok-Some-Column-clause-last g c = λ name told tells some.
@@ -218,6 +223,7 @@ returns-in-Ok-Some-Sheet-clause-sheet g c = λ is.
       named = run.named;
       read = run.read;
       write = run.write;
+      asked = run.asked;
     }
 
 pub returns-in-Err-clause-sheet : goal.returns-in-Err-clause-sheet
@@ -225,4 +231,4 @@ returns-in-Err-clause-sheet g c = λ is.
     sheet_without_memory (shown g.C.Source g.T.Site g.K.Station g.O.Sink c.args.config.now c.args.site.now c.args.station.now
     c.args.out.now)
     (shown g.C.Source g.T.Site g.K.Station g.O.Sink c.args.config.now c.args.site.now c.no_memory.new.station c.args.out.now)
-    c.no_memory.result c.no_memory.ensures.status c.no_memory.ensures.told c.no_memory.ensures.last refl
+    c.no_memory.result c.no_memory.ensures.status c.no_memory.ensures.told c.no_memory.ensures.last refl (λ names has. has)
