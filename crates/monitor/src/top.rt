@@ -1,4 +1,5 @@
 ghost use Rattle.std.specs.Prelude.{◌≡◌, ◌≢◌, ◌⊎◌, ℕ, List, Option, None, Some, map, string_bytes};
+ghost use Rattle.outside.specs.Site.{AsksNothing};
 ghost use Rattle.command_words.specs.Line.{Table, Init, Count, Report, Audit, Demo, Repeat, Column, Sheet, command_of};
 ghost use Rattle.fault_lines.specs.FaultLine.{fault_line};
 ghost use Rattle.column_command.specs.Task.{column_task};
@@ -99,6 +100,9 @@ pub fn monitor<
         command_of (map string_bytes words.now) ≡ Some (Demo seed samples workers) →
         DemoRuns seed samples O.tells (O.written out.old) (O.written out.new)
         (O.faults out.old) (O.faults out.new) result }
+    ensures asked { (seed samples workers : ℕ) →
+        command_of (map string_bytes words.now) ≡ Some (Demo seed samples workers) →
+        AsksNothing (T.names_asked site.old) (T.names_asked site.new) }
     // `repeat`
     ensures repeat { command_of (map string_bytes words.now) ≡ Some Repeat → RepeatRuns
         (shown ⟦<C as Source>⟧ ⟦<T as Site>⟧ ⟦<K as Station>⟧ ⟦<O as Sink>⟧
