@@ -53,8 +53,8 @@ loop-number-preserved g c =
       room = omega (arith, was.room, c.push_reserved.ensures.capacity);
       later = omega (arith, was.later, now.later);
       asked = asks_more c.args.conf.now c.loop-number.number (asked c.args.site.now) (asked c.loop-number.site) was.asked
-          (asked c.read_recording.new.site) lt (asks_file c.args.conf.now c.loop-number.number c.as_slice-gauges.result.now here here.file lt
-          c.as_slice-gauges.ensures (ap (λ (x : Gauge). x.file) c.index-gauges-number.is) (asked c.loop-number.site)
+          (asked c.read_recording.new.site) lt (asks_file c.args.conf.now c.loop-number.number c.as_slice-gauges.result.now here
+          here.file lt c.as_slice-gauges.ensures (ap (λ (x : Gauge). x.file) c.index-gauges-number.is) (asked c.loop-number.site)
           (asked c.read_recording.new.site) c.read_recording.ensures.asked);
       back = now.back;
       files = λ tells. now.files tells ∙ was.files tells;
