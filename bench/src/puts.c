@@ -2,7 +2,7 @@
  * bytes behind the file's end and syncs, and then writes one byte before them and syncs: the body with its digest and the next gate,
  * and the gate that opens.
  *
- * gcc -O2 -o puts bench/src/puts.c && ./puts /tmp/puts 20000 61
+ * gcc -O2 -o puts bench/src/puts.c && ./puts puts.tmp 20000 61
  */
 #define _GNU_SOURCE
 #include <fcntl.h>

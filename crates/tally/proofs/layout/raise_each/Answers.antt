@@ -12,14 +12,9 @@ use Rattle.tally.proofs.Equal.{cell_of}
 use Rattle.tally.proofs.Places.{few_places}
 use Rattle.tally.proofs.Walk.{count_is, total_is}
 use Rattle.tally.proofs.LogCells.{total_of-cells_of}
-use Rattle.tally.proofs.Tables.{layout_raised, counts_added, counts_of, used_of_layout}
+use Rattle.tally.proofs.Tables.{place_left, layout_raised, counts_added, counts_of, used_of_layout}
 use Rattle.tally.proofs.AddEntries.{HasEntries, entries-none, entries-more, entries-total, entries-cell, entries-room, entries-counts, entries-sum, entries-length}
 use Rattle.tally.proofs.layout.raise_each.Goals as goal
-
--- the condition on cells, in terms of the table
-room_by : (n m p used x : ℕ) (len room : ℕ) → m ≡ p → len ≡ used → room + 1 ≡ x →
-    (n ≡ 0) ⊎ ((0 < m) ⊎ (len < room)) → (n ≡ 0) ⊎ ((0 < p) ⊎ (used + 1 < x))
-room_by n m p used x len room e f g h = grind arith
 
 room_in : (t : Counts) (used more room : ℕ) → used ≡ length t.cells → room ≡ t.room → HasGreatestRoom t ⊎ (used + more ≤ room) →
     HasGreatestRoom t ⊎ (length t.cells + more ≤ t.room)
@@ -51,7 +46,7 @@ module _ (k room used used' i : ℕ) (old now : List ℕ) (touched was : List �
       let s = counts_in k room now in
       let h = entries-room (counts_in k room old) s entries i x (counts_of first) each w item has
       (room_in (counts_in k room old) used (length (cells_of entries)) room (used_of_layout first) refl r) in
-      room_by x.n (count_of s.cells x.lo x.hi) _ used' (length touched) (length s.cells) room
+      place_left x.n (count_of s.cells x.lo x.hi) _ used' (length touched) (length s.cells) room
       (count_is k x.lo x.hi now cell.ordered cell.within) (sym (used_of_layout layout)) (sym layout.room_for)
       (place_of_pair s x.lo x.hi x.n (counts_of layout) cell.ordered cell.within h)
 

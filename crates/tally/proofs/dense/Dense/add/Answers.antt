@@ -1,4 +1,4 @@
-use Rattle.std.proofs.Common.{ℕ, ◌≡◌, ◌<◌, ◌≤◌, ◌+◌, ◌⊎◌, ◌∙◌, sym, ap, subst, length, get_or, set, arith}
+use Rattle.std.proofs.Common.{◌≡◌, ◌<◌, ◌≤◌, ◌+◌, ◌∙◌, sym, ap, subst, length, get_or, set, arith}
 use Rattle.std.specs.Vec.{with_items}
 use Rattle.std.proofs.lemmas.List.{with_items_is}
 use Rattle.tally.specs.declared.cells.TheConstants.{MAX_TOTAL}
@@ -8,7 +8,7 @@ use Rattle.tally.proofs.Ascending.{place_of_pair}
 use Rattle.tally.proofs.Places.{few_places}
 use Rattle.lemmas.proofs.Sums.{get_or-le-sum}
 use Rattle.tally.proofs.Walk.{count_is}
-use Rattle.tally.proofs.Tables.{layout_raised, counts_added, counts_of, total_of_layout, used_of_layout}
+use Rattle.tally.proofs.Tables.{place_left, layout_raised, counts_added, counts_of, total_of_layout, used_of_layout}
 use Rattle.tally.proofs.dense.Dense.add.Goals as goal
 
 pub raise-self-inside-requires-clause-small : goal.raise-self-inside-requires-clause-small
@@ -27,11 +27,6 @@ raise-self-inside-requires-clause-fits c =
           (λ t. get_or t c.place-at.result 0) c.deref_mut.ensures.value,
     )
 
--- the condition on cells, in terms of the table
-room_by : (n m p used x : ℕ) (len room : ℕ) → m ≡ p → len ≡ used → room + 1 ≡ x →
-    (n ≡ 0) ⊎ ((0 < m) ⊎ (len < room)) → (n ≡ 0) ⊎ ((0 < p) ⊎ (used + 1 < x))
-room_by n m p used x len room e f g h = grind arith
-
 pub raise-self-inside-requires-clause-room : goal.raise-self-inside-requires-clause-room
 raise-self-inside-requires-clause-room c =
     let i = c.self.inside in
@@ -39,7 +34,7 @@ raise-self-inside-requires-clause-room c =
     let w : c.args.hi < i.classes = omega (arith, ap (λ t. t.classes) c.self.view_is) in
     let p = c.place-at.ensures.place in
     let q = count_is i.classes c.args.lo c.args.hi i.counts.items c.requires.ordered w in
-    room_by c.args.n _ _ i.used _ _ _
+    place_left c.args.n _ _ i.used _ _ _
     (sym (ap (λ t. count_of t.cells c.args.lo c.args.hi) c.self.view_is) ∙ q ∙ sym (ap (λ x. get_or i.counts.items x 0) p)
     ∙ sym (ap (λ t. get_or t c.place-at.result 0) c.deref_mut.ensures.value))
     (sym (ap (λ t. length t.cells) c.self.view_is) ∙ sym (used_of_layout v))
