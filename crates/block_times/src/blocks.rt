@@ -64,8 +64,8 @@ impl Site {
         })
     }
 
-    /// Counts a history, block after block. The units and the boards take turns. Where blocks are not
-    /// merged, the boards stay as they are.
+    /// Counts a history, block after block. The units and the boards take turns. Where blocks are
+    /// not merged, the boards stay as they are.
     pub fn count(&mut self, levels: &[u16], is_merged: bool) {
         let block = self.plan.block as usize;
         count_in_turn(levels, block, &mut self.units, &mut self.boards, is_merged);

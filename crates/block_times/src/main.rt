@@ -1,9 +1,10 @@
-//! Blocks of levels through the reducers and tallies of one unit or of 512, each block's tally merged into
-//! that of a board and emptied: for each plan a digest of what the boards hold, and with the word `time`
-//! also the processor time, in hundredths of a nanosecond to the sample, of all and of the pushes alone.
+//! Blocks of levels through the reducers and tallies of one unit or of 512, each block's tally
+//! merged into that of a board and emptied: for each plan a digest of what the boards hold, and
+//! with the word `time` also the processor time, in hundredths of a nanosecond to the sample, of
+//! all and of the pushes alone.
 //!
-//! Only safety is proved here. What the calls do is said by their own contracts; two forms of a tally that
-//! count the same history have equal digests.
+//! Only safety is proved here. What the calls do is said by their own contracts; two forms of a
+//! tally that count the same history have equal digests.
 #![tactic(auto)]
 
 mod blocks;

@@ -32,8 +32,8 @@ pub struct Plan {
 }
 
 impl Plan {
-    /// All plans. A table for each unit has no place for 1024 classes, and up to 64 classes a block of 4096
-    /// samples has room for each pair.
+    /// All plans. A table for each unit has no place for 1024 classes, and up to 64 classes a block
+    /// of 4096 samples has room for each pair.
     pub fn all(alloc: Global) -> Result<Vec<Plan>, AllocError> {
         let mut plans = Vec::new(alloc);
         for history in [History::Noise, History::Walk] {

@@ -1,4 +1,5 @@
-//! Readers and workers: what they do in a round, the readers beside each other, and then the workers.
+//! Readers and workers: what they do in a round, the readers beside each other, and then the
+//! workers.
 //!
 //! A reader takes up to 16 blocks of its lane, fills a unit with each and deals them to its rings,
 //! one ring to a worker. A worker takes its rings one after another, each to its mark, counts each

@@ -81,7 +81,8 @@ fn extend(slots: &mut [Segment], j: usize, seg: &Segment)
     join(&mut slots[j], seg);
 }
 
-/// Joins the segment at a later place behind the one at a place, which leaves the later place empty.
+/// Joins the segment at a later place behind the one at a place, which leaves the later place
+/// empty.
 fn merge(slots: &mut [Segment], j: usize, k: usize)
     requires at { (j < k) × (k < length slots.old) }
     requires grid { (d : SegmentValue) →
@@ -129,8 +130,8 @@ fn close(slots: &mut [Segment], j: usize, k: usize)
     }
 }
 
-/// Places a segment that begins at the `k`-th block. Answers the interval that has its first sample,
-/// where there is one, and then nothing changes.
+/// Places a segment that begins at the `k`-th block. Answers the interval that has its first
+/// sample, where there is one, and then nothing changes.
 pub fn place(slots: &mut [Segment], start: u64, block: u32, k: usize, seg: &Segment) -> Option<Name>
     requires row { IsRow block seg.now.grid seg.now.gauge
         (record { start = start; slots = slots.old }) }

@@ -77,8 +77,8 @@ impl Board {
     ghost use Rattle.board.specs.Board.{IsBoard, IsBegun, SameBoard, Carries, StandsIn, IsFront};
     ghost use Rattle.board.specs.Deposits.{Answers};
 
-    /// An empty board for blocks of so many samples, whose windows begin at 0. Takes all memory that
-    /// it will need.
+    /// An empty board for blocks of so many samples, whose windows begin at 0. Takes all memory
+    /// that it will need.
     pub fn new(alloc: Global, gauges: u16, block: u32, grid: &Grid) -> Result<Board, OutOfMemory>
         requires gauges { gauges ≤ MAX_GAUGES }
         requires block { (1 ≤ block) × (block ≤ MAX_BLOCK) }

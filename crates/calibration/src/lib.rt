@@ -1,21 +1,25 @@
 //! Stress classes: a gain turns a raw value into a stress, a grid puts the stress into a class.
 //!
 //! `specs/Level.antt` has the definition, with a floor for each of the two steps: the stress is
-//! `floor(raw * num / den) + offset` kPa, the level `floor((stress - low) / width)`, and negative quotients
-//! round down. `specs/History.antt` has the level history of a list of raw values.
+//! `floor(raw * num / den) + offset` kPa, the level `floor((stress - low) / width)`, and negative
+//! quotients round down. `specs/History.antt` has the level history of a list of raw values.
 //!
-//! The code joins the two floors into one, `floor((raw * num + (offset - low) * den) / (den * width))`, all in
-//! 64 bits. The dividend is first compared with the width of all classes, which refuses both sides at once, and
-//! is then below `MAX_CLASSES` times the divisor. So two multiplications and a shift by a fixed number give the exact
-//! quotient: the first makes the divisor one of nearly 49 bits, the second is by 2^112 over that. A `Classifier`
-//! keeps the numbers that a gain and a grid determine: make one for a block of samples. `Classifier::levels` puts the
-//! levels of a slice of raw values to the front of a buffer; `level` is for one raw value, by the one quotient itself.
+//! The code joins the two floors into one, `floor((raw * num + (offset - low) * den) / (den *
+//! width))`, all in 64 bits. The dividend is first compared with the width of all classes, which
+//! refuses both sides at once, and is then below `MAX_CLASSES` times the divisor. So two
+//! multiplications and a shift by a fixed number give the exact quotient: the first makes the
+//! divisor one of nearly 49 bits, the second is by 2^112 over that. A `Classifier` keeps the
+//! numbers that a gain and a grid determine: make one for a block of samples. `Classifier::levels`
+//! puts the levels of a slice of raw values to the front of a buffer; `level` is for one raw value,
+//! by the one quotient itself.
 //!
-//! Under a rising gain the raw values with a level lie between two bounds, which `Classifier::new` finds. `levels`
-//! first compares each stretch of values with them, several at once, and passes over a stretch that lies outside.
+//! Under a rising gain the raw values with a level lie between two bounds, which `Classifier::new`
+//! finds. `levels` first compares each stretch of values with them, several at once, and passes
+//! over a stretch that lies outside.
 //!
-//! Cost: `Classifier::new` four divisions, `level` one; `Classifier::level`, and `levels` for each value of a stretch that isn't
-//! passed over, three multiplications, no division and, in `levels`, no branch that depends on a single value.
+//! Cost: `Classifier::new` four divisions, `level` one; `Classifier::level`, and `levels` for each
+//! value of a stretch that isn't passed over, three multiplications, no division and, in `levels`,
+//! no branch that depends on a single value.
 #![tactic(auto)]
 
 mod classifier;

@@ -1,10 +1,12 @@
-//! Single calls of the counting crates over one recording that is made here: for each a digest of what it answers, and with the word
-//! `time` also its processor time, in hundredths of a nanosecond to the sample. `bench/src/calls.c` prints the same digests. Crossings and
-//! simple counts are taken of a walk, noise and a sine, by the points of blocks of 1,024 levels (each block 16 times) and by levels.
-//! Segments of the same signals are made by blocks, each counted and joined to those before it, and by samples.
+//! Single calls of the counting crates over one recording that is made here: for each a digest of
+//! what it answers, and with the word `time` also its processor time, in hundredths of a nanosecond
+//! to the sample. `bench/src/calls.c` prints the same digests. Crossings and simple counts are
+//! taken of a walk, noise and a sine, by the points of blocks of 1,024 levels (each block 16 times)
+//! and by levels. Segments of the same signals are made by blocks, each counted and joined to those
+//! before it, and by samples.
 //!
-//! Only safety is proved here. What the calls answer is said by their own contracts; the digests show that the C program beside
-//! them does the same work.
+//! Only safety is proved here. What the calls answer is said by their own contracts; the digests
+//! show that the C program beside them does the same work.
 #![tactic(auto)]
 
 mod calls;
@@ -44,7 +46,8 @@ fn main(rt: HostRuntime) -> io::Result<()> {
 // How many levels each signal has.
 const LEVELS: u32 = 1 << 17;
 
-// Each way to count over each signal. The time is that to the level; by points each is taken 16 times.
+// Each way to count over each signal. The time is that to the level; by points each is taken 16
+// times.
 fn show_counts<R: CpuClock + AllocGlobal + Print>(rt: &R, is_timed: bool) -> io::Result<()> {
     let Ok(grid) = Grid::new(128, 2, -64000, 64) else {
         return Ok(());
@@ -112,7 +115,8 @@ fn time_of_segment<R: CpuClock + AllocGlobal>(
     Ok(least.wrapping_mul(100) / raws.len().max(1) as u128)
 }
 
-// The least processor time of a call over the recording, in hundredths of a nanosecond to the sample.
+// The least processor time of a call over the recording, in hundredths of a nanosecond to the
+// sample.
 fn time_of<R: CpuClock + AllocGlobal>(
     rt: &R,
     call: Call,

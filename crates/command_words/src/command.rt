@@ -27,8 +27,8 @@ pub enum Command<'a> {
     Report,
     /// `audit`
     Audit,
-    /// `demo [--seed N] [--samples N] [--workers N]`: 0 to `MAX_SEED`, by default 0; 1 to `MAX_DEMO_SAMPLES`, by default 100,000;
-    /// 1 to `MAX_WORKERS`, by default 4.
+    /// `demo [--seed N] [--samples N] [--workers N]`: 0 to `MAX_SEED`, by default 0; 1 to
+    /// `MAX_DEMO_SAMPLES`, by default 100,000; 1 to `MAX_WORKERS`, by default 4.
     Demo {
         seed: u64,
         samples: u64,

@@ -4,8 +4,9 @@
 //! A [`Plan`] says for how many gauges, which block and how many workers rounds are [`Prepared`]. A
 //! round reads up to 16 blocks of each [`Lane`], deals them to the workers, and puts together what
 //! they counted: the front of a gauge stands for exactly the samples that its lane gave in this
-//! round, with any number of workers. As many threads as there are workers, the caller's among them,
-//! read the lanes and then count; where a thread can't be made, its work is done by the caller.
+//! round, with any number of workers. As many threads as there are workers, the caller's among
+//! them, read the lanes and then count; where a thread can't be made, its work is done by the
+//! caller.
 //!
 //! What a round does is said by `RoundDone` (crate `round_making`, specs/Round.antt).
 #![tactic(auto)]

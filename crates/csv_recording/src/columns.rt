@@ -41,9 +41,10 @@ impl<T: Drop> From<AllocFailed<T>> for ColumnFault {
 
 /// The samples in the column of a name.
 ///
-/// The first record of the text has the names; the first field that is `name` is the column's. Each further record is a row.
-/// Records are those of `csv`: fields are parted by commas and may stand in double quotes, blank lines are no records. A cell is a
-/// whole number from -2147483647 to 2147483647 of at most 10 digits, with a sign or without one; an empty cell and `NaN` are a
+/// The first record of the text has the names; the first field that is `name` is the column's. Each
+/// further record is a row. Records are those of `csv`: fields are parted by commas and may stand
+/// in double quotes, blank lines are no records. A cell is a whole number from -2147483647 to
+/// 2147483647 of at most 10 digits, with a sign or without one; an empty cell and `NaN` are a
 /// reading that is missing. Blanks and tabs around it count for nothing.
 ///
 /// The first row that is faulty decides.

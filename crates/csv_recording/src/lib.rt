@@ -1,10 +1,13 @@
-//! CSV files and recordings: the samples in a column of a file, and recordings as a file with a column for each gauge.
+//! CSV files and recordings: the samples in a column of a file, and recordings as a file with a
+//! column for each gauge.
 //!
-//! `specs/Column.antt` says which samples a column has, over the records that `csv`'s own definition gives of the bytes, and
-//! `specs/Sheet.antt` which text the sheet of some recordings is. A cell is a whole number, or nothing or `NaN` for a reading that
-//! is missing (`specs/Cells.antt`).
+//! `specs/Column.antt` says which samples a column has, over the records that `csv`'s own
+//! definition gives of the bytes, and `specs/Sheet.antt` which text the sheet of some recordings
+//! is. A cell is a whole number, or nothing or `NaN` for a reading that is missing
+//! (`specs/Cells.antt`).
 //!
-//! Cost: a column takes one pass over the bytes, and memory for its samples and one row. A sheet takes memory for its text.
+//! Cost: a column takes one pass over the bytes, and memory for its samples and one row. A sheet
+//! takes memory for its text.
 #![tactic(auto)]
 
 mod cells;

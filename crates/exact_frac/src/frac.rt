@@ -55,8 +55,8 @@ impl Frac {
         self.add(times.whole, times.num);
     }
 
-    /// The number rounded up at the ninth decimal: the least number of billionths that is not below it, as
-    /// wholes and billionths.
+    /// The number rounded up at the ninth decimal: the least number of billionths that is not below
+    /// it, as wholes and billionths.
     pub fn ceil_decimals(&self) -> (u64, u32)
         requires { self.now.whole < 2 ^ 64 - 1 }
         ensures least { IsCeilingInBillionths self.now (result.0 * BILLION + result.1) }

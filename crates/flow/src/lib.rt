@@ -2,8 +2,8 @@
 //! a block is fed to a ring, counted, placed and stored, and a run may stop at any moment.
 //!
 //! `specs/Flow.antt` has its states and events, `specs/Kept.antt` what every list of events keeps.
-//! Nothing here knows of threads: the orders in which threads can act are among the lists of events.
-//! There is no code but the law.
+//! Nothing here knows of threads: the orders in which threads can act are among the lists of
+//! events. There is no code but the law.
 #![tactic(auto)]
 
 pub mod laws;

@@ -56,8 +56,8 @@ fn extended(levels: &[u16], len: usize, level: u16) -> usize
     len + 1
 }
 
-/// Deletes cycles from the end of `len` points, the first `len - 1` levels and then `last`, and says
-/// how many points are left.
+/// Deletes cycles from the end of `len` points, the first `len - 1` levels and then `last`, and
+/// says how many points are left.
 // The last point stays out of the buffer until its place is known: what was just written would
 // have to be read again at each step.
 #[inline(always)]

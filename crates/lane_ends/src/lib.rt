@@ -2,8 +2,8 @@
 //! ends, a take fails, or the recording is longer than one may be.
 //!
 //! `specs/Ends.antt` says which end it is; what is read in blocks ends as what is read at once
-//! (`proofs/Giving.antt`). A block costs a `fill`; at the limit of a recording one further sample is
-//! looked at. No call here takes memory.
+//! (`proofs/Giving.antt`). A block costs a `fill`; at the limit of a recording one further sample
+//! is looked at. No call here takes memory.
 #![tactic(auto)]
 
 mod end;

@@ -18,8 +18,8 @@ fn is_few(half_counts: &[u64]) -> bool
     true
 }
 
-// Detail, class width, half cycles of some ranges, and the damage as a fraction and in decimals. The values come
-// from Python's exact `Fraction`, by the equations of the standard.
+// Detail, class width, half cycles of some ranges, and the damage as a fraction and in decimals.
+// The values come from Python's exact `Fraction`, by the equations of the standard.
 #[test]
 fn damage_of_some_ranges(rt: HostRuntime) -> Result<(), Fail> {
     let table = [

@@ -135,7 +135,8 @@ pub fn monitor<
     ensures usage { result ≡ Status.Usage → command_of (map string_bytes words.now) ≡ None }
     ensures refused { command_of (map string_bytes words.now) ≡ None →
         (result ≡ Status.Usage) ⊎ (result ≡ Status.OutOfMemory) }
-    // What `table`, `demo`, `column` and wrong words tell: the line of the answer, and nothing else changes.
+    // What `table`, `demo`, `column` and wrong words tell: the line of the answer, and nothing else
+    // changes.
     ensures told { (name : List ℕ) →
         IsToldOf (command_of (map string_bytes words.now)) name → K.tells →
         Tells (fault_line result name)

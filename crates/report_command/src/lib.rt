@@ -1,8 +1,8 @@
 //! `report`: the report of what a store holds.
 //!
 //! The configuration is read and the store resumed, which changes nothing that a read of it gives,
-//! and the report is printed. `specs/Printing.antt` says of which figures it is: of the samples that
-//! are held, if the bodies stand for them, and in any case of what the bodies keep.
+//! and the report is printed. `specs/Printing.antt` says of which figures it is: of the samples
+//! that are held, if the bodies stand for them, and in any case of what the bodies keep.
 //! `specs/Answers.antt` says which answer comes.
 #![tactic(auto)]
 

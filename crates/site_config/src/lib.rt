@@ -1,12 +1,14 @@
 //! The configuration of a site: what the bytes of a TOML file mean, or the first fault in them.
 //!
-//! `specs/Configuration.antt` has the meaning, section by section in the order in which faults are told: the grid, the count, the gauges,
-//! the details. `specs/Fields.antt` has the rule of one key: it is missing, of another kind, outside its limits, or its value. The
-//! grammar is that of the crate `toml`, which `Configuration` names.
+//! `specs/Configuration.antt` has the meaning, section by section in the order in which faults are
+//! told: the grid, the count, the gauges, the details. `specs/Fields.antt` has the rule of one key:
+//! it is missing, of another kind, outside its limits, or its value. The grammar is that of the
+//! crate `toml`, which `Configuration` names.
 //!
 //! The code walks the table that `toml` gives in the same order, a function for each definition.
 //!
-//! Cost: what `toml` takes for at most 64 KiB, and a copy of each name. Names are looked for from the first on.
+//! Cost: what `toml` takes for at most 64 KiB, and a copy of each name. Names are looked for from
+//! the first on.
 #![tactic(auto)]
 
 mod config;

@@ -29,8 +29,8 @@ const SCALE: u128 = 2500;
 /// `SCALE` times 1000^5 over twice 5 * 10^6, as the second slope asks for.
 const SECOND_SLOPE: u128 = 250_000_000_000;
 
-/// The damage of one half cycle of range `k`, as numerator and denominator. All ranges of a detail have the one
-/// denominator.
+/// The damage of one half cycle of range `k`, as numerator and denominator. All ranges of a detail
+/// have the one denominator.
 pub fn share(detail: &Detail, grid: &Grid, k: u16) -> (u128, u128)
     requires low { 1 ≤ k }
     requires high { k < grid.now.classes }

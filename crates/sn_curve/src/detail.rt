@@ -58,9 +58,10 @@ impl Model for Detail {
 impl Detail {
     ghost use Rattle.sn_curve.specs.Detail.{IsDetail, detail_of};
 
-    /// A detail of a category in N/mm² and a partial factor in hundredths. The category is one of 160, 140,
-    /// 125, 112, 100, 90, 80, 71, 63, 56, 50, 45, 40, 36 for normal stress and of 100, 80 for shear stress, the
-    /// factor one of 100, 115, 135. The first of the two that is not is refused.
+    /// A detail of a category in N/mm² and a partial factor in hundredths. The category is one of
+    /// 160, 140, 125, 112, 100, 90, 80, 71, 63, 56, 50, 45, 40, 36 for normal stress and of 100, 80
+    /// for shear stress, the factor one of 100, 115, 135. The first of the two that is not is
+    /// refused.
     pub fn new(kind: Kind, category: u16, gamma: u16) -> Result<Detail, DetailFault>
         ensures { result ≡ detail_of kind category gamma }
     {

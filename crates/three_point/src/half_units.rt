@@ -8,7 +8,8 @@ use crate::ranges::Range;
 use std::alloc::{AllocError, Global};
 use std::marker::Model;
 
-/// Half units by range: place k has those of the ranges between levels k apart. A half unit is half a cycle.
+/// Half units by range: place k has those of the ranges between levels k apart. A half unit is half
+/// a cycle.
 #[derive(Debug, Drop)]
 pub struct HalfUnits {
     counts: Vec<u64>,
@@ -23,7 +24,8 @@ impl Model for HalfUnits {
 }
 
 impl HalfUnits {
-    /// No half units, of ranges between levels below `classes`. Takes memory once, a place for each range.
+    /// No half units, of ranges between levels below `classes`. Takes memory once, a place for each
+    /// range.
     pub fn new(alloc: Global, classes: u16) -> Result<HalfUnits, AllocError>
         ensures zeros { IfOk result (λ half_units. half_units ≡ replicate classes 0) }
         ensures classes { IfOk result (λ half_units. length half_units ≡ classes) }

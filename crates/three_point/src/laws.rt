@@ -1,7 +1,8 @@
 ghost use Rattle.three_point.specs.Standard.{HasSteps};
 ghost use Rattle.three_point.specs.Sums.{HasRangeSums};
 
-/// Whoever takes the steps of ASTM E1049-85, 5.4.4, as `specs/Standard.antt` numbers them, counts the ranges of `run` in their order.
+/// Whoever takes the steps of ASTM E1049-85, 5.4.4, as `specs/Standard.antt` numbers them, counts
+/// the ranges of `run` in their order.
 pub fn standard()
     ensures { HasSteps }
 {}

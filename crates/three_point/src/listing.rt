@@ -9,10 +9,11 @@ use crate::ranges::{Range, Ranges};
 use crate::reading::{count_left, read};
 use std::alloc::{AllocError, Global};
 
-/// Counts the ranges of a list of points by the three-point count of ASTM E1049-85, 5.4.4, in the order of the standard's steps:
-/// those of step 6 come last, in order of the history.
+/// Counts the ranges of a list of points by the three-point count of ASTM E1049-85, 5.4.4, in the
+/// order of the standard's steps: those of step 6 come last, in order of the history.
 ///
-/// Takes memory twice: room for the answer and for the live points. Time is in proportion to the number of points.
+/// Takes memory twice: room for the answer and for the live points. Time is in proportion to the
+/// number of points.
 pub fn astm(alloc: Global, points: &[u16]) -> Result<Ranges, AllocError>
     requires { points_of points.now ≡ points.now }
     ensures { IfOk result (λ ranges. counted_ranges ranges ≡ run [] points.now) }

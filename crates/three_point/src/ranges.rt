@@ -4,7 +4,8 @@ ghost use Rattle.three_point.specs.Bounds.{IsWithin};
 
 use std::marker::Model;
 
-/// A range that was counted, between two levels with `lo < hi`: two half units for a cycle, one for a half cycle.
+/// A range that was counted, between two levels with `lo < hi`: two half units for a cycle, one for
+/// a half cycle.
 #[derive(Clone, Copy, Debug, PartialEq, Eq)]
 pub struct Range {
     pub lo: u16,
@@ -44,8 +45,9 @@ impl Ranges {
         &self.items
     }
 
-    /// Puts the half units at each range into `out`: place k gets those of the ranges between levels k apart, whatever it held. A
-    /// half unit is half a cycle. Each range lies between levels below the number of places.
+    /// Puts the half units at each range into `out`: place k gets those of the ranges between
+    /// levels k apart, whatever it held. A half unit is half a cycle. Each range lies between
+    /// levels below the number of places.
     pub fn half_units(&self, out: &mut [u64])
         requires within { All (IsWithin (length out.old)) (counted_ranges self.now) }
         ensures { (k : ℕ) → k < length out.old →

@@ -6,10 +6,12 @@ use crate::reading::{count_left, read};
 use std::alloc::{AllocError, Global};
 use std::marker::Model;
 
-/// The three-point count of ASTM E1049-85, 5.4.4, over points that come one at a time. It keeps what is live, and hands each range to
-/// a counter as it is counted: those that the pushes handed over, and then those of `finish`, are the ranges of all points pushed.
+/// The three-point count of ASTM E1049-85, 5.4.4, over points that come one at a time. It keeps
+/// what is live, and hands each range to a counter as it is counted: those that the pushes handed
+/// over, and then those of `finish`, are the ranges of all points pushed.
 ///
-/// From the oldest live point to the newest the ranges fall strictly, so no more than `classes + 1` points are live.
+/// From the oldest live point to the newest the ranges fall strictly, so no more than `classes + 1`
+/// points are live.
 #[derive(Debug, Drop)]
 pub struct Run {
     classes: u16,
@@ -32,7 +34,8 @@ impl Model for Run {
 impl Run {
     ghost use Rattle.three_point.specs.Live.{HasCounted};
 
-    /// A run before its first point. Takes memory once, 2 bytes for each class, for as many points as can ever be live.
+    /// A run before its first point. Takes memory once, 2 bytes for each class, for as many points
+    /// as can ever be live.
     pub fn new(alloc: Global, classes: u16) -> Result<Run, AllocError>
         ensures { IfOk result (λ run. run ≡ record { classes = classes; live = [] }) }
     {
@@ -43,8 +46,8 @@ impl Run {
         })
     }
 
-    /// Reads the next point, and hands over the ranges that it closes: steps 1 to 5. Takes no memory; a point is dropped once, so
-    /// this takes a constant number of steps on average.
+    /// Reads the next point, and hands over the ranges that it closes: steps 1 to 5. Takes no
+    /// memory; a point is dropped once, so this takes a constant number of steps on average.
     #[inline]
     pub fn push<C: RangeCounter>(&mut self, point: u16, counter: &mut C)
         requires point { point < self.old.classes }
@@ -90,7 +93,8 @@ impl Run {
         self.len = len;
     }
 
-    /// Hands over the ranges that are left when all points were read: step 6, in order of the history.
+    /// Hands over the ranges that are left when all points were read: step 6, in order of the
+    /// history.
     pub fn finish<C: RangeCounter>(self, counter: &mut C)
         requires counter { self.classes ≤ C.classes counter.old }
         requires room { length self.live ≤ C.room counter.old }

@@ -2,7 +2,8 @@ use super::*;
 use std::alloc::AllocError;
 use std::test::Fail;
 
-/// Points, and the ranges that the steps of the standard count, as (lo, hi, half units) in their order.
+/// Points, and the ranges that the steps of the standard count, as (lo, hi, half units) in their
+/// order.
 type Row = (&'static [u16], &'static [(u16, u16, u8)]);
 
 // Counted by hand from the steps.
@@ -13,13 +14,15 @@ const ROWS: [Row; 9] = [
     (&[8, 13, 8], &[(8, 13, 1), (8, 13, 1)]),
     (&[8, 13, 8, 13], &[(8, 13, 1), (8, 13, 1), (8, 13, 1)]),
     (&[8, 13, 9, 14], &[(9, 13, 2), (8, 14, 1)]),
-    // Equal ranges X and Y are counted, and the starting point moves: tables of half units do not tell.
+    // Equal ranges X and Y are counted, and the starting point moves: tables of half units do not
+    // tell.
     (&[4, 3, 4, 2], &[(3, 4, 1), (3, 4, 1), (2, 4, 1)]),
     (
         &[5, 8, 6, 7, 4, 9, 2],
         &[(6, 7, 2), (5, 8, 1), (4, 8, 1), (4, 9, 1), (2, 9, 1)],
     ),
-    // The standard's own example, moved up by eight: ranges 3, 4, 4, 8, 9, 8, 6, of which the third is a cycle.
+    // The standard's own example, moved up by eight: ranges 3, 4, 4, 8, 9, 8, 6, of which the third
+    // is a cycle.
     (
         &[6, 9, 5, 13, 7, 11, 4, 12, 6],
         &[
@@ -48,7 +51,8 @@ fn counts_as_the_standard_does(rt: HostRuntime) -> Result<(), Fail> {
 
 #[test]
 fn adds_half_units_by_range(rt: HostRuntime) -> Result<(), Fail> {
-    // The standard's example, whose table has half cycles at 3, 4, 6, 8 and 9, two of them at 8, and a cycle at 4.
+    // The standard's example, whose table has half cycles at 3, 4, 6, 8 and 9, two of them at 8,
+    // and a cycle at 4.
     let ranges = astm(rt.alloc(), &[6, 9, 5, 13, 7, 11, 4, 12, 6])?;
     let mut half_units = [7; 14];
     ranges.half_units(&mut half_units);

@@ -2,9 +2,10 @@ use super::*;
 use crate::DetailFault;
 use std::test::Fail;
 
-// Category, partial factor, range in N/mm² and numerator: the ranges next to the knee and to the cut-off, of each
-// category with each factor. The numerators are the denominator over twice the endurance, which Python's exact
-// `Fraction` gave by the equations of the standard, with 0.737 and 0.549 as decimals.
+// Category, partial factor, range in N/mm² and numerator: the ranges next to the knee and to the
+// cut-off, of each category with each factor. The numerators are the denominator over twice the
+// endurance, which Python's exact `Fraction` gave by the equations of the standard, with 0.737 and
+// 0.549 as decimals.
 const NORMAL: [(u16, u16, u16, u128); 168] = [
     (160, 100, 117, 561266697139200000000000000000),
     (160, 100, 118, 585333526953995943319961600000),
@@ -212,7 +213,8 @@ const DENOMINATORS: [(Kind, u16, u128); 16] = [
     (Kind::Shear, 80, 1342177280000000000000000),
 ];
 
-// The numerator and the denominator of range `k` with 128 classes, or nothing where that is no range.
+// The numerator and the denominator of range `k` with 128 classes, or nothing where that is no
+// range.
 fn share_of(kind: Kind, category: u16, gamma: u16, w2: u16, k: u16) -> Option<(u128, u128)> {
     let detail = Detail::new(kind, category, gamma).ok()?;
     let grid = Grid::new(128, w2, -64000, 64).ok()?;
@@ -253,7 +255,8 @@ fn shares_beside_limits(rt: HostRuntime) -> Result<(), Fail> {
     Ok(())
 }
 
-// Steps of 500 kPa around 0.737 * 50, 0.549 * 0.737 * 50 and 0.457 * 80 / 1.35 N/mm², from the same computation.
+// Steps of 500 kPa around 0.737 * 50, 0.549 * 0.737 * 50 and 0.457 * 80 / 1.35 N/mm², from the same
+// computation.
 #[test]
 fn shares_of_half_steps(rt: HostRuntime) -> Result<(), Fail> {
     let table = [
