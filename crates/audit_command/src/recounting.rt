@@ -143,7 +143,8 @@ fn recount_source<S: Source>(
     requires few { held ≤ MAX_SAMPLES }
     ensures counted { IfOk result (λ found. (w : List ℤ) × (IsRecount grid.now gain.now found w ×
         (S.tells → w ≡ take held (samples_of (body_in (Some (S.left src.old))))))) }
-    ensures answer { S.tells → SourceAnswers (fault_of kept.now held (S.left src.old)) gauge result }
+    ensures answer { S.tells → SourceAnswers (fault_of kept.now held (S.left src.old)) gauge
+        result }
     ensures kind { IfErr result IsRecounting }
     ensures cause { result ≡ Err ReadFault → Rose (S.faults src.old) (S.faults src.new) }
     ensures later { S.faults src.old ≤ S.faults src.new }

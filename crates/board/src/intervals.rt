@@ -70,7 +70,8 @@ impl Intervals {
         requires row { IsRow block seg.now.grid seg.now.gauge self.old }
         requires fits { CanPlace self.old.start block k seg.now }
         ensures start { self.new.start ≡ self.old.start }
-        ensures placing { Placing self.old.start block self.old.slots self.new.slots seg.now result }
+        ensures placing { Placing self.old.start block self.old.slots self.new.slots seg.now
+            result }
     {
         place(self.slots.as_mut_slice(), self.start, block, k, seg)
     }

@@ -11,7 +11,8 @@ use std::alloc::{AllocError, Global};
 
 /// The command that the words name, or `None` where they are no command.
 pub fn read_words<'a>(alloc: Global, words: &'a [String]) -> Result<Option<Command<'a>>, AllocError>
-    ensures line { IfOk result (λ read. meaning_of read ≡ command_of (map string_bytes words.entry.now)) }
+    ensures line { IfOk result (λ read. meaning_of read ≡
+        command_of (map string_bytes words.entry.now)) }
     ensures ranges { IfOk result (λ read. IfSome read IsWithinRanges) }
 {
     let [first, ..] = words else {
@@ -48,7 +49,8 @@ pub fn read_words<'a>(alloc: Global, words: &'a [String]) -> Result<Option<Comma
 }
 
 fn read_table<'a>(alloc: Global, words: &'a [String]) -> Result<Option<Command<'a>>, AllocError>
-    ensures line { IfOk result (λ read. meaning_of read ≡ table_line (map string_bytes words.entry.now)) }
+    ensures line { IfOk result (λ read. meaning_of read ≡
+        table_line (map string_bytes words.entry.now)) }
     ensures ranges { IfOk result (λ read. IfSome read IsWithinRanges) }
 {
     let Some(matches) = read_by(options::table_app(alloc)?, words)? else {
@@ -116,7 +118,8 @@ fn read_sheet<'a>(alloc: Global, words: &'a [String]) -> Result<Option<Command<'
 }
 
 fn read_count<'a>(alloc: Global, words: &'a [String]) -> Result<Option<Command<'a>>, AllocError>
-    ensures line { IfOk result (λ read. meaning_of read ≡ count_line (map string_bytes words.entry.now)) }
+    ensures line { IfOk result (λ read. meaning_of read ≡
+        count_line (map string_bytes words.entry.now)) }
     ensures ranges { IfOk result (λ read. IfSome read IsWithinRanges) }
 {
     let Some(matches) = read_by(options::count_app(alloc)?, words)? else {
@@ -142,7 +145,8 @@ fn count_with<'a>(workers: Option<&str>) -> Option<Command<'a>>
 }
 
 fn read_demo<'a>(alloc: Global, words: &'a [String]) -> Result<Option<Command<'a>>, AllocError>
-    ensures line { IfOk result (λ read. meaning_of read ≡ demo_line (map string_bytes words.entry.now)) }
+    ensures line { IfOk result (λ read. meaning_of read ≡
+        demo_line (map string_bytes words.entry.now)) }
     ensures ranges { IfOk result (λ read. IfSome read IsWithinRanges) }
 {
     let Some(matches) = read_by(options::demo_app(alloc)?, words)? else {
@@ -161,7 +165,8 @@ fn demo_with<'a>(
     samples: Option<&str>,
     workers: Option<&str>,
 ) -> Option<Command<'a>>
-    ensures line { meaning_of result ≡ demo_with (option_map (λ s. s.now) seed.entry) (option_map (λ s. s.now) samples.entry) (option_map (λ s. s.now) workers.entry) }
+    ensures line { meaning_of result ≡ demo_with (option_map (λ s. s.now) seed.entry)
+        (option_map (λ s. s.now) samples.entry) (option_map (λ s. s.now) workers.entry) }
     ensures ranges { IfSome result IsWithinRanges }
 {
     let Some(seed) = number_of(seed, 0, MAX_SEED) else {
@@ -193,7 +198,8 @@ fn number_of(text: Option<&str>, low: u64, high: u64) -> Option<u64>
 }
 
 fn read_column<'a>(alloc: Global, words: &'a [String]) -> Result<Option<Command<'a>>, AllocError>
-    ensures line { IfOk result (λ read. meaning_of read ≡ column_line (map string_bytes words.entry.now)) }
+    ensures line { IfOk result (λ read. meaning_of read ≡
+        column_line (map string_bytes words.entry.now)) }
     ensures ranges { IfOk result (λ read. IfSome read IsWithinRanges) }
 {
     let Some(matches) = read_by(options::column_app(alloc)?, words)? else {
@@ -214,7 +220,8 @@ fn column_with<'a>(
     id: Option<&str>,
     period: Option<&str>,
 ) -> Option<Command<'a>>
-    ensures line { meaning_of result ≡ column_with (option_map (λ s. s.now) file.entry) (option_map (λ s. s.now) name.entry)
+    ensures line { meaning_of result ≡ column_with (option_map (λ s. s.now) file.entry)
+        (option_map (λ s. s.now) name.entry)
         (option_map (λ s. s.now) id.entry) (option_map (λ s. s.now) period.entry) }
     ensures ranges { IfSome result IsWithinRanges }
 {

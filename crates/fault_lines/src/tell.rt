@@ -17,7 +17,8 @@ pub fn tell_fault<K: Station>(station: &mut K, line: &mut FaultLine, status: Sta
         (K.told station.old) (K.told station.new) (K.seen station.old) (K.seen station.new)
         (K.leaves station.old) (K.leaves station.new) }
     ensures nothing { K.tells → status ≡ Status.Done → K.told station.new ≡ K.told station.old }
-    ensures last { K.tells → status ≢ Status.Done → Rose (K.faults station.old) (K.faults station.new) ⊎
+    ensures last { K.tells → status ≢ Status.Done →
+        Rose (K.faults station.old) (K.faults station.new) ⊎
         (K.told station.new ≡ K.told station.old ++ fault_line status name.now ∷ []) }
     ensures later { K.faults station.old ≤ K.faults station.new }
     ensures room { line.new.name_bytes ≡ line.old.name_bytes }

@@ -49,7 +49,8 @@ pub fn store_front<K: Station>(
     requires on { K.tells → IsThere store.old (K.seen station.old) (K.leaves station.old) }
     requires short { length name.now ≤ MAX_NAME_BYTES }
     // Every moment is kept, whatever it answers.
-    ensures going { K.tells → (r : Recorded) → AreNames r.names r.gauges → front.now.gauge < r.gauges →
+    ensures going { K.tells → (r : Recorded) → AreNames r.names r.gauges →
+        front.now.gauge < r.gauges →
         r.names front.now.gauge ≡ name.now →
         IsStored r store.old (K.seen station.old) (K.leaves station.old) →
         StandsIn r front.now →
@@ -95,7 +96,8 @@ fn store_gauge<K: Station>(
     requires next { front.now.from ≡ slice_index (ends_of store.old.held) front.now.gauge }
     requires on { K.tells → IsThere store.old (K.seen station.old) (K.leaves station.old) }
     requires short { length name.now ≤ MAX_NAME_BYTES }
-    ensures going { K.tells → (r : Recorded) → AreNames r.names r.gauges → front.now.gauge < r.gauges →
+    ensures going { K.tells → (r : Recorded) → AreNames r.names r.gauges →
+        front.now.gauge < r.gauges →
         r.names front.now.gauge ≡ name.now →
         IsStored r store.old (K.seen station.old) (K.leaves station.old) →
         (front.now.from < front.now.to → StandsIn r front.now) →

@@ -49,7 +49,8 @@ impl Figures {
         requires samples { self.old.counts.samples ≤ MAX_SAMPLES }
         requires few { length raws.now ≤ 2 ^ 20 }
         requires room { length raws.now ≤ length levels.old }
-        requires figures { (w : List ℤ) × AreFigures classifier.now.grid classifier.now.gain self.old w }
+        requires figures { (w : List ℤ) × AreFigures classifier.now.grid classifier.now.gain
+            self.old w }
         ensures figures { (w : List ℤ) →
             AreFigures classifier.now.grid classifier.now.gain self.old w →
             AreFigures classifier.now.grid classifier.now.gain self.new (w ++ raws.now) }

@@ -127,7 +127,8 @@ fn kind_named(text: &str) -> Option<Kind>
 #[tactic(auto, unfolding(crate::specs::Fields::unless_taken_before))]
 fn unless_taken_before<'a>(before: &[NamedDetail], name: &'a str) -> Result<&'a str, ConfigFault>
     requires few { length before.now ≤ MAX_DETAILS }
-    ensures { Gives (λ s. s.now) result (unless_taken_before Part.Detail (length before.now) (detail_names before.now) name.now) }
+    ensures { Gives (λ s. s.now) result (unless_taken_before Part.Detail (length before.now)
+        (detail_names before.now) name.now) }
 {
     match place_of_detail(before, name) {
         None => Ok(name),

@@ -39,7 +39,8 @@ impl Model for GaugesRead {
 /// The gauges of the tables of an array.
 pub fn gauges_of(alloc: Global, values: &[Value]) -> Result<GaugesRead, ConfigFault>
     requires few { length values.now ≤ MAX_GAUGES }
-    ensures given { Gives (λ g. g) result (gauges_after (record { names = []; gains = [] }) (map view values.now)) }
+    ensures given { Gives (λ g. g) result (gauges_after (record { names = []; gains = [] })
+        (map view values.now)) }
     ensures few { IfOk result (λ g. length g.names ≤ MAX_GAUGES) }
 {
     let mut read = GaugesRead {
@@ -122,7 +123,8 @@ fn gauge_of(alloc: Global, before: &[Gauge], value: &Value) -> Result<(Gauge, Ga
 #[tactic(auto, unfolding(crate::specs::Fields::unless_taken_before))]
 fn unless_taken_before<'a>(before: &[Gauge], name: &'a str) -> Result<&'a str, ConfigFault>
     requires few { length before.now ≤ MAX_GAUGES }
-    ensures { Gives (λ s. s.now) result (unless_taken_before Part.Gauge (length before.now) (gauge_names before.now) name.now) }
+    ensures { Gives (λ s. s.now) result (unless_taken_before Part.Gauge (length before.now)
+        (gauge_names before.now) name.now) }
 {
     match place_of_gauge(before, name) {
         None => Ok(name),

@@ -66,7 +66,8 @@ fn normal_numerator(range: u128, category: u128) -> u128
     requires range { range ≤ 54000 }
     requires category_from { 36 ≤ category }
     requires category_to { category ≤ 160 }
-    ensures share { IsNormalShare range (40 * category) result (denominator_by Kind.Normal (40 * category)) }
+    ensures share { IsNormalShare range (40 * category) result
+        (denominator_by Kind.Normal (40 * category)) }
     ensures below_one { result < denominator_by Kind.Normal (40 * category) }
 {
     let strength = FORTIETHS * category;
@@ -91,7 +92,8 @@ fn shear_numerator(range: u128, category: u128) -> u128
     requires range { range ≤ 54000 }
     requires category_from { 80 ≤ category }
     requires category_to { category ≤ 160 }
-    ensures share { IsShearShare range (40 * category) result (denominator_by Kind.Shear (40 * category)) }
+    ensures share { IsShearShare range (40 * category) result
+        (denominator_by Kind.Shear (40 * category)) }
     ensures below_one { result < denominator_by Kind.Shear (40 * category) }
 {
     if 1000 * range >= SHEAR_CUT_OFF * (FORTIETHS * category) {

@@ -55,7 +55,8 @@ impl Run {
         requires room { length self.old.live ≤ C.room counter.old }
 
         // What was handed over, with what is to come, is the run of one point more.
-        ensures counted { (points : List ℕ) → HasCounted points self.old.live (C.holds counter.old) →
+        ensures counted { (points : List ℕ) → HasCounted points self.old.live
+            (C.holds counter.old) →
             HasCounted (points ++ point ∷ []) self.new.live (C.holds counter.new) }
         ensures ranges { (given : List CountedRange) → C.holds counter.old given →
             C.holds counter.new (given ++ ranges_counted point self.old.live) }
@@ -77,7 +78,8 @@ impl Run {
         requires points { All (λ point. point < self.old.classes) points.now }
         requires counter { self.old.classes ≤ C.classes counter.old }
         requires room { length self.old.live + length points.now ≤ C.room counter.old }
-        ensures counted { (before : List ℕ) → HasCounted before self.old.live (C.holds counter.old) →
+        ensures counted { (before : List ℕ) → HasCounted before self.old.live
+            (C.holds counter.old) →
             HasCounted (before ++ points.now) self.new.live (C.holds counter.new) }
         ensures bound { length self.new.live ≤ self.new.classes + 1 }
         ensures room { C.room counter.old + length self.new.live

@@ -78,7 +78,8 @@ impl Segment {
         requires none { length list.now ≡ 0 → block.now.used ≡ 0 }
         requires room { self.old.from +
             (block.now.used + block.now.missing + block.now.refused) ≤ MAX_SAMPLES }
-        requires longest { block.now.used + block.now.missing + block.now.refused ≤ self.old.longest }
+        requires longest { block.now.used + block.now.missing + block.now.refused ≤
+            self.old.longest }
         ensures start { SameStart self.old self.new }
         ensures used { self.new.used ≡ block.now.used }
         ensures missing { self.new.missing ≡ block.now.missing }
