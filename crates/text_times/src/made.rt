@@ -3,7 +3,7 @@ ghost use Rattle.std.specs.Prelude.{◌≡◌, ◌≤◌, ◌⊎◌};
 use calibration::{Classifier, Gain, Grid};
 use recording::MAX_SAMPLES;
 use segment::Segment;
-use segment_bytes::{Layout, encode, max_body};
+use segment_bytes::{Layout, decode, encode, max_body};
 use std::alloc::{AllocError, Global};
 
 const BLOCK: usize = 4096;
@@ -36,6 +36,26 @@ fn make_noise(state: &mut u64, classes: u16, raws: &mut [i32])
             .wrapping_add(1442695040888963407);
         *raw = ((*state >> 33) % u64::from(classes)) as i32;
     }
+}
+
+/// Reads the segment of a body, and joins it behind what is held. One that has no room there is
+/// left out.
+pub fn join_body(alloc: Global, held: &mut Segment, body: &[u8]) {
+    let Ok(segment) = decode(alloc, Layout::Two, &held.grid(), body) else {
+        return;
+    };
+    join_next(held, &segment);
+}
+
+// Joins a segment behind the whole, if it comes next and there is room for it.
+fn join_next(whole: &mut Segment, next: &Segment) {
+    let (name, more) = (whole.name(), next.name());
+    if whole.grid() != next.grid()
+        || more.to - more.from > whole.longest() - (name.to - name.from)
+    {
+        return;
+    }
+    let _answer = whole.join(next);
 }
 
 // Counts a block by the unit's segment, and joins that behind the whole. A block that one of them

@@ -1,5 +1,6 @@
-//! The bytes that are made of a full segment, and what they take: its text in a report, its body in
-//! a store, and the SHA-256 of the body, which the store has behind it. For each a digest of its
+//! The bytes that are made of a full segment, and what they take: its text in a report, its body
+//! in a store, and the SHA-256 of the body, which the store has behind it; and the segment that is
+//! read from the body and joined to what is held, which has the same body. For each a digest of its
 //! bytes, and with the word `time` also the least processor time of nine calls, in microseconds,
 //! over a segment of so much noise that nearly every pair of levels was counted.
 //!
@@ -8,7 +9,8 @@
 
 mod made;
 
-use made::{body_of, digest_of, noise_segment};
+use made::{body_of, digest_of, join_body, noise_segment};
+use recording::MAX_SAMPLES;
 use report::{Page, gauge_text};
 use segment::Segment;
 use segment_bytes::{Layout, max_body};
@@ -29,9 +31,19 @@ fn main(rt: HostRuntime) -> io::Result<()> {
     let (samples, repeats) = if is_timed { (MANY, REPEATS) } else { (FEW, 1) };
     for classes in [128, 1024] {
         let segment = noise_segment(rt.alloc(), classes, samples)?;
-        show(&rt, repeats, &segment, What::Text)?;
-        show(&rt, repeats, &segment, What::Body)?;
-        show(&rt, repeats, &segment, What::Sha256)?;
+        show_all(&rt, repeats, &segment)?;
+    }
+    Ok(())
+}
+
+// What is made of a segment, each in a line.
+fn show_all<R: CpuClock + AllocGlobal + Print>(
+    rt: &R,
+    repeats: u32,
+    segment: &Segment,
+) -> io::Result<()> {
+    for what in [What::Text, What::Body, What::Sha256, What::Joined] {
+        show(rt, repeats, segment, what)?;
     }
     Ok(())
 }
@@ -42,6 +54,7 @@ enum What {
     Text,
     Body,
     Sha256,
+    Joined,
 }
 
 impl What {
@@ -50,6 +63,7 @@ impl What {
             What::Text => time_text(rt, segment),
             What::Body => time_body(rt, segment),
             What::Sha256 => time_sha256(rt, segment),
+            What::Joined => time_joined(rt, segment),
         }
     }
 }
@@ -60,6 +74,7 @@ impl fmt::Display for What {
             What::Text => "gauge_text",
             What::Body => "body",
             What::Sha256 => "sha256_of_body",
+            What::Joined => "body_joined",
         })
     }
 }
@@ -101,6 +116,18 @@ fn time_sha256<R: CpuClock + AllocGlobal>(rt: &R, segment: &Segment) -> io::Resu
     let sha256 = Sha256::digest(body);
     let end = rt.process_cpu_time()?;
     Ok((digest_of(&sha256), nanos(start, end)))
+}
+
+// Likewise of the body of what is held after the body was read and joined.
+fn time_joined<R: CpuClock + AllocGlobal>(rt: &R, segment: &Segment) -> io::Result<(u64, u128)> {
+    let longest = max_body(Layout::Two, segment.grid().classes());
+    let mut buf = vec![in rt.alloc(); 0; longest]?;
+    let body = body_of(segment, &mut buf);
+    let mut held = Segment::new(rt.alloc(), &segment.grid(), 0, 0, MAX_SAMPLES)?;
+    let start = rt.process_cpu_time()?;
+    join_body(rt.alloc(), &mut held, body);
+    let end = rt.process_cpu_time()?;
+    Ok((digest_of(body_of(&held, &mut buf)), nanos(start, end)))
 }
 
 // The same digest and the least time of so many calls.
