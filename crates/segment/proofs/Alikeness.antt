@@ -7,6 +7,7 @@ use Rattle.turning_points.proofs.Put.{PutCase, at_none, at_equal, at_second, at_
 use Rattle.turning_points.proofs.PutEnds.{case_of, put_ends}
 use Rattle.turning_points.proofs.MeetEnds.{Left, left_zero, left_one, left_two, left_long, left_of, meets_zero, meets_one, meets_two, meets_long, twice}
 use Rattle.segment.specs.Alike.{OnSide, Alike}
+use Rattle.segment.proofs.Deleted.{side_self, side_next}
 
 -- after a level was put before each, where the levels lie on one side
 pub record Opened (g s h k : EndPoints) : Type 0 where
@@ -143,9 +144,6 @@ pub record Put (e r e' r' : EndPoints) : Type 0 where
 put_to : {e r h k h' k' : EndPoints} → h' ≡ h → k' ≡ k → Put e r h k → Put e r h' k'
 put_to {e} {r} {h} {k} {h'} {k'} p q o = subst (λ w. Put e r w k') (sym p) (subst (λ w. Put e r h w) (sym q) o)
 
-side_self : (a p : ℕ) → p ≢ a → OnSide a p p
-side_self a p n = grind arith
-
 side_both : (x a n m : ℕ) → OnSide x a n → OnSide x a m → OnSide x n m
 side_both x a n m s t = grind arith
 
@@ -154,7 +152,7 @@ module _ (K : ℕ) (e r : EndPoints) (i : IsEnds K e) (j : IsEnds K r) (a : Alik
   put_open n m l o =
       let c = case_of K x e i in
       let d = case_of K x r j in
-      let w = opened K e r i j a x x (side_self e.first x m) n m o c in
+      let w = opened K e r i j a x x (side_self e.first x (λ q. m (sym q))) n m o c in
       let s = put_side x e n m c in
       let t = put_side x r l o d in
       record {
@@ -211,9 +209,6 @@ pub record Met (e r f s e' r' : EndPoints) : Type 0 where
 
 met_to : {e r f s h k h' k' : EndPoints} → h' ≡ h → k' ≡ k → Met e r f s h k → Met e r f s h' k'
 met_to {e} {r} {f} {s} {h} {k} {h'} {k'} p q o = subst (λ w. Met e r f s w k') (sym p) (subst (λ w. Met e r f s h w) (sym q) o)
-
-side_next : (a x n m : ℕ) → OnSide a x n → OnSide a n m → OnSide a x m
-side_next a x n m s t = grind arith
 
 module _ (K : ℕ) (e r f s : EndPoints) (ie : IsEnds K e) (ir : IsEnds K r) (jf : IsEnds K f) (js : IsEnds K s) (a : Alike e r)
     (b : Alike f s) where

@@ -24,7 +24,7 @@ fit_second a b c d f = grind arith
 fit_before : (a b c d : ℕ) → Encloses a b c d → OnSide d c a
 fit_before a b c d f = grind arith
 
-side_self : (a b : ℕ) → a ≢ b → OnSide a b b
+pub side_self : (a b : ℕ) → a ≢ b → OnSide a b b
 side_self a b n = grind arith
 
 end_side : (x : ℕ) (l : List ℕ) (d : ℕ) → IsZigzag (d ∷ x ∷ l) →
@@ -70,7 +70,7 @@ drops_same : {l m : List ℕ} {x : Pair} → IsZigzag l → Drops l x m → Same
 drops_same z (here {a} {b} {c} {d} {q} f) = here_same a b c d q z f
 drops_same z (past h {l} {x} {m} d) = past_same h l m z (drops_same (zig_tail z) d)
 
-side_next : (a x n m : ℕ) → OnSide a x n → OnSide a n m → OnSide a x m
+pub side_next : (a x n m : ℕ) → OnSide a x n → OnSide a n m → OnSide a x m
 side_next a x n m s t = grind arith
 
 four : (e r : EndPoints) → Alike e r → 4 ≤ r.points → ((e.points < 4) ⊎ (4 ≤ e.points)) → 4 ≤ e.points

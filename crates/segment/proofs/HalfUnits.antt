@@ -1,8 +1,8 @@
 -- Half units of a pair, and of all pairs that lie so far apart.
-use Rattle.std.proofs.Common.{◌≡◌, ℕ, ℤ, zero, suc, ◌+◌, ◌-◌, ◌*◌, ◌^◌, ◌<◌, ◌≤◌, Bool, true, false, if◌then◌else◌, List, [], ◌∷◌, refl, sym, ◌∙◌, subst, arith}
+use Rattle.std.proofs.Common.{◌≡◌, ℕ, ℤ, ◌+◌, ◌-◌, ◌*◌, ◌^◌, ◌<◌, ◌≤◌, Bool, true, false, if◌then◌else◌, List, [], ◌∷◌, sym, ◌∙◌, subst, arith}
 use Rattle.std.proofs.lemmas.List.Sums.{sum_by-cons}
 use Rattle.three_point.specs.Run.{half_units, half_units_at_range, three_point, half_units_of_pair}
-use Rattle.three_point.proofs.Sums.{has_range_sums, sum_at_range-added, sum_is}
+use Rattle.three_point.proofs.Sums.{has_range_sums, sum_at_range-added, sum_is, sum_at_range-same}
 use Rattle.calibration.specs.Gain.{GainValue}
 use Rattle.calibration.specs.History.{history}
 use Rattle.calibration.proofs.HistoryBelow.{history_below}
@@ -20,17 +20,13 @@ use Rattle.segment.proofs.SideBySide.{neighbours_within}
 pub halves_stand : (v : SegmentValue) (h : List ℕ) → StandsFor v h → (lo hi : ℕ) → halves_of v lo hi ≡ three_point h lo hi
 halves_stand v h s lo hi = sym (counts_its_result h (count_of v.tally.cells) v.reducer.residue s.result lo hi)
 
-same_sums : (f g : ℕ → ℕ → ℕ) (k n : ℕ) → ((lo hi : ℕ) → f lo hi ≡ g lo hi) → sum_at_range f k n ≡ sum_at_range g k n
-same_sums f g k zero e = refl
-same_sums f g k (suc n) e = omega (arith, same_sums f g k n e, e n (n + k))
-
 -- over all pairs of classes so far apart
 pub range_stands : (v : SegmentValue) (gain : GainValue) (w : List ℤ) (k : ℕ) → StandsFor v (history v.grid gain w) → k < v.grid.classes →
     sum_at_range (halves_of v) k (v.grid.classes - k) ≡ half_units (history v.grid gain w) k
 range_stands v gain w k s inside =
     let h = history v.grid gain w in
     let n : v.grid.classes - k + k ≡ v.grid.classes = omega arith in
-    same_sums (halves_of v) (three_point h) k (v.grid.classes - k) (halves_stand v h s)
+    sum_at_range-same (halves_of v) (three_point h) k (v.grid.classes - k) (halves_stand v h s)
     ∙ sym (has_range_sums h k (v.grid.classes - k) (subst (λ m. All (λ level. level < m) h) (sym n) (history_below v.grid gain w)))
 
 picked : (b : Bool) (n m t : ℕ) → m ≤ t → (if b then n else m) ≤ n + t

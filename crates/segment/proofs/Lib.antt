@@ -16,3 +16,4 @@ pub mod PartsRules
 pub mod Ready
 pub mod Made
 pub mod PartsStanding
+pub mod Empty

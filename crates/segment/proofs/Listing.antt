@@ -1,26 +1,18 @@
 -- Bins that are listed from counts.
-use Rattle.std.proofs.Common.{◌≡◌, ◌≢◌, ℕ, zero, suc, ◌+◌, ◌<◌, ◌≤◌, ◌⊎◌, inl, inr, false, if◌then◌else◌, ◌==◌, List, [], ◌∷◌, refl, sym, ap, subst, ◌∙◌, arith}
+use Rattle.std.proofs.Common.{◌≡◌, ◌≢◌, ℕ, zero, suc, ◌+◌, ◌<◌, ◌≤◌, ◌⊎◌, inl, inr, if◌then◌else◌, ◌==◌, List, [], ◌∷◌, refl, sym, ap, subst, ◌∙◌, arith}
 use Rattle.std.proofs.lemmas.Bool.{cases_eq}
 use Rattle.std.proofs.lemmas.Bool.Decides.{nat_tests}
 use Rattle.tally.specs.declared.cells.Bin.{Bin}
 use Rattle.tables.specs.Bins.{AreBinsFrom, count_at}
 use Rattle.tables.proofs.Filled.{count_below}
 use Rattle.segment.specs.Parts.{bins_from}
+use Rattle.segment.proofs.TableSums.{none, some}
 
 abbrev bin : ℕ → ℕ → Bin
 bin key n = record { key = key; n = n }
 
 same_bin : (b : Bin) (k n : ℕ) → k ≡ b.key → n ≡ b.n → bin k n ≡ b
 same_bin b k n e f = ap (λ x. bin x n) e ∙ ap (λ x. bin b.key x) f
-
-none : (n : ℕ) (x y : List Bin) → n ≡ 0 → (if n == 0 then x else y) ≡ x
-none n x y e = ap (λ m. (if m == 0 then x else y)) e
-
-not_zero : (n : ℕ) → 0 < n → (n == 0) ≡ false
-not_zero n lt = grind (arith, nat_tests)
-
-some : (n : ℕ) (x y : List Bin) → 0 < n → (if n == 0 then x else y) ≡ y
-some n x y lt = ap (λ b. (if b then x else y)) (not_zero n lt)
 
 here : (c : ℕ) (p q : ℕ) (x : ℕ) → p ≡ q → (if p == q then x else c) ≡ x
 here c p q x e = grind (arith, nat_tests)

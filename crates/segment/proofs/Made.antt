@@ -22,6 +22,8 @@ use Rattle.segment.specs.Segment.{SegmentValue, IsSegment}
 use Rattle.segment.specs.Parts.{parts_of}
 use Rattle.segment.specs.Loading.{longest_of}
 use Rattle.segment.proofs.Listing.{bins_again}
+use Rattle.segment.proofs.Ready.{long_enough}
+use Rattle.lemmas.proofs.Naturals.{few_cases}
 
 -- no count of bins below a number is above it
 bins_below : (u : ℕ) (bs : List Bin) (k : ℕ) → All (λ b. b.n < u) bs → count_at k bs ≤ u - 1
@@ -38,12 +40,6 @@ bins_below u bs k a = by bs a
 
 side_of_turn : (p x n q : ℕ) → p ≡ q → IsTurn x q n → OnSide p x n
 side_of_turn p x n q e h = grind arith
-
-long_enough : (p n : ℕ) → 2 ≤ p → (p ≤ 3 → n ≡ p) → (4 ≤ p → 2 ≤ n) → 2 ≤ n
-long_enough p n h s l = grind arith
-
-few_cases : (n : ℕ) → (n ≡ 0) ⊎ ((n ≡ 1) ⊎ (2 ≤ n))
-few_cases n = grind arith
 
 -- the ends of a residue, where the points' ends lie beside it
 module _ (k : ℕ) (e : EndPoints) (r : List ℕ) (i : IsEnded k e r) where

@@ -1,5 +1,5 @@
 -- A segment with the counts of a list of points.
-use Rattle.std.proofs.Common.{◌≡◌, ◌≢◌, ℕ, ℤ, ◌+◌, ◌*◌, ◌<◌, ◌≤◌, List, [], ◌∷◌, length, refl, sym, ap, ◌∙◌, subst, arith}
+use Rattle.std.proofs.Common.{◌≡◌, ℕ, ℤ, ◌+◌, ◌*◌, ◌<◌, ◌≤◌, List, [], ◌∷◌, length, refl, sym, ap, ◌∙◌, subst, arith}
 use Rattle.std.specs.Prelude.{All}
 use Rattle.recording.specs.declared.TheConstants.{MAX_SAMPLES}
 use Rattle.calibration.specs.Gain.{GainValue}
@@ -7,8 +7,7 @@ use Rattle.calibration.specs.Grid.{GridValue}
 use Rattle.calibration.specs.History.{history}
 use Rattle.turning_points.specs.Points.{points}
 use Rattle.turning_points.specs.EndPoints.{EndPoints, IsEnds, ends_of, last_point}
-use Rattle.turning_points.proofs.Zigzag.{zig_points}
-use Rattle.turning_points.proofs.Over.{own, zig_own}
+use Rattle.turning_points.proofs.Over.{zig_own}
 use Rattle.turning_points.proofs.PushEnds.{list_ends}
 use Rattle.tally.specs.Counts.{Counts as Tallied, count_of, total_of}
 use Rattle.four_point.specs.Reduction.{IsFourPointResult}
@@ -16,17 +15,14 @@ use Rattle.four_point.specs.Residue.{AddsCycles, IsResidue, ReducerValue}
 use Rattle.four_point.proofs.Unique.{chain_of}
 use Rattle.calibration.proofs.HistoryBelow.{history_below}
 use Rattle.turning_points.proofs.Levels.{All-points}
-use Rattle.level_crossing.specs.Crossings.{CrossingsValue, count_at, crossings, first_of, is_some}
+use Rattle.level_crossing.specs.Crossings.{CrossingsValue, count_at, crossings, first_of, has_level}
 use Rattle.level_crossing.proofs.OfPoints.{crossings_few}
 use Rattle.simple_counts.specs.Simple.{SimpleValue, IsSimple}
 use Rattle.simple_counts.proofs.OfPoints.{level_below}
-use Rattle.segment.specs.Alike.{Alike, OnSide}
+use Rattle.segment.specs.Alike.{Alike}
 use Rattle.segment.specs.Segment.{SegmentValue, IsSegment}
-use Rattle.segment.proofs.Deleted.{chain_alike}
+use Rattle.segment.proofs.Deleted.{chain_alike, side_self}
 use Rattle.segment.proofs.SameEnds.{listed_ends}
-
-side_self : (a b : ℕ) → a ≢ b → OnSide a b b
-side_self a b n = grind arith
 
 self_alike : (k : ℕ) (e : EndPoints) → IsEnds k e → Alike e e
 self_alike k e i = record {
@@ -45,7 +41,7 @@ pub block_rules : (v : SegmentValue) (p : List ℕ) (u m f : ℕ) (t : Tallied) 
     v.from + (u + m + f) ≤ MAX_SAMPLES → u + m + f ≤ v.longest →
     AddsCycles p (λ lo hi. 0) q.residue (count_of t.cells) → 2 * total_of t.cells + length q.residue ≡ length p →
     IsResidue q.classes q.residue → q.classes ≡ v.reducer.classes → t.classes ≡ v.tally.classes → t.room ≡ v.tally.room →
-    (x.classes ≡ v.crossings.classes) × (x.reference ≡ v.crossings.reference) → x.some ≡ is_some p → x.first ≡ first_of p →
+    (x.classes ≡ v.crossings.classes) × (x.reference ≡ v.crossings.reference) → x.some ≡ has_level p → x.first ≡ first_of p →
     x.last ≡ last_point p → ((l : ℕ) → count_at x l ≡ crossings v.crossings.reference l p) →
     (z.classes ≡ v.simple.classes) × (z.reference ≡ v.simple.reference) → z.ends ≡ ends_of p → IsSimple z →
     IsSegment (record {
@@ -101,9 +97,6 @@ pub points_below : (grid : GridValue) (gain : GainValue) (w : List ℤ) (p : Lis
     grid.classes ≡ k → All (λ l. l < k) p
 points_below grid gain w p k e n = subst (λ j. All (λ l. l < j) p) n (subst (All (λ l. l < grid.classes)) (sym e)
     (All-points (λ l. l < grid.classes) (history grid gain w) (history_below grid gain w)))
-
-pub points_own : (h p : List ℕ) → p ≡ points h → points p ≡ p
-points_own h p e = ap points e ∙ own (zig_points h) ∙ sym e
 
 pub no_points : (h p : List ℕ) → p ≡ points h → length p ≡ 0 → length h ≡ 0
 no_points [] p e n = refl

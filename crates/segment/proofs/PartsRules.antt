@@ -6,6 +6,7 @@ use Rattle.std.proofs.lemmas.Bool.Decides.{nat_tests}
 use Rattle.turning_points.specs.Pairs.{range}
 use Rattle.turning_points.specs.EndPoints.{EndPoints, IsEnds, IsTurn, ends_of}
 use Rattle.turning_points.proofs.EndPlaces.{last_place, before_place}
+use Rattle.turning_points.proofs.PushEnds.{five_same}
 use Rattle.tally.specs.Counts.{IsCell, IsCounts}
 use Rattle.tables.specs.Bins.{count_at, sum_of}
 use Rattle.tables.specs.Tables.{is_at}
@@ -23,11 +24,11 @@ use Rattle.segment.proofs.TableSums.{sum_from, listed_sum, listed_below, sum_sam
 range_within : (k a b : ℕ) → a < k → b < k → a ≢ b → (1 ≤ range a b) × (range a b < k)
 range_within k a b p q n = (grind arith, omega arith)
 
-at_or_above : (r l x : ℕ) → r ≤ l → (if nat_le r l then x else 0) ≡ x
+pub at_or_above : (r l x : ℕ) → r ≤ l → (if nat_le r l then x else 0) ≡ x
 at_or_above r l x h = grind (arith, nat_tests)
 
-under : (r l x : ℕ) → l < r → (if nat_le r l then 0 else x) ≡ x
-under r l x h = grind (arith, nat_tests)
+pub under_reference : (r l x : ℕ) → l < r → (if nat_le r l then 0 else x) ≡ x
+under_reference r l x h = grind (arith, nat_tests)
 
 few_open : (n x : ℕ) → n < 2 → (if nat_le 2 n then x else 0) ≡ 0
 few_open n x h = grind (arith, nat_tests)
@@ -47,7 +48,8 @@ module _ (v : SimpleValue) (s : IsSimple v) where
   valleys_sum : sum_of (bins_from (valley_count v) 0 v.reference) ≡ sum_from (slice_index v.extremes) 0 v.reference
   valleys_sum =
       listed_sum (valley_count v) 0 v.reference
-      ∙ sum_same (valley_count v) (slice_index v.extremes) 0 v.reference (λ k from to. under v.reference k (slice_index v.extremes k)
+      ∙ sum_same (valley_count v) (slice_index v.extremes) 0 v.reference
+      (λ k from to. under_reference v.reference k (slice_index v.extremes k)
       (omega (arith, to)))
 
   pub extremes_sum : sum_of (bins_from (peak_count v) v.reference (v.classes - v.reference)) + sum_of
@@ -130,15 +132,9 @@ module _ (v : SimpleValue) (s : IsSimple v) where
 turn_of_side : (p x n : ℕ) (q : ℕ) → q ≡ p → OnSide p x n → IsTurn x q n
 turn_of_side p x n q e h = grind arith
 
-abbrev made : ℕ → ℕ → ℕ → ℕ → ℕ → EndPoints
-made n a b c d = record { points = n; first = a; second = b; before = c; last = d }
-
 ends_five : (n a b c d : ℕ) (e : EndPoints) → e.points ≡ n → e.first ≡ a → e.second ≡ b → e.before ≡ c → e.last ≡ d →
     e ≡ record { points = n; first = a; second = b; before = c; last = d }
-ends_five n a b c d e p q r s t =
-    ap (λ m. made m e.first e.second e.before e.last) p ∙ ap (λ m. made n m e.second e.before e.last) q
-    ∙ ap (λ m. made n a m e.before e.last) r
-    ∙ ap (λ m. made n a b m e.last) s ∙ ap (made n a b c) t
+ends_five n a b c d e p q r s t = five_same _ _ _ _ _ _ _ _ _ _ p q r s t
 
 module _ (k : ℕ) (e : EndPoints) (r : List ℕ) (i : IsEnds k e) (a : Alike e (ends_of r)) where
   beside : 2 ≤ e.points → HasEndsBeside k e (slice_index r 0) (slice_index r 1) (slice_index r (length r - 2))

@@ -13,7 +13,7 @@ use Rattle.turning_points.specs.EndPoints.{EndPoints}
 use Rattle.tables.specs.Bins.{count_at as listed_at}
 use Rattle.tables.specs.Tables.{is_at}
 use Rattle.tables.proofs.Filled.{count_above, count_below}
-use Rattle.level_crossing.specs.Crossings.{Crosses, count_at, crossings, first_of, is_some}
+use Rattle.level_crossing.specs.Crossings.{Crosses, count_at, crossings, first_of, has_level}
 use Rattle.level_crossing.proofs.OfPoints.{crosses_points, crossings_points}
 use Rattle.simple_counts.specs.Simple.{Counts, extremes_at, open_at, peak_count, range_count, peaks_at, valleys_at, valley_count}
 use Rattle.simple_counts.proofs.Readers.{peak_counts, range_counts, valley_counts}
@@ -22,18 +22,13 @@ use Rattle.segment.specs.Segment.{SegmentValue, IsSegment, Stands}
 use Rattle.segment.specs.Parts.{bins_from, parts_of}
 use Rattle.segment.specs.Standing.{PartsStand}
 use Rattle.segment.proofs.Listing.{bins_count, bins_ordered}
+use Rattle.segment.proofs.PartsRules.{at_or_above, under_reference}
 
 below_peak : (r l x : ℕ) → l < r → (if nat_le r l then x else 0) ≡ 0
 below_peak r l x h = grind (arith, nat_tests)
 
-at_peak : (r l x : ℕ) → r ≤ l → (if nat_le r l then x else 0) ≡ x
-at_peak r l x h = grind (arith, nat_tests)
-
 above_valley : (r l x : ℕ) → r ≤ l → (if nat_le r l then 0 else x) ≡ 0
 above_valley r l x h = grind (arith, nat_tests)
-
-at_valley : (r l x : ℕ) → l < r → (if nat_le r l then 0 else x) ≡ x
-at_valley r l x h = grind (arith, nat_tests)
 
 no_open : (e : EndPoints) → (2 ≤ e.points → e.before ≢ e.last) → open_at 0 e ≡ 0
 no_open e d = by e.points e.before e.last d
@@ -41,7 +36,7 @@ no_open e d = by e.points e.before e.last d
     by : (n a b : ℕ) → (2 ≤ n → a ≢ b) → (if nat_le 2 n then is_at 0 (range a b) else 0) ≡ 0
     by n a b d = grind (arith, nat_tests)
 
-some_points : (p : List ℕ) → not (length p == 0) ≡ is_some p
+some_points : (p : List ℕ) → not (length p == 0) ≡ has_level p
 some_points [] = refl
 some_points (x ∷ p) = grind (arith, nat_tests)
 
@@ -146,10 +141,11 @@ module _ (v : SegmentValue) (i : IsSegment v) where
         extreme : (l : ℕ) → l < v.grid.classes → ((l < v.simple.reference) ⊎ (v.simple.reference ≤ l)) →
             slice_index v.simple.extremes l ≡ extremes_at v.simple.reference l (points h)
         extreme l to (inl under) =
-            sym (at_valley v.simple.reference l (slice_index v.simple.extremes l) under) ∙ sym (valley_listed l to) ∙ p.valleys_are l to
+            sym (under_reference v.simple.reference l (slice_index v.simple.extremes l) under) ∙ sym (valley_listed l to)
+            ∙ p.valleys_are l to
             ∙ ap (λ r. valleys_at r l (points h)) (sym i.over.simple.1) ∙ valleys_are v.simple.reference l (points h) under
         extreme l to (inr over) =
-            sym (at_peak v.simple.reference l (slice_index v.simple.extremes l) over) ∙ sym (peak_listed l to) ∙ p.peaks_are l to
+            sym (at_or_above v.simple.reference l (slice_index v.simple.extremes l) over) ∙ sym (peak_listed l to) ∙ p.peaks_are l to
             ∙ ap (λ r. peaks_at r l (points h)) (sym i.over.simple.1) ∙ peaks_are v.simple.reference l (points h) over
 
     pub parts_tell : PartsStand v.grid gain (parts_of v) w → Stands v gain w

@@ -14,9 +14,7 @@ use Rattle.level_crossing.specs.Loading.{CanLoad as CanCross}
 use Rattle.simple_counts.specs.Loading.{CanLoad}
 use Rattle.segment_rules.specs.Parts.{PartsValue}
 use Rattle.segment_rules.specs.Rules.{IsEnded, IsSegment as AreSegment}
-
-few_cases : (n : ℕ) → (n ≡ 0) ⊎ ((n ≡ 1) ⊎ (2 ≤ n))
-few_cases n = grind arith
+use Rattle.lemmas.proofs.Naturals.{few_cases}
 
 apart : (x y z : ℕ) → IsTurn y x z → x ≢ y
 apart x y z h e = absurd (by x y z h e)
@@ -30,7 +28,7 @@ three_turn (x ∷ []) e g = absurd (omega (arith, e))
 three_turn (x ∷ y ∷ []) e g = absurd (omega (arith, e))
 three_turn (x ∷ y ∷ z ∷ l) e (inner t g) = t
 
-long_enough : (p n : ℕ) → 2 ≤ p → (p ≤ 3 → n ≡ p) → (4 ≤ p → 2 ≤ n) → 2 ≤ n
+pub long_enough : (p n : ℕ) → 2 ≤ p → (p ≤ 3 → n ≡ p) → (4 ≤ p → 2 ≤ n) → 2 ≤ n
 long_enough p n h s l = grind arith
 
 at_place : (r : List ℕ) (i j : ℕ) → i ≡ j → (slice_index r i) ≡ (slice_index r j)

@@ -3,7 +3,6 @@
 --   taken_rules    where a level is taken
 --   joined_rules   where two parts are joined
 use Rattle.std.proofs.Common.{◌≡◌, ℕ, zero, suc, ◌+◌, ◌-◌, ◌*◌, ◌<◌, ◌≤◌, Bool, true, false, ◌&&◌, ◌||◌, if◌then◌else◌, [], ◌∷◌, ◌++◌, length, get_or, refl, sym, ap, ◌∙◌, subst, arith}
-use Rattle.std.proofs.lemmas.Bool.Decides.{nat_tests}
 use Rattle.recording.specs.declared.TheConstants.{MAX_SAMPLES}
 use Rattle.calibration.specs.Grid.{GridValue, IsGrid}
 use Rattle.turning_points.specs.Points.{points}
@@ -15,8 +14,9 @@ use Rattle.tally.specs.Counts.{Counts as Tallied, count_of, total_of}
 use Rattle.tally.specs.Room.{room_for}
 use Rattle.four_point.specs.Residue.{AddsCycles, IsResidue, ReducerValue}
 use Rattle.four_point.proofs.Index.{residue_none}
-use Rattle.level_crossing.specs.Crossings.{CrossingsValue, between, count_at, step_crossings, no_crossings}
+use Rattle.level_crossing.specs.Crossings.{CrossingsValue, between, count_at, no_crossings}
 use Rattle.level_crossing.proofs.PushJoin.{none_counted}
+use Rattle.level_crossing.proofs.OfPoints.{few_added}
 use Rattle.simple_counts.specs.Simple.{SimpleValue, IsSimple, nothing}
 use Rattle.segment.specs.Alike.{Alike}
 use Rattle.segment.specs.Segment.{SegmentValue, IsSegment, empty_at}
@@ -41,16 +41,13 @@ one_ends k y h = list_ends k (y ∷ []) (omega arith) single (λ i p. at i p)
     at zero p = h
     at (suc i) p = absurd (omega arith)
 
-crossed_few : (r l x y : ℕ) → step_crossings r l x y ≤ 1
-crossed_few r l x y = grind (arith, nat_tests)
-
 crossed_more : (b : Bool) (r l x y n used : ℕ) → (b ≡ true → 1 ≤ used) → n ≤ used - 1 → n + between b r l x y ≤ used
-crossed_more true r l x y n used f h = let o = f refl in omega (arith, crossed_few r l x y)
+crossed_more true r l x y n used f h = let o = f refl in omega (arith, few_added r l x y)
 crossed_more false r l x y n used f h = omega arith
 
 pub crossed_both : (a b : Bool) (r l x y m n s t : ℕ) → (a ≡ true → 1 ≤ s) → (b ≡ true → 1 ≤ t) → m ≤ s - 1 → n ≤ t - 1 →
     m + n + between (a && b) r l x y ≤ s + t - 1
-crossed_both true true r l x y m n s t f g h k = let o = f refl in let p = g refl in omega (arith, crossed_few r l x y)
+crossed_both true true r l x y m n s t f g h k = let o = f refl in let p = g refl in omega (arith, few_added r l x y)
 crossed_both true false r l x y m n s t f g h k = omega arith
 crossed_both false b r l x y m n s t f g h k = omega arith
 

@@ -1,8 +1,8 @@
 -- Sums over keys: of what is listed from counts, and of a table.
 --   sum_from   the sum of the counts of so many keys from one on
-use Rattle.std.proofs.Common.{◌≡◌, ℕ, zero, suc, ◌+◌, ◌-◌, ◌<◌, ◌≤◌, ◌⊎◌, inl, inr, false, List, [], ◌∷◌, length, refl, sym, ap, subst, arith}
+use Rattle.std.proofs.Common.{◌≡◌, ℕ, zero, suc, ◌+◌, ◌-◌, ◌<◌, ◌≤◌, ◌⊎◌, inl, inr, List, [], ◌∷◌, length, refl, sym, ap, subst, arith}
 use Rattle.std.specs.Prelude.{All, ◌==◌, if◌then◌else◌, slice_index, sum}
-use Rattle.std.proofs.lemmas.Bool.{cases_lt, cases_eq}
+use Rattle.std.proofs.lemmas.Bool.{cases_lt, cases_eq, ne_eqb}
 use Rattle.std.proofs.lemmas.Bool.Decides.{nat_tests}
 use Rattle.std.proofs.lemmas.List.Elements.{All-nil, All-cons}
 use Rattle.std.proofs.lemmas.List.Sums.{sum_by-cons}
@@ -15,14 +15,11 @@ abbrev pub sum_from : (ℕ → ℕ) → ℕ → ℕ → ℕ
 sum_from count key zero = 0
 sum_from count key (suc keys) = count key + sum_from count (key + 1) keys
 
-none : (n : ℕ) (x y : List Bin) → n ≡ 0 → (if n == 0 then x else y) ≡ x
+pub none : (n : ℕ) (x y : List Bin) → n ≡ 0 → (if n == 0 then x else y) ≡ x
 none n x y e = ap (λ m. if m == 0 then x else y) e
 
-not_zero : (n : ℕ) → 0 < n → (n == 0) ≡ false
-not_zero n lt = grind (arith, nat_tests)
-
-some : (n : ℕ) (x y : List Bin) → 0 < n → (if n == 0 then x else y) ≡ y
-some n x y lt = ap (λ b. if b then x else y) (not_zero n lt)
+pub some : (n : ℕ) (x y : List Bin) → 0 < n → (if n == 0 then x else y) ≡ y
+some n x y lt = ap (λ b. if b then x else y) (ne_eqb n 0 (λ e. omega (arith, e, lt)))
 
 module _ (count : ℕ → ℕ) (key keys : ℕ) where
   next_none : count key ≡ 0 → bins_from count key (suc keys) ≡ bins_from count (key + 1) keys

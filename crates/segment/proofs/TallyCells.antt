@@ -1,7 +1,7 @@
 -- A tally to which the cells of a list are added, one by one.
-use Rattle.std.proofs.Common.{◌≡◌, ℕ, zero, suc, ◌+◌, ◌*◌, ◌/◌, ◌<◌, ◌≤◌, ◌⊎◌, inl, inr, List, [], ◌∷◌, length, drop, min, refl, sym, ap, subst, ◌∙◌, arith}
+use Rattle.std.proofs.Common.{◌≡◌, ℕ, zero, suc, ◌+◌, ◌*◌, ◌/◌, ◌<◌, ◌≤◌, ◌⊎◌, inl, inr, List, [], ◌∷◌, length, drop, min, sym, ap, subst, ◌∙◌, arith}
 use Rattle.std.specs.Prelude.{slice_index_or}
-use Rattle.std.proofs.lemmas.List.{drop_more}
+use Rattle.std.proofs.lemmas.List.{drop_more, drop_all}
 use Rattle.std.proofs.lemmas.List.Sums.{sum_by-cons}
 use Rattle.tally.specs.declared.cells.Cell.{Cell}
 use Rattle.tally.specs.declared.cells.TheConstants.{MAX_TOTAL}
@@ -50,12 +50,6 @@ total_room i cs d old lt so_far =
     let here : drop i cs ≡ slice_index_or cs i d ∷ drop (i + 1) cs = drop_more cs i d lt in
     omega (arith, so_far, ap total_of here, sum_by-cons (λ c. c.n) (slice_index_or cs i d) (drop (i + 1) cs))
 
-none_left : (i : ℕ) (cs : List Cell) → length cs ≤ i → drop i cs ≡ []
-none_left zero [] h = refl
-none_left zero (c ∷ cs) h = absurd (omega (arith, h))
-none_left (suc i) [] h = refl
-none_left (suc i) (c ∷ cs) h = none_left i cs (omega (arith, h))
-
 -- there is a place for each: of the greatest room for every pair, of a lesser one for half of the samples
 pub place_left : (t : Counts) (longest i n lo hi m : ℕ) → t.room ≡ room_for t.classes longest → length t.cells ≤ i → i < n →
     2 * n ≤ longest → HasPlace t lo hi m
@@ -97,4 +91,4 @@ tally_is k longest i t cs g e r a small half done h =
       each = a.each;
       ascending = a.ascending;
       total = small;
-    }) e r (λ x y. omega (arith, h x y, ap (λ l. count_of l x y) (none_left i cs done)))
+    }) e r (λ x y. omega (arith, h x y, ap (λ l. count_of l x y) (drop_all i cs done)))

@@ -13,4 +13,5 @@ pub use Rattle.three_point.specs.Run
 pub use Rattle.four_point.specs.Reduction
 pub use Rattle.level_crossing.specs.Crossings
 pub use Rattle.simple_counts.specs.Simple
+pub use Rattle.calibration.specs.Level
 pub use Rattle.calibration.specs.History

@@ -15,6 +15,7 @@
 #![tactic(auto)]
 
 mod block;
+mod classes;
 mod fault;
 mod neighbours;
 mod segment;

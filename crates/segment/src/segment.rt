@@ -10,6 +10,7 @@ mod readers;
 mod rows;
 mod take;
 
+use crate::classes::Classes;
 use calibration::Grid;
 use four_point::Reducer;
 pub use join::JoinRefusal;
@@ -23,7 +24,7 @@ use tally::{Tally, room_for};
 /// What is kept of the samples `from` up to and without `to` of a gauge.
 #[derive(Drop)]
 pub struct Segment {
-    grid: Grid,
+    grid: Classes,
     gauge: u16,
     from: u64,
     to: u64,
@@ -95,7 +96,7 @@ impl Segment {
         let crossings = Crossings::new(alloc, grid)?;
         let simple = Simple::new(alloc, grid)?;
         Ok(Segment {
-            grid: *grid,
+            grid: Classes::new(grid),
             gauge,
             from,
             to: from,

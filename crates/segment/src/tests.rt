@@ -8,15 +8,17 @@ use std::test::Fail;
 use tally::{Bin, Cell};
 use turning_points::{Ends, ends_of};
 
-/// Neighbouring parts of a gauge's samples; how many of all are used, missing and refused; the
-/// points, the full cycles and the residue of the whole.
-type Row = (
-    &'static [&'static [i32]],
-    [u64; 3],
-    &'static [u16],
-    &'static [Cell],
-    &'static [u16],
-);
+/// Neighbouring parts of a gauge's samples, and what the whole comes to.
+struct Row {
+    parts: &'static [&'static [i32]],
+    /// How many of all are used, missing and refused.
+    readings: [u64; 3],
+    points: &'static [u16],
+    cells: &'static [Cell],
+    residue: &'static [u16],
+    /// The half units of the ranges `k` classes apart at place `k`.
+    halves: [u64; 16],
+}
 
 // The standard's own example.
 const EXAMPLE: [i32; 9] = [-2, 1, -3, 5, -1, 3, -4, 4, -2];
@@ -31,53 +33,75 @@ const CELLS: &[Cell] = &[Cell {
 
 const RESIDUE: &[u16] = &[6, 9, 5, 13, 4, 12, 6];
 
-// By hand from the rules, over the whole history. A raw value `r` has level `r + 8`.
+const HALVES: [u64; 16] = [0, 0, 0, 1, 3, 0, 1, 0, 2, 1, 0, 0, 0, 0, 0, 0];
+
+// By hand from the rules, over the whole history; the half units by the standard's steps over its
+// points. A raw value `r` has level `r + 8`.
 const ROWS: [Row; 7] = [
-    (
-        &[&[-2, 1, -3, 5], &[-1, 3, -4, 4, -2]],
-        [9, 0, 0],
-        POINTS,
-        CELLS,
-        RESIDUE,
-    ),
-    (
-        &[&[-2, 1, -3, 5, -1], &[3], &[-4, 4, -2]],
-        [9, 0, 0],
-        POINTS,
-        CELLS,
-        RESIDUE,
-    ),
+    Row {
+        parts: &[&[-2, 1, -3, 5], &[-1, 3, -4, 4, -2]],
+        readings: [9, 0, 0],
+        points: POINTS,
+        cells: CELLS,
+        residue: RESIDUE,
+        halves: HALVES,
+    },
+    Row {
+        parts: &[&[-2, 1, -3, 5, -1], &[3], &[-4, 4, -2]],
+        readings: [9, 0, 0],
+        points: POINTS,
+        cells: CELLS,
+        residue: RESIDUE,
+        halves: HALVES,
+    },
     // One level alone.
-    (&[&[2], &[2], &[2]], [3, 0, 0], &[10], &[], &[10]),
+    Row {
+        parts: &[&[2], &[2], &[2]],
+        readings: [3, 0, 0],
+        points: &[10],
+        cells: &[],
+        residue: &[10],
+        halves: [0; 16],
+    },
     // A plateau over both cuts is one point.
-    (
-        &[&[0, 5], &[5, 5], &[0]],
-        [5, 0, 0],
-        &[8, 13, 8],
-        &[],
-        &[8, 13, 8],
-    ),
+    Row {
+        parts: &[&[0, 5], &[5, 5], &[0]],
+        readings: [5, 0, 0],
+        points: &[8, 13, 8],
+        cells: &[],
+        residue: &[8, 13, 8],
+        halves: [0, 0, 0, 0, 0, 2, 0, 0, 0, 0, 0, 0, 0, 0, 0, 0],
+    },
     // The last level of the left part is no point of the whole.
-    (
-        &[&[0, 5, 3], &[1, 6]],
-        [5, 0, 0],
-        &[8, 13, 9, 14],
-        &[Cell {
+    Row {
+        parts: &[&[0, 5, 3], &[1, 6]],
+        readings: [5, 0, 0],
+        points: &[8, 13, 9, 14],
+        cells: &[Cell {
             lo: 9,
             hi: 13,
             n: 1,
         }],
-        &[8, 14],
-    ),
+        residue: &[8, 14],
+        halves: [0, 0, 0, 0, 2, 0, 1, 0, 0, 0, 0, 0, 0, 0, 0, 0],
+    },
     // Readings that are missing or outside the classes, and a part of such readings alone.
-    (
-        &[&[7, 8], &[i32::MIN, 8], &[-8, -9]],
-        [2, 1, 3],
-        &[15, 0],
-        &[],
-        &[15, 0],
-    ),
-    (&[&[], &[i32::MIN], &[]], [0, 1, 0], &[], &[], &[]),
+    Row {
+        parts: &[&[7, 8], &[i32::MIN, 8], &[-8, -9]],
+        readings: [2, 1, 3],
+        points: &[15, 0],
+        cells: &[],
+        residue: &[15, 0],
+        halves: [0, 0, 0, 0, 0, 0, 0, 0, 0, 0, 0, 0, 0, 0, 0, 1],
+    },
+    Row {
+        parts: &[&[], &[i32::MIN], &[]],
+        readings: [0, 1, 0],
+        points: &[],
+        cells: &[],
+        residue: &[],
+        halves: [0; 16],
+    },
 ];
 
 fn take_all(rt: &impl Abort, segment: &mut Segment, raws: &[i32], gain: &Gain) {
@@ -89,22 +113,23 @@ fn take_all(rt: &impl Abort, segment: &mut Segment, raws: &[i32], gain: &Gain) {
     }
 }
 
-/// Takes the samples of gauge 0 from a place on, one at a time.
+/// Takes the samples of a gauge from a place on, one at a time.
 fn taken(
     rt: &impl Abort,
     alloc: Global,
     grid: &Grid,
+    gauge: u16,
     from: u64,
     raws: &[i32],
 ) -> Result<Segment, Fail> {
     let gain = Gain::new(1000, 1, 0)?;
     assert!(rt; from <= 1000);
-    let mut segment = Segment::new(alloc, grid, 0, from, 16)?;
+    let mut segment = Segment::new(alloc, grid, gauge, from, 16)?;
     take_all(rt, &mut segment, raws, &gain);
     Ok(segment)
 }
 
-/// Takes them as one block.
+/// Takes those of gauge 0 as one block.
 fn counted(
     rt: &impl Abort,
     alloc: Global,
@@ -136,7 +161,7 @@ fn put_behind(
     whole: &mut Segment,
     part: &[i32],
 ) -> Result<(), Fail> {
-    let next = taken(rt, alloc, grid, whole.name().to, part)?;
+    let next = taken(rt, alloc, grid, 0, whole.name().to, part)?;
     Ok(join(rt, whole, &next)?)
 }
 
@@ -162,7 +187,7 @@ fn joined_from_the_left(
     grid: &Grid,
     parts: &[&[i32]],
 ) -> Result<Segment, Fail> {
-    let mut whole = taken(rt, alloc, grid, 0, &[])?;
+    let mut whole = taken(rt, alloc, grid, 0, 0, &[])?;
     for part in parts {
         put_behind(rt, alloc, grid, &mut whole, part)?;
     }
@@ -195,20 +220,31 @@ fn assert_residue(rt: &impl Abort, segment: &Segment, expected: &[u16]) {
     assert_eq!(rt; segment.residue(), expected);
 }
 
+fn assert_half_units(rt: &impl Abort, segment: &Segment, expected: &[u64; 16]) {
+    let mut halves = [77; 16];
+    assert!(rt; segment.grid().classes() == 16);
+    segment.half_units(&mut halves);
+    assert_eq!(rt; &halves, expected);
+}
+
 fn assert_name(rt: &impl Abort, segment: &Segment, to: u64) {
     let name = segment.name();
     assert_eq!(rt; (name.gauge, name.from, name.to), (0, 0, to));
 }
 
 fn assert_whole(rt: &impl Abort, whole: &mut Segment, row: &Row) {
-    assert_eq!(rt; [whole.used(), whole.missing(), whole.refused()], row.1);
-    assert_eq!(rt; whole.ends(), ends_of(row.2));
-    assert_residue(rt, whole, row.4);
-    assert_cells(rt, whole, row.3);
+    assert_eq!(rt;
+        [whole.used(), whole.missing(), whole.refused()],
+        row.readings
+    );
+    assert_eq!(rt; whole.ends(), ends_of(row.points));
+    assert_residue(rt, whole, row.residue);
+    assert_cells(rt, whole, row.cells);
+    assert_half_units(rt, whole, &row.halves);
 }
 
 fn samples_of(rt: &impl Abort, row: &Row) -> u64 {
-    let [used, missing, refused] = row.1;
+    let [used, missing, refused] = row.readings;
     assert!(rt; used <= 16 && missing <= 16 && refused <= 16);
     used + missing + refused
 }
@@ -220,7 +256,7 @@ fn assert_from_the_left(
     row: &Row,
     to: u64,
 ) -> Result<(), Fail> {
-    let mut whole = joined_from_the_left(rt, alloc, grid, row.0)?;
+    let mut whole = joined_from_the_left(rt, alloc, grid, row.parts)?;
     assert_name(rt, &whole, to);
     assert_whole(rt, &mut whole, row);
     Ok(())
@@ -233,7 +269,7 @@ fn assert_from_the_right(
     row: &Row,
     to: u64,
 ) -> Result<(), Fail> {
-    let mut whole = joined_from_the_right(rt, alloc, grid, row.0, to)?;
+    let mut whole = joined_from_the_right(rt, alloc, grid, row.parts, to)?;
     assert_name(rt, &whole, to);
     assert_whole(rt, &mut whole, row);
     Ok(())
@@ -250,33 +286,76 @@ fn parts_join_in_any_bracketing(rt: HostRuntime) -> Result<(), Fail> {
     Ok(())
 }
 
-// Why a part of no samples is not joined behind the first four of the standard's example.
+// Before the two parts of the standard's example are joined no cycle is closed.
+#[test]
+fn parts_keep_their_own_residue(rt: HostRuntime) -> Result<(), Fail> {
+    let grid = Grid::new(16, 2, -8000, 8)?;
+    let mut left = taken(&rt, rt.alloc(), &grid, 0, 0, &EXAMPLE[..4])?;
+    assert_residue(&rt, &left, &[6, 9, 5, 13]);
+    assert_cells(&rt, &mut left, &[]);
+    let mut right = taken(&rt, rt.alloc(), &grid, 0, 4, &EXAMPLE[4..])?;
+    assert_residue(&rt, &right, &[7, 11, 4, 12, 6]);
+    assert_cells(&rt, &mut right, &[]);
+    Ok(())
+}
+
+// The first four samples of the standard's example, by hand.
+const FOUR: Row = Row {
+    parts: &[&[-2, 1, -3, 5]],
+    readings: [4, 0, 0],
+    points: &[6, 9, 5, 13],
+    cells: &[],
+    residue: &[6, 9, 5, 13],
+    halves: FOUR_HALVES,
+};
+
+const FOUR_HALVES: [u64; 16] = [0, 0, 0, 1, 1, 0, 0, 0, 1, 0, 0, 0, 0, 0, 0, 0];
+
+// Their crossings of each boundary, from 1 on; the peaks and the valleys at each level.
+const FOUR_CROSSED: [u64; 16] = [0, 0, 0, 0, 0, 0, 1, 1, 2, 2, 1, 1, 1, 1, 0, 0];
+
+const FOUR_PEAKS: [u64; 16] = [0, 0, 0, 0, 0, 0, 0, 0, 0, 1, 0, 0, 0, 0, 0, 0];
+
+const FOUR_VALLEYS: [u64; 16] = [0, 0, 0, 0, 0, 1, 0, 0, 0, 0, 0, 0, 0, 0, 0, 0];
+
+// Each of their ranges is a simple range and one half unit.
+fn assert_four(rt: &impl Abort, left: &mut Segment) {
+    assert_name(rt, left, 4);
+    assert_whole(rt, left, &FOUR);
+    assert!(rt; left.grid().classes() == 16);
+    for level in 0..16u16 {
+        let at = usize::from(level);
+        assert_eq!(rt; left.peaks(level), FOUR_PEAKS[at]);
+        assert_eq!(rt; left.valleys(level), FOUR_VALLEYS[at]);
+        assert_eq!(rt; left.ranges(level), FOUR_HALVES[at]);
+        assert!(rt; level == 0 || left.crossings(level) == FOUR_CROSSED[at]);
+    }
+}
+
+// Why samples are not joined behind those four, which stay as they are.
 fn refusal(
     rt: &impl Abort,
     alloc: Global,
     grid: &Grid,
     gauge: u16,
     from: u64,
+    raws: &[i32],
 ) -> Result<Option<JoinRefusal>, Fail> {
-    let mut left = taken(rt, alloc, grid, 0, &EXAMPLE[..4])?;
-    assert!(rt; from <= 1000);
-    let right = Segment::new(alloc, grid, gauge, from, 16)?;
+    let mut left = taken(rt, alloc, grid, 0, 0, &EXAMPLE[..4])?;
+    let right = taken(rt, alloc, grid, gauge, from, raws)?;
     let answer = join(rt, &mut left, &right);
-    assert_eq!(rt; (left.used(), left.residue().len()), (4, 4));
+    assert_four(rt, &mut left);
     Ok(answer.err())
 }
 
-// A part that leaves samples out, and one of another gauge.
+// A part that leaves a sample out, and one of another gauge.
 #[test]
 fn strangers_are_not_joined(rt: HostRuntime) -> Result<(), Fail> {
     let grid = Grid::new(16, 2, -8000, 8)?;
-    for (gauge, from, expected) in [
-        (0, 5, JoinRefusal::NotNext { to: 4, from: 5 }),
-        (1, 4, JoinRefusal::OtherGauge(0, 1)),
-    ] {
-        let answer = refusal(&rt, rt.alloc(), &grid, gauge, from)?;
-        assert_eq!(rt; answer, Some(expected));
-    }
+    let answer = refusal(&rt, rt.alloc(), &grid, 0, 5, &EXAMPLE[5..])?;
+    assert_eq!(rt; answer, Some(JoinRefusal::NotNext { to: 4, from: 5 }));
+    let answer = refusal(&rt, rt.alloc(), &grid, 1, 4, &EXAMPLE[4..])?;
+    assert_eq!(rt; answer, Some(JoinRefusal::OtherGauge(0, 1)));
     Ok(())
 }
 

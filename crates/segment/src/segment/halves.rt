@@ -44,7 +44,7 @@ impl Segment {
         ensures few { result ≤ 2 ^ 62 }
     {
         let mut sum = 0;
-        for lo in 0..self.grid.classes() - k {
+        for lo in 0..self.grid().classes() - k {
             sum += self.doubled_cycles(lo, lo + k);
         }
         sum
@@ -58,7 +58,7 @@ impl Segment {
         ensures few { (k : ℕ) → slice_index out.new k ≤ 2 ^ 62 }
         ensures length { length out.new ≡ length out.old }
     {
-        let classes = self.grid.classes();
+        let classes = self.grid().classes();
         out.fill(0);
         for k in 1..classes {
             out[usize::from(k)] = self.cycles_at(k);
@@ -105,7 +105,7 @@ impl Segment {
         ensures few { (k : ℕ) → slice_index out.new k ≤ 2 ^ 62 }
         ensures length { length out.new ≡ length out.old }
     {
-        let classes = self.grid.classes();
+        let classes = self.grid().classes();
         out.fill(0);
         for hi in lo + 1..classes {
             out[usize::from(hi)] = self.doubled_cycles(lo, hi);

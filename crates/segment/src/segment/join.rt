@@ -1,7 +1,7 @@
 ghost use Rattle.std.specs.Prelude.{◌≡◌, ℕ, ℤ, List, ◌∷◌, ◌++◌, ◌+◌, ◌-◌, ◌≤◌, OnErr, OnOk};
 ghost use Rattle.calibration.specs.Gain.{GainValue};
 ghost use Rattle.segment.specs.Segment.{AddsReadings, SameStart, SegmentValue, Stands, StandsFor};
-ghost use Rattle.segment.specs.Joining.{Answers};
+ghost use Rattle.segment.specs.Joining.{IsJoinAnswer};
 ghost use Rattle.segment.specs.Figures.{SameKept};
 
 use super::Segment;
@@ -49,7 +49,7 @@ impl Segment {
         requires grid { self.old.grid ≡ right.now.grid }
         requires longest { self.old.gauge ≡ right.now.gauge → self.old.to ≡ right.now.from →
             (self.old.to - self.old.from) + (right.now.to - right.now.from) ≤ self.old.longest }
-        ensures answer { Answers self.old right.now result }
+        ensures answer { IsJoinAnswer self.old right.now result }
         ensures unchanged { OnErr result (self.new ≡ self.old) }
         ensures start { OnOk result (SameStart self.old self.new) }
         ensures end { OnOk result (self.new.to ≡ right.now.to) }

@@ -15,6 +15,7 @@ ghost use Rattle.segment.specs.Loading.{Loads, longest_of};
 ghost use Rattle.segment.specs.Parts.{parts_of};
 
 use super::Segment;
+use crate::classes::Classes;
 use crate::fault::{LoadFault, fault_of};
 use calibration::Grid;
 use four_point::Reducer;
@@ -109,7 +110,7 @@ impl Segment {
         let crossings = crossings_of(alloc, grid, parts)?;
         let simple = simple_of(alloc, grid, parts)?;
         Ok(Segment {
-            grid: *grid,
+            grid: Classes::new(grid),
             gauge: parts.name.gauge,
             from: parts.name.from,
             to: parts.name.to,

@@ -18,7 +18,7 @@ impl Segment {
     {
         // What holds of every tally only a call of it tells; this costs nothing.
         let _classes = self.tally.classes();
-        self.grid
+        self.grid.grid()
     }
 
     /// The samples that it is of.

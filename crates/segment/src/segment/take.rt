@@ -7,7 +7,7 @@ ghost use Rattle.segment.specs.Readings.{Takes};
 
 use super::Segment;
 use crate::block::{Block, points_in, push_points};
-use calibration::{Classifier, Gain, Reading, level};
+use calibration::{Classifier, Gain, Reading};
 
 impl Segment {
     fn skip_missing(&mut self)
@@ -61,7 +61,7 @@ impl Segment {
         ensures stands { (w : List ℤ) →
             Stands self.old gain.now w → Stands self.new gain.now (w ++ raw ∷ []) }
     {
-        match level(gain, &self.grid, raw) {
+        match self.grid.reading(raw, gain) {
             Reading::Missing => self.skip_missing(),
             Reading::Refused => self.skip_refused(),
             Reading::Level(level) => self.take_level(level),

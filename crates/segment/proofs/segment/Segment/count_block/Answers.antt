@@ -1,8 +1,9 @@
 use Rattle.std.proofs.Common.{sym, ap, ◌∙◌, arith}
 use Rattle.calibration.specs.History.{history}
-use Rattle.segment.proofs.OfPoints.{points_below, points_own}
+use Rattle.segment.proofs.OfPoints.{points_below}
 use Rattle.segment.proofs.Standing.{block_stands}
 use Rattle.segment.proofs.segment.Segment.count_block.Goals as goal
+use Rattle.turning_points.proofs.Levels.{points_own}
 
 pub take_block-requires-clause-own : goal.take_block-requires-clause-own
 take_block-requires-clause-own c =
