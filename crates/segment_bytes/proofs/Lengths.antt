@@ -13,6 +13,7 @@ use Rattle.tally.specs.declared.cells.Cell.{Cell}
 use Rattle.tally.specs.declared.cells.Bin.{Bin}
 use Rattle.tally.specs.Counts.{total_of}
 use Rattle.calibration.specs.Grid.{GridValue, IsGrid}
+use Rattle.calibration.specs.declared.grid.TheConstants.{MAX_CLASSES}
 use Rattle.turning_points.specs.EndPoints.{EndPoints}
 use Rattle.tables.specs.Bins.{AreBinsFrom, sum_of}
 use Rattle.segment_rules.specs.Parts.{PartsValue}
@@ -161,29 +162,29 @@ segment_small l g p grid s =
 
 -- ---- numbers fit
 
-cells_fit : (lo hi k : ℕ) (cs : List Cell) → k ≤ 1024 → total_of cs < 2 ^ 64 → AreCellsFrom lo hi k cs → AllByRecursion FitsCell cs
+cells_fit : (lo hi k : ℕ) (cs : List Cell) → k ≤ MAX_CLASSES → total_of cs < 2 ^ 64 → AreCellsFrom lo hi k cs → AllByRecursion FitsCell cs
 cells_fit lo hi k [] b t a = tt
 cells_fit lo hi k (c ∷ cs) b t a = let e = sum_by-cons (λ c. c.n) c cs in (
   (omega (arith, a.1.ordered, a.1.within, b), (omega (arith, a.1.within, b), omega (arith, t, e))),
   cells_fit c.lo (c.hi + 1) k cs b (omega (arith, t, e)) a.2,
 )
 
-bins_fit : (from to : ℕ) (bs : List Bin) → to ≤ 1024 → sum_of bs < 2 ^ 64 → AreBinsFrom from to bs → AllByRecursion FitsBin bs
+bins_fit : (from to : ℕ) (bs : List Bin) → to ≤ MAX_CLASSES → sum_of bs < 2 ^ 64 → AreBinsFrom from to bs → AllByRecursion FitsBin bs
 bins_fit from to [] b t a = tt
 bins_fit from to (x ∷ bs) b t a = let e = sum_by-cons (λ b. b.n) x bs in
     ((omega (arith, a.1, b), omega (arith, t, e)), bins_fit (x.key + 1) to bs b (omega (arith, t, e)) a.3)
 
-crossed_fit : (from to u : ℕ) (bs : List Bin) → to ≤ 1024 → u < 2 ^ 64 → All (λ b. b.n < u) bs → AreBinsFrom from to bs
+crossed_fit : (from to u : ℕ) (bs : List Bin) → to ≤ MAX_CLASSES → u < 2 ^ 64 → All (λ b. b.n < u) bs → AreBinsFrom from to bs
     → AllByRecursion FitsBin bs
 crossed_fit from to u [] b t h a = tt
 crossed_fit from to u (x ∷ bs) b t h a = let n = All-head (λ b. b.n < u) x bs h in
     ((omega (arith, a.1, b), omega (arith, t, n)), crossed_fit (x.key + 1) to u bs b t (All-tail (λ b. b.n < u) x bs h) a.3)
 
-levels_fit : (k : ℕ) (l : List ℕ) → k ≤ 1024 → All (λ x. x < k) l → AllByRecursion (λ n. n < 2 ^ 16) l
+levels_fit : (k : ℕ) (l : List ℕ) → k ≤ MAX_CLASSES → All (λ x. x < k) l → AllByRecursion (λ n. n < 2 ^ 16) l
 levels_fit k [] b a = tt
 levels_fit k (x ∷ l) b a = let h = All-head (λ x. x < k) x l a in (omega (arith, h, b), levels_fit k l b (All-tail (λ x. x < k) x l a))
 
-level_fits : (k : ℕ) (l : List ℕ) (i : ℕ) → k ≤ 1024 → All (λ x. x < k) l → (slice_index l i) < 2 ^ 16
+level_fits : (k : ℕ) (l : List ℕ) (i : ℕ) → k ≤ MAX_CLASSES → All (λ x. x < k) l → (slice_index l i) < 2 ^ 16
 level_fits k l i b a = by (cases_lt i (length l))
   where
     by : ((i < length l) ⊎ (length l ≤ i)) → (slice_index l i) < 2 ^ 16
@@ -193,7 +194,7 @@ level_fits k l i b a = by (cases_lt i (length l))
 few_cases : (n : ℕ) → (n ≡ 0) ⊎ ((n ≡ 1) ⊎ (2 ≤ n))
 few_cases n = grind arith
 
-ends_fit : (k : ℕ) (e : EndPoints) (l : List ℕ) → k ≤ 1024 → e.points < 2 ^ 64 → All (λ x. x < k) l → IsEnded k e l → FitsEnds e
+ends_fit : (k : ℕ) (e : EndPoints) (l : List ℕ) → k ≤ MAX_CLASSES → e.points < 2 ^ 64 → All (λ x. x < k) l → IsEnded k e l → FitsEnds e
 ends_fit k e l b few a i = by (few_cases e.points)
   where
     by : ((e.points ≡ 0) ⊎ ((e.points ≡ 1) ⊎ (2 ≤ e.points))) → FitsEnds e
@@ -234,14 +235,14 @@ ends_fit k e l b few a i = by (few_cases e.points)
           ),
         )
 
-row_fits : (from to : ℕ) (bs : List Bin) → to ≤ 1024 → AllByRecursion (λ b. b.n < 2 ^ 64) bs → AreBinsFrom from to bs → FitsBins bs
+row_fits : (from to : ℕ) (bs : List Bin) → to ≤ MAX_CLASSES → AllByRecursion (λ b. b.n < 2 ^ 64) bs → AreBinsFrom from to bs → FitsBins bs
 row_fits from to bs b t a = let few = bins_few from to bs a in (omega (arith, few, b), each from bs t a)
   where
     each : (from : ℕ) (bs : List Bin) → AllByRecursion (λ b. b.n < 2 ^ 64) bs → AreBinsFrom from to bs → AllByRecursion FitsBin bs
     each from [] t a = tt
     each from (x ∷ bs) t a = ((omega (arith, a.1, b), t.0), each (x.key + 1) bs t.1 a.3)
 
-rows_fit : (from to : ℕ) (rs : List RowValue) → to ≤ 1024 → AllByRecursion (λ c. c.n < 2 ^ 64) (cells_of rs) → AreRowsFrom from to rs
+rows_fit : (from to : ℕ) (rs : List RowValue) → to ≤ MAX_CLASSES → AllByRecursion (λ c. c.n < 2 ^ 64) (cells_of rs) → AreRowsFrom from to rs
     → AllByRecursion FitsRow rs
 rows_fit from to [] b t a = tt
 rows_fit from to (r ∷ rs) b t a =
@@ -314,7 +315,7 @@ pub segment_fits : (l : Layout) (g : GridValue) (p : PartsValue) → IsGrid g �
 segment_fits One g p grid gauge s =
     let small = is_small g p (omega (arith, grid.classes_from)) (omega (arith, grid.reference_to)) s in
     back_fits FitsCells p.cells g p grid gauge s (
-      omega (arith, small.cells, square_le g.classes 1024 grid.classes_to),
+      omega (arith, small.cells, square_le g.classes MAX_CLASSES grid.classes_to),
       cells_fit 0 0 g.classes p.cells grid.classes_to (cells_total g p s) (cells_in_order g.classes p.cells s.ordered.cells),
     )
 segment_fits Two g p grid gauge s =

@@ -3,7 +3,6 @@ use Rattle.std.proofs.Common.{◌≡◌, ℕ, zero, suc, ◌+◌, ◌*◌, ◌<�
 use Rattle.std.specs.Prelude.{◌==◌, if◌then◌else◌, slice_index, slice_index_or}
 use Rattle.std.specs.List.{flat_map}
 use Rattle.std.proofs.lemmas.List.{append-nil, drop_more, length-map, map-append}
-use Rattle.std.proofs.lemmas.List.Concat.{flat_map-cons}
 use Rattle.std.proofs.lemmas.Grind.{flat_map-append}
 use Rattle.tally.specs.declared.cells.Bin.{Bin}
 use Rattle.segment.specs.Parts.{bins_from}
@@ -39,6 +38,17 @@ one_at_most k n = by (n == 0) (record { key = k; n = n })
     by : (b : Bool) (x : Bin) → length (if b then [] else x ∷ []) ≤ 1
     by true x = omega arith
     by false x = omega arith
+
+-- there are no more than counts
+pub bins_few : (k : ℕ) (ns : List ℕ) → length (bins_of k ns) ≤ length ns
+bins_few k [] = omega arith
+bins_few k (n ∷ ns) = omega (
+  arith,
+  ap length (bins_split k n ns),
+  length-append (bins_of k (n ∷ [])) (bins_of (k + 1) ns),
+  one_at_most k n,
+  bins_few (k + 1) ns,
+)
 
 pub bins_long_next : (k i : ℕ) (ns : List ℕ) → i < length ns
     → length (bins_of k (drop i ns)) ≡ length (bins_of k (slice_index_or ns i 0 ∷ [])) + length (bins_of (k + 1) (drop (i + 1) ns))

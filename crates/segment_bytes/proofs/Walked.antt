@@ -1,14 +1,14 @@
 -- Walking through the cells of a segment, row by row.
-use Rattle.std.proofs.Common.{◌≡◌, ◌≢◌, ◌⊎◌, inl, inr, ℕ, zero, suc, ◌+◌, ◌-◌, ◌<◌, ◌≤◌, Bool, true, false, List, [], ◌∷◌, ◌++◌, length, map, nat_le, nat_lt, refl, sym, ap, subst, ◌∙◌, arith}
+use Rattle.std.proofs.Common.{◌≡◌, ◌⊎◌, inl, inr, ℕ, zero, suc, ◌+◌, ◌-◌, ◌<◌, ◌≤◌, true, false, List, [], ◌∷◌, ◌++◌, map, nat_le, nat_lt, refl, sym, ap, subst, ◌∙◌, arith}
 use Rattle.std.specs.Prelude.{◌==◌, ◌&&◌, ◌||◌, if◌then◌else◌}
 use Rattle.std.proofs.lemmas.Bool.{cases_lt}
 use Rattle.std.proofs.lemmas.Bool.Decides.{nat_tests}
 use Rattle.tally.specs.declared.cells.Cell.{Cell}
 use Rattle.tally.specs.declared.cells.Bin.{Bin}
-use Rattle.tally.specs.Counts.{Before, IsCell, count_of, is_from}
+use Rattle.tally.specs.Counts.{Before, count_of}
 use Rattle.segment_rules.proofs.CellsFrom.{IsFrom, AreCellsFrom}
 use Rattle.segment.specs.Parts.{bins_from}
-use Rattle.segment_bytes.specs.Rows.{RowValue, AreRowsFrom, cell_in, cells_of, rows_of}
+use Rattle.segment_bytes.specs.Rows.{cell_in, rows_of}
 use Rattle.segment_bytes.specs.Writing.{cells_after, row_of}
 use Rattle.segment_bytes.proofs.Rows.{cells_again, row_again, rows_from}
 

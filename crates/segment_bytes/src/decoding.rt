@@ -6,6 +6,7 @@ ghost use Rattle.segment.specs.Parts.{parts_of};
 ghost use Rattle.segment_bytes.specs.Fields.{Gives};
 ghost use Rattle.segment_bytes.specs.Decoding.{IsBodyOf, decoded, or_fault};
 ghost use Rattle.segment_bytes.specs.declared.layout.Layout.TheVariants as layouts;
+ghost use Rattle.segment_bytes.specs.declared.layout.TheConstants.{MAX_CLASSES_ONE};
 
 use crate::fault::BytesFault;
 use crate::layout::Layout;
@@ -50,7 +51,7 @@ pub fn decode(
     grid: &Grid,
     bytes: &[u8],
 ) -> Result<Segment, BytesFault>
-    requires { layout ≡ layouts.One → grid.now.classes ≤ 128 }
+    requires { layout ≡ layouts.One → grid.now.classes ≤ MAX_CLASSES_ONE }
     ensures grid { IfOk result (λ s. s.grid ≡ grid.now) }
     ensures longest { IfOk result (λ s. s.longest ≡ longest_of (parts_of s).name) }
     // What is given has this body.

@@ -10,17 +10,19 @@ ghost use Rattle.segment_bytes.specs.Grammar.{bin, body_of, cell, ends, list0, r
 ghost use Rattle.segment_bytes.specs.Rows.{cell_in, rows_of};
 ghost use Rattle.segment_bytes.specs.Sizes.{body_length, list0_length, max_body, max_body_of};
 ghost use Rattle.segment_bytes.specs.Writing.{Puts, bins_in, row_bins, row_of};
+ghost use Rattle.segment_bytes.specs.declared.layout.TheConstants.{MAX_CLASSES_ONE};
 
 use crate::bin_lists::{Table, fill, keys_of};
 use crate::layout::Layout;
 use crate::writing::{
     put_cells_of_row, put_levels, put_list, put_row, put_u16, put_u64, set_u16, set_u32,
 };
+use calibration::MAX_CLASSES;
 use segment::Segment;
 use turning_points::Ends;
 
 /// As many counts as a grid has classes at most.
-const PLACES: usize = 1024;
+const PLACES: usize = MAX_CLASSES as usize;
 
 fn put_table(buf: &mut [u8], at: usize, seg: &Segment, table: Table, counts: &mut [u64]) -> usize
     requires places { seg.now.grid.classes ≤ length counts.old }
@@ -183,7 +185,7 @@ fn put_parts(buf: &mut [u8], layout: Layout, seg: &Segment) -> usize
 /// no memory. The cells are walked once, row by row: a table of a tally costs its places, a log its
 /// entries for each row.
 pub fn encode(layout: Layout, seg: &Segment, buf: &mut [u8]) -> usize
-    requires few { layout ≡ One → seg.now.grid.classes ≤ 128 }
+    requires few { layout ≡ One → seg.now.grid.classes ≤ MAX_CLASSES_ONE }
     requires room { max_body layout seg.now.grid.classes ≤ length buf.old }
     ensures body { IsBodyOf layout seg.now.grid (parts_of seg.now) (take result buf.new) }
     ensures len { result ≡ length (body_of layout (parts_of seg.now)) }

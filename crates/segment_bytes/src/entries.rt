@@ -22,7 +22,7 @@ fn levels_of(
         (times (number_at w16) count have bytes.now) }
     ensures rest { IfOk result (λ x. length x.1.now ≤ length bytes.now) }
 {
-    let mut levels = Vec::new(alloc);
+    let mut levels = Vec::with_capacity(alloc, usize::from(count).min(bytes.len() / 2))?;
     let mut rest = bytes;
     for _ in 0..count {
         let (level, after) = u16_at(have, rest)?;
@@ -43,7 +43,7 @@ fn cells_of(
     ensures reads { Gives (λ x. (x.0.items, x.1.now)) result (times cell_at count have bytes.now) }
     ensures rest { IfOk result (λ x. length x.1.now ≤ length bytes.now) }
 {
-    let mut cells = Vec::new(alloc);
+    let mut cells = Vec::with_capacity(alloc, (count as usize).min(bytes.len() / 12))?;
     let mut rest = bytes;
     for _ in 0..count {
         let (cell, after) = cell_of(have, rest)?;
@@ -64,7 +64,7 @@ fn bins_of(
     ensures reads { Gives (λ x. (x.0.items, x.1.now)) result (times bin_at count have bytes.now) }
     ensures rest { IfOk result (λ x. length x.1.now ≤ length bytes.now) }
 {
-    let mut bins = Vec::new(alloc);
+    let mut bins = Vec::with_capacity(alloc, usize::from(count).min(bytes.len() / 10))?;
     let mut rest = bytes;
     for _ in 0..count {
         let (bin, after) = bin_of(have, rest)?;
@@ -97,7 +97,7 @@ fn rows_of(
         (times row_at count have bytes.now) }
     ensures rest { IfOk result (λ x. length x.1.now ≤ length bytes.now) }
 {
-    let mut rows = Vec::new(alloc);
+    let mut rows = Vec::with_capacity(alloc, usize::from(count).min(bytes.len() / 4))?;
     let mut rest = bytes;
     for _ in 0..count {
         let (row, after) = row_of(alloc, have, rest)?;

@@ -8,12 +8,12 @@
 //! parts. Both directions meet: what is decoded has these bytes, and each body is taken.
 #![tactic(auto)]
 
+mod bin_lists;
 mod decoding;
 mod encoding;
 mod entries;
 mod fault;
 /// Laws over the definitions alone.
-mod bin_lists;
 pub mod laws;
 mod layout;
 mod numbers;
@@ -26,7 +26,7 @@ mod writing;
 pub use decoding::decode;
 pub use encoding::encode;
 pub use fault::BytesFault;
-pub use layout::Layout;
+pub use layout::{Layout, MAX_CLASSES_ONE};
 pub use parts_reading::parts_in;
 pub use sizes::max_body;
 

@@ -177,6 +177,15 @@ fn short_and_trailing(rt: HostRuntime) -> Result<(), Fail> {
     Ok(())
 }
 
+fn assert_no_samples(rt: &impl Abort, segment: &Segment) {
+    let name = segment.name();
+    assert_eq!(rt; (name.gauge, name.from, name.to), (0, 0, 0));
+    let readings = [segment.used(), segment.missing(), segment.refused()];
+    assert_eq!(rt; readings, [0, 0, 0]);
+    assert_eq!(rt; (segment.ends().points, segment.residue().len()), (0, 0));
+    assert_eq!(rt; segment.next_cycle(0, 0), None);
+}
+
 #[test]
 fn the_body_of_no_samples(rt: HostRuntime) -> Result<(), Fail> {
     for (layout, zeros) in [(Layout::One, 72usize), (Layout::Two, 70)] {
@@ -184,6 +193,8 @@ fn the_body_of_no_samples(rt: HostRuntime) -> Result<(), Fail> {
         let mut buf = vec![in rt.alloc(); 7; 3000]?;
         assert!(rt; zeros <= 73);
         assert_eq!(rt; body(&rt, layout, &segment, &mut buf), &[0; 73][..zeros]);
+        let found = read(&rt, rt.alloc(), layout, &[0; 73][..zeros])??;
+        assert_no_samples(&rt, &found);
     }
     Ok(())
 }

@@ -1,4 +1,4 @@
-ghost use Rattle.std.specs.Prelude.{◌≡◌, ◌<◌, ◌≤◌, ◌^◌, ◌+◌, ◌*◌, ◌++◌, length, map, take, drop, [], ◌∷◌};
+ghost use Rattle.std.specs.Prelude.{◌≡◌, ◌<◌, ◌≤◌, ◌^◌, ◌+◌, ◌*◌, ◌++◌, true, false, length, map, take, drop, [], ◌∷◌};
 ghost use Rattle.std.specs.Int.{w16, w32, w64, to_be_bytes};
 ghost use Rattle.std.specs.List.{flat_map};
 ghost use Rattle.segment_bytes.specs.Fields.{listed};
@@ -77,22 +77,17 @@ fn put_pair(buf: &mut [u8], at: usize, lo: u16, hi: u16, n: u64) -> usize
     put_cell(buf, at, &Cell { lo, hi, n })
 }
 
-fn is_some(n: u64) -> u16
-    ensures { result ≡ length (bins_of 0 (n ∷ [])) }
+// Whether a count is not 0. Most lists begin with one.
+fn has_entry(key: u16, counts: &[u64]) -> bool
+    ensures some { result ≡ true → 0 < length (bins_of key counts.now) }
+    ensures none { result ≡ false → bins_of key counts.now ≡ [] }
 {
-    if n == 0 { 0 } else { 1 }
-}
-
-// How many counts are not 0.
-pub(crate) fn entries(key: u16, counts: &[u64]) -> u16
-    requires { key + length counts.now < 2 ^ 16 }
-    ensures { result ≡ length (bins_of key counts.now) }
-{
-    let mut entries = 0;
     for n in counts {
-        entries += is_some(*n);
+        if *n != 0 {
+            return true;
+        }
     }
-    entries
+    false
 }
 
 fn put_bins(buf: &mut [u8], at: usize, key: u16, counts: &[u64]) -> usize
@@ -109,15 +104,17 @@ fn put_bins(buf: &mut [u8], at: usize, key: u16, counts: &[u64]) -> usize
     at
 }
 
-/// The counts of keys from one on that are not 0, as a list.
+/// The counts of keys from one on that are not 0, as a list. Their number is known when they are
+/// written.
 pub(crate) fn put_list(buf: &mut [u8], at: usize, key: u16, counts: &[u64]) -> usize
     requires few { key + length counts.now < 2 ^ 16 }
     requires room { at + 2 + 10 * length (bins_of key counts.now) ≤ length buf.old }
     ensures puts { Puts at (listed w16 bin (bins_of key counts.now)) buf.old buf.new result }
     ensures next { result ≡ at + 2 + 10 * length (bins_of key counts.now) }
 {
-    let at = put_u16(buf, at, entries(key, counts));
-    put_bins(buf, at, key, counts)
+    let end = put_bins(buf, at + 2, key, counts);
+    set_u16(buf, at, ((end - at - 2) / 10) as u16);
+    end
 }
 
 /// The cells of a lower level, one after the other.
@@ -145,7 +142,7 @@ pub(crate) fn put_row(buf: &mut [u8], at: usize, lo: u16, counts: &[u64]) -> (us
         result.0 }
     ensures rows { result.1 ≡ length (row_of lo (bins_of (lo + 1) counts.now)) }
 {
-    if entries(lo + 1, counts) == 0 {
+    if !has_entry(lo + 1, counts) {
         return (at, 0);
     }
     let at = put_u16(buf, at, lo);

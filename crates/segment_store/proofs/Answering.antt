@@ -24,31 +24,32 @@ use Rattle.segment_store.specs.Held.{AreHeld, ends_of}
 use Rattle.segment_store.specs.Moments.{StoreValue, IsAt, IsOn}
 use Rattle.segment_store.specs.Resuming.{Walks, Ends}
 use Rattle.segment_store.specs.Reading.{IsFound, NoDamage, StartsAt}
-use Rattle.segment_store.specs.Opening.{fault_is, refused, Judges, DiskRose, WalksAs, Resumes, IsUnharmed}
+use Rattle.segment_store.specs.Opening.{fault_is, refused, IsHeadAnswer, DiskRose, WalksAs, Resumes, IsUnharmed}
 
 -- ---- faults of the head
 
-pub judged_err : (X : Type 0) (f : HeadFault) (o : Option HeadFault) → o ≡ Some f → Judges {X = X} (Err (refused f)) o
-judged_err X heads.NotAStore o e = e
-judged_err X (heads.Version v) o e = e
-judged_err X (heads.Differs field kept found) o e = e
+pub head_answer_err : (X : Type 0) (f : HeadFault) (o : Option HeadFault) → o ≡ Some f → IsHeadAnswer {X = X} (Err (refused f)) o
+head_answer_err X heads.NotAStore o e = e
+head_answer_err X (heads.Version v) o e = e
+head_answer_err X (heads.Differs field kept found) o e = e
 
 pub rose_err : (X : Type 0) (f : HeadFault) (a b : ℕ) → DiskRose {X = X} a b (Err (refused f))
 rose_err X heads.NotAStore a b = tt
 rose_err X (heads.Version v) a b = tt
 rose_err X (heads.Differs field kept found) a b = tt
 
-pub judges_first : (X Y : Type 0) (f : ResumeFault) (a b : Option HeadFault) → Judges {X = X} (Err f) a
-    → Judges {X = Y} (Err f) (or_else a b)
-judges_first X Y NotAStore a b e = ap (λ o. or_else o b) e
-judges_first X Y (Version v) a b e = ap (λ o. or_else o b) e
-judges_first X Y (Differs field kept found) a b e = ap (λ o. or_else o b) e
-judges_first X Y (Damaged index damage) a b e = e
-judges_first X Y DiskFault a b e = tt
-judges_first X Y OutOfMemory a b e = tt
+pub head_answer_first : (X Y : Type 0) (f : ResumeFault) (a b : Option HeadFault) → IsHeadAnswer {X = X} (Err f) a
+    → IsHeadAnswer {X = Y} (Err f) (or_else a b)
+head_answer_first X Y NotAStore a b e = ap (λ o. or_else o b) e
+head_answer_first X Y (Version v) a b e = ap (λ o. or_else o b) e
+head_answer_first X Y (Differs field kept found) a b e = ap (λ o. or_else o b) e
+head_answer_first X Y (Damaged index damage) a b e = e
+head_answer_first X Y DiskFault a b e = tt
+head_answer_first X Y OutOfMemory a b e = tt
 
-pub judges_then : {X : Type 0} (r : Result X ResumeFault) (a b : Option HeadFault) → a ≡ None → Judges r b → Judges r (or_else a b)
-judges_then r a b e h = subst (λ o. Judges r o) (sym (ap (λ c. or_else c b) e)) h
+pub head_answer_then : {X : Type 0} (r : Result X ResumeFault) (a b : Option HeadFault) → a ≡ None → IsHeadAnswer r b
+    → IsHeadAnswer r (or_else a b)
+head_answer_then r a b e h = subst (λ o. IsHeadAnswer r o) (sym (ap (λ c. or_else c b) e)) h
 
 wider : (a b c d : ℕ) → Rose b c → a ≤ b → c ≤ d → Rose a d
 wider a b c d r e f = grind arith
@@ -69,10 +70,11 @@ rose_all {X} (Err fault) a b c d r e f = rose_wider X X fault a b c d r e f
 -- ---- one gauge after the other
 
 module _ (g : ℕ) (x : GainValue) (gains : List GainValue) (i : ℕ) (image : Image) (here : drop i gains ≡ x ∷ drop (i + 1) gains) where
-  pub fault_here : (X Y : Type 0) (f : ResumeFault) (o : Option HeadFault) → Judges {X = X} (Err f) (gauge_fault g x (gauge_at g image))
-      → gauges_fault g (drop i gains) image ≡ o → Judges {X = Y} (Err f) o
-  fault_here X Y f o h e = subst (λ p. Judges {X = Y} (Err f) p) (sym (ap (λ l. gauges_fault g l image) here)
-      ∙ e) (judges_first X Y f _ _ h)
+  pub fault_here : (X Y : Type 0) (f : ResumeFault) (o : Option HeadFault)
+      → IsHeadAnswer {X = X} (Err f) (gauge_fault g x (gauge_at g image))
+      → gauges_fault g (drop i gains) image ≡ o → IsHeadAnswer {X = Y} (Err f) o
+  fault_here X Y f o h e = subst (λ p. IsHeadAnswer {X = Y} (Err f) p) (sym (ap (λ l. gauges_fault g l image) here)
+      ∙ e) (head_answer_first X Y f _ _ h)
 
 -- ---- the bodies behind it
 
@@ -100,7 +102,7 @@ module _ {X : Type 0} (s : Setup) (image : Image) (see : X → ℕ × List ℕ) 
   resumes_all (Err DiskFault) e w = tt
   resumes_all (Err OutOfMemory) e w = tt
 
-  pub resumes_err : (Y : Type 0) (f : ResumeFault) → Judges {X = Y} (Err f) (head_fault s image) → Resumes s image see (Err f)
+  pub resumes_err : (Y : Type 0) (f : ResumeFault) → IsHeadAnswer {X = Y} (Err f) (head_fault s image) → Resumes s image see (Err f)
   resumes_err Y NotAStore e = e
   resumes_err Y (Version v) e = e
   resumes_err Y (Differs field kept found) e = e
@@ -111,7 +113,7 @@ module _ {X : Type 0} (s : Setup) (image : Image) (see : X → ℕ × List ℕ) 
 some_none : {x : HeadFault} → Some x ≡ None → ⊥
 some_none e = absurd cc
 
-pub never_err : (X Y : Type 0) (s : Setup) (image : Image) (f : ResumeFault) → Judges {X = Y} (Err f) (head_fault s image)
+pub never_err : (X Y : Type 0) (s : Setup) (image : Image) (f : ResumeFault) → IsHeadAnswer {X = Y} (Err f) (head_fault s image)
     → head_fault s image ≡ None → IsUnharmed {X = X} (Err f)
 never_err X Y s image NotAStore e n = absurd (some_none (sym e ∙ n))
 never_err X Y s image (Version v) e n = absurd (some_none (sym e ∙ n))

@@ -1,8 +1,9 @@
 -- What a walk found reads.
-use Rattle.std.proofs.Common.{◌≡◌, ◌≢◌, ℕ, ◌+◌, ◌-◌, ◌^◌, ◌<◌, ◌≤◌, List, [], ◌∷◌, ◌++◌, length, get_or, drop, slice_range, refl, sym, ◌∙◌, ap, arith, append_assoc, length-append, take-append-drop}
+use Rattle.std.proofs.Common.{◌≡◌, ◌≢◌, ℕ, ◌+◌, ◌-◌, ◌^◌, ◌<◌, List, [], ◌∷◌, ◌++◌, length, get_or, drop, refl, sym, ◌∙◌, ap, arith, append_assoc, length-append}
 use Rattle.std.specs.Prelude.{Ok}
 use Rattle.std.specs.Int.{w32, to_be_bytes}
-use Rattle.std.proofs.lemmas.List.{drop_more, drop-drop, length-take, length-drop}
+use Rattle.std.proofs.lemmas.List.{drop_more, length-take, length-drop}
+use Rattle.std.proofs.lemmas.List.Folds.{drop_split}
 use Rattle.sha2.specs.Sha256.{sha256}
 use Rattle.station.specs.Station.{Image}
 use Rattle.segment_rules.specs.Parts.{PartsValue}
@@ -13,11 +14,6 @@ use Rattle.segment_store.specs.Image.{signed, stored, open_bodies, extended, IsN
 use Rattle.segment_store.specs.Resuming.{field_at, length_at, bytes_at, kept_at, found_at, IsWhole, Finds, sound, whole}
 use Rattle.segment_store.specs.Reading.{HasPassed, IsFound}
 use Rattle.segment_store.proofs.Bodies.{length-stored, open_more, tiles_more}
-
-cut : (s : List ℕ) (i j : ℕ) → i ≤ j → drop i s ≡ slice_range s i j ++ drop j s
-cut s i j le =
-    let e : i + (j - i) ≡ j = omega arith in
-    sym (take-append-drop (j - i) (drop i s)) ∙ ap (λ (l : List ℕ). slice_range s i j ++ l) (drop-drop (j - i) i s ∙ ap (λ n. drop n s) e)
 
 module _ (lay : Layout) (setup : Setup) (limit : ℕ) (small : limit < 2 ^ 32) (image : Image) where
   -- the bytes of a whole body
@@ -36,14 +32,14 @@ module _ (lay : Layout) (setup : Setup) (limit : ℕ) (small : limit < 2 ^ 32) (
       ∙ ap (λ (l : List ℕ). sha256 (to_be_bytes w32 (length (body_of lay p)) ++ l)) bytes in
       let last : at + 5 + len + 32 ≡ at + len + 37 = omega arith in
       let d3 : drop (at + 5 + len) image ≡ sha256 (signed (body_of lay p)) ++ drop (at + len + 37) image =
-      cut image (at + 5 + len) (at + 5 + len + 32) (omega arith) ∙ ap (λ (l : List ℕ). l ++ drop (at + 5 + len + 32) image) digest
+      drop_split image (at + 5 + len) (at + 5 + len + 32) (omega arith) ∙ ap (λ (l : List ℕ). l ++ drop (at + 5 + len + 32) image) digest
       ∙ ap (λ k. sha256 (signed (body_of lay p)) ++ drop k image) last in
       let d2 : drop (at + 5) image ≡ body_of lay p ++ (sha256 (signed (body_of lay p)) ++ drop (at + len + 37) image) =
-      cut image (at + 5) (at + 5 + len) (omega arith) ∙ ap (λ (l : List ℕ). l ++ drop (at + 5 + len) image) bytes
+      drop_split image (at + 5) (at + 5 + len) (omega arith) ∙ ap (λ (l : List ℕ). l ++ drop (at + 5 + len) image) bytes
       ∙ ap (λ (l : List ℕ). body_of lay p ++ l) d3 in
       let d1 : drop (at + 1) image ≡ to_be_bytes w32 (length (body_of lay p)) ++
       (body_of lay p ++ (sha256 (signed (body_of lay p)) ++ drop (at + len + 37) image)) =
-      cut image (at + 1) (at + 5) (omega arith) ∙ ap (λ (l : List ℕ). l ++ drop (at + 5) image) field
+      drop_split image (at + 1) (at + 5) (omega arith) ∙ ap (λ (l : List ℕ). l ++ drop (at + 5) image) field
       ∙ ap (λ (l : List ℕ). to_be_bytes w32 (length (body_of lay p)) ++ l) d2 in
       let tail : stored (body_of lay p) ++ drop (at + len + 37) image ≡ to_be_bytes w32 (length (body_of lay p)) ++
       (body_of lay p ++ (sha256 (signed (body_of lay p)) ++ drop (at + len + 37) image)) =

@@ -1,13 +1,13 @@
 -- A held segment has what the bodies of its gauge keep.
 --   keeps_by    by the bodies of a gauge, joined
 --   held_keep   of a store on its station
-use Rattle.std.proofs.Common.{◌≡◌, ◌≢◌, ℕ, ◌+◌, ◌*◌, ◌<◌, true, false, ◌==◌, List, [], ◌∷◌, ◌++◌, length, get_or, refl, sym, ap, subst, ◌∙◌, arith, append_assoc, append-nil}
+use Rattle.std.proofs.Common.{◌≡◌, ◌≢◌, ℕ, ◌+◌, ◌*◌, ◌<◌, ◌==◌, List, [], ◌∷◌, ◌++◌, length, get_or, refl, sym, ap, subst, ◌∙◌, arith, append_assoc, append-nil}
 use Rattle.std.specs.Prelude.{sum_by, if◌then◌else◌}
 use Rattle.std.specs.List.{flat_map}
-use Rattle.std.proofs.lemmas.Bool.Decides.{nat_tests}
 use Rattle.std.proofs.lemmas.Grind.{flat_map-append}
 use Rattle.std.proofs.lemmas.List.Elements.{filter-append}
 use Rattle.std.proofs.lemmas.List.Sums.{sum_by_push}
+use Rattle.std.proofs.lemmas.Bool.{eq-eqb, ne_eqb}
 use Rattle.station.specs.Station.{Image}
 use Rattle.calibration.specs.Grid.{GridValue}
 use Rattle.three_point.specs.Run.{three_point}
@@ -70,16 +70,10 @@ keeps_more u right v bodies k j = record {
 }
 
 not_of : (p : PartsValue) (g : ℕ) → p.name.gauge ≢ g → bodies_of g (p ∷ []) ≡ []
-not_of p g n = ap (λ b. if b then p ∷ [] else []) (differ p.name.gauge g n)
-  where
-    differ : (a b : ℕ) → a ≢ b → (a == b) ≡ false
-    differ a b n = grind (arith, nat_tests)
+not_of p g n = ap (λ b. if b then p ∷ [] else []) (ne_eqb p.name.gauge g n)
 
 is_of : (p : PartsValue) (g : ℕ) → p.name.gauge ≡ g → bodies_of g (p ∷ []) ≡ p ∷ []
-is_of p g e = ap (λ b. if b then p ∷ [] else []) (same p.name.gauge g e)
-  where
-    same : (a b : ℕ) → a ≡ b → (a == b) ≡ true
-    same a b e = grind (arith, nat_tests)
+is_of p g e = ap (λ b. if b then p ∷ [] else []) (eq-eqb p.name.gauge g e)
 
 module _ (grid : GridValue) (g : ℕ) where
   keeps_before : (bodies : List PartsValue) (v : SegmentValue) → IsHeld grid g bodies v → KeepsBefore v (bodies_of g bodies)

@@ -9,7 +9,7 @@ use Rattle.calibration.specs.Grid.{GridValue}
 use Rattle.segment_rules.specs.Parts.{PartsValue}
 use Rattle.segment.specs.Segment.{SegmentValue, IsSegment, empty_at}
 use Rattle.segment.specs.Parts.{parts_of}
-use Rattle.segment.specs.Joining.{Answers}
+use Rattle.segment.specs.Joining.{IsJoinAnswer}
 use Rattle.segment.specs.declared.segment.join.JoinRefusal.{JoinRefusal}
 use Rattle.segment.specs.declared.segment.join.JoinRefusal.TheVariants.{OtherGauge, NotNext}
 use Rattle.segment_store.specs.declared.putting.State.{State}
@@ -48,7 +48,8 @@ held_is grid g bodies v (joined right same over rules h j) =
     record { grid_is = s.0 ∙ o.grid_is; gauge = s.1 ∙ o.gauge; from = s.2 ∙ o.from; longest = s.3 ∙ o.longest }
 
 -- a part that comes next is joined
-pub is_joined : (v w : SegmentValue) (r : Result (Unit {0}) JoinRefusal) (P : Type 0) → Answers v w r → v.gauge ≡ w.gauge → v.to ≡ w.from
+pub is_joined : (v w : SegmentValue) (r : Result (Unit {0}) JoinRefusal) (P : Type 0) → IsJoinAnswer v w r
+    → v.gauge ≡ w.gauge → v.to ≡ w.from
     → OnOk r P → P
 is_joined v w (Ok u) P a g n h = h
 is_joined v w (Err (OtherGauge x y)) P a g n h = absurd (a.0 g)

@@ -3,7 +3,6 @@ pub mod Begun
 pub mod Bodies
 pub mod Found
 pub mod Holding
-pub mod Empty
 pub mod HeldStand
 pub mod HeldKeep
 pub mod Nearness

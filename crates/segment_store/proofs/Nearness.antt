@@ -7,6 +7,7 @@ use Rattle.std.proofs.lemmas.List.Elements.{All-set, All-replicate}
 use Rattle.calibration.specs.Grid.{GridValue, IsGrid}
 use Rattle.segment_rules.specs.Parts.{PartsValue}
 use Rattle.recording.specs.declared.TheConstants.{MAX_SAMPLES}
+use Rattle.calibration.specs.declared.grid.TheConstants.{MAX_CLASSES}
 use Rattle.segment_bytes.specs.Sizes.{max_body}
 use Rattle.segment_bytes.specs.declared.layout.Layout.TheVariants.{One, Two}
 use Rattle.segment_bytes.specs.declared.layout.Layout.{Layout}
@@ -53,6 +54,8 @@ step_is l g ends bytes at next p grid is joins some e =
     }
 
 -- a body's length fits its field
-pub max_small : (l : Layout) (classes : ℕ) → classes ≤ 1024 → max_body l classes < 2 ^ 31
-max_small One classes le = let m : classes * classes ≤ 1024 * 1024 = mul-le classes classes 1024 1024 le le in omega (arith, m, le)
-max_small Two classes le = let m : classes * classes ≤ 1024 * 1024 = mul-le classes classes 1024 1024 le le in omega (arith, m, le)
+pub max_small : (l : Layout) (classes : ℕ) → classes ≤ MAX_CLASSES → max_body l classes < 2 ^ 31
+max_small One classes le =
+    let m : classes * classes ≤ MAX_CLASSES * MAX_CLASSES = mul-le classes classes MAX_CLASSES MAX_CLASSES le le in omega (arith, m, le)
+max_small Two classes le =
+    let m : classes * classes ≤ MAX_CLASSES * MAX_CLASSES = mul-le classes classes MAX_CLASSES MAX_CLASSES le le in omega (arith, m, le)

@@ -19,12 +19,10 @@ use Rattle.store_head.proofs.Gauges.{slice_range-middle}
 use Rattle.segment_store.specs.Image.{signed, stored, open_bodies, extended, IsBody, IsNext, Tiles, none, one}
 use Rattle.segment_store.specs.Resuming.{field_at, length_at, bytes_at, kept_at, found_at, Checks, digest, no_body, stranger, empty, apart, sound, Finds, no_length, too_long, no_gate, whole, Walks, shut, damaged, more}
 use Rattle.segment_store.proofs.Bodies.{length-stored}
+use Rattle.lemmas.proofs.Outcomes.{same_ok}
 
 okay : {E : Type 0} → PartsValue → Result PartsValue E
 okay p = Ok p
-
-pub ok_same : {E : Type 0} (r : Result PartsValue E) (p q : PartsValue) → r ≡ Ok p → r ≡ Ok q → p ≡ q
-ok_same r p q e f = let g : Ok p ≡ r = sym e in cc
 
 -- an image with a body behind an open gate
 module _ (lay : Layout) (setup : Setup) (valid : IsSetup setup) (limit : ℕ) (small : limit < 2 ^ 32) (a t : List ℕ) (at : ℕ)
@@ -107,14 +105,14 @@ module _ (lay : Layout) (setup : Setup) (valid : IsSetup setup) (limit : ℕ) (s
       → r ≡ Ok p
   checks_only r (digest n) = absurd (n found_is)
   checks_only r (no_body same e) = let d = decodes in absurd cc
-  checks_only r (stranger {p = q} same e past) = let is = ok_same _ q p e decodes in absurd
+  checks_only r (stranger {p = q} same e past) = let is = same_ok e decodes in absurd
       (omega (arith, past, ap (λ (x : PartsValue). x.name.gauge) is, next.body.gauge))
-  checks_only r (empty {p = q} same e g past) = let is = ok_same _ q p e decodes in absurd
+  checks_only r (empty {p = q} same e g past) = let is = same_ok e decodes in absurd
       (omega (arith, past, ap (λ (x : PartsValue). x.name.from) is, ap (λ (x : PartsValue). x.name.to) is, next.body.some))
-  checks_only r (apart {p = q} same e g s n) = let is = ok_same _ q p e decodes in absurd
+  checks_only r (apart {p = q} same e g s n) = let is = same_ok e decodes in absurd
       (subst (λ (x : PartsValue). x.name.from ≢ get_or ends x.name.gauge 0) is n next.joins)
   checks_only r (sound {p = q} same e g s j) = ap (λ (x : PartsValue). Ok x)
-      (ok_same _ q p (decoded_again lay setup.grid _ q valid.grid e) decodes)
+      (same_ok (decoded_again lay setup.grid _ q valid.grid e) decodes)
 
   pub finds_only : (r : Result PartsValue Damage) → Finds lay setup limit image ends at r → r ≡ Ok p
   finds_only r (no_length lt) = absurd (omega (arith, lt, long))

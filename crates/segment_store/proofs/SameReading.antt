@@ -17,7 +17,8 @@ use Rattle.segment_store.specs.Image.{stored, open_bodies, extended, IsBody, Til
 use Rattle.segment_store.specs.Moments.{StoreValue, IsOn}
 use Rattle.segment_store.specs.Resuming.{bytes_at}
 use Rattle.segment_store.proofs.Nearness.{max_small}
-use Rattle.segment_store.proofs.Reading.{ok_same, decodes, gate_is, closed_gate, some_left}
+use Rattle.segment_store.proofs.Reading.{decodes, gate_is, closed_gate, some_left}
+use Rattle.lemmas.proofs.Outcomes.{same_ok}
 
 -- a body in front
 grouped : (lay : Layout) (a : List ℕ) (p : PartsValue) (ps : List PartsValue) (rest : List ℕ)
@@ -49,7 +50,7 @@ module _ (lay : Layout) (setup : Setup) (valid : IsSetup setup) (limit : ℕ) (s
       let first = decodes lay setup valid limit small a t (length a) refl ends p next (fits p next.body) (some_left lay ps2 gate rest) in
       let second = decodes lay setup valid limit small a t2 (length a) refl ends q next2 (fits q next2.body)
       (some_left lay qs2 gate2 rest2) in
-      let pq : p ≡ q = ok_same _ p q first (ap (λ (x : List ℕ). decoded lay setup.grid (bytes_at x (length a))) eq ∙ second) in
+      let pq : p ≡ q = same_ok first (ap (λ (x : List ℕ). decoded lay setup.grid (bytes_at x (length a))) eq ∙ second) in
       let eq2 : i ≡ a ++ 1 ∷ (stored (body_of lay p) ++ t2) = eq ∙ ap (λ x. a ++ 1 ∷ (stored (body_of lay x) ++ t2)) (sym pq) in
       let moved : (a ++ 1 ∷ stored (body_of lay p)) ++ t ≡ (a ++ 1 ∷ stored (body_of lay p)) ++ t2 =
       append_assoc a (1 ∷ stored (body_of lay p)) t ∙ eq2 ∙ sym (append_assoc a (1 ∷ stored (body_of lay p)) t2) in

@@ -12,6 +12,7 @@ use Rattle.store_head.specs.Head.{see_head}
 use Rattle.segment_store.specs.Held.{AreHeld, ends_of}
 use Rattle.segment_store.specs.Moments.{StoreValue}
 use Rattle.segment_store.specs.Places.{IsNear}
+use Rattle.segment_bytes.specs.declared.layout.TheConstants.{MAX_CLASSES_ONE}
 
 abbrev pub see_state : State → StoreValue
 see_state s = record { head = see_head s.layout s.head; held = s.held; count = s.count; place = s.place; shut = s.shut }
@@ -22,4 +23,4 @@ pub record IsKept (s : State) : Type 0 where
   pub room : 37 + max_body s.layout s.head.setup.grid.classes ≤ vec_len s.buf
   pub gauges : length s.held ≡ length s.head.setup.gains
   pub joined : (bodies : List PartsValue) × AreHeld s.head.setup.grid bodies s.held
-  pub narrow : s.layout ≡ One → s.head.setup.grid.classes ≤ 128
+  pub narrow : s.layout ≡ One → s.head.setup.grid.classes ≤ MAX_CLASSES_ONE

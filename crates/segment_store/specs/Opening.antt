@@ -1,10 +1,10 @@
 -- What resuming answers, by the image.
---   fault_is     the fault of a walk that stopped
---   Judges       the head's fault, unless memory ran out or the disk failed
---   WalksAs      how a walk over the bodies ends
---   Resumes      the head's fault, or the end of the walk
---   IsUnharmed   no fault but of the disk and of memory
---   DiskRose     the disk is blamed only where the count of faults rose
+--   fault_is      the fault of a walk that stopped
+--   IsHeadAnswer  the head's fault, unless memory ran out or the disk failed
+--   WalksAs       how a walk over the bodies ends
+--   Resumes       the head's fault, or the end of the walk
+--   IsUnharmed    no fault but of the disk and of memory
+--   DiskRose      the disk is blamed only where the count of faults rose
 use Rattle.std.specs.Prelude.{◌≡◌, ℕ, List, Option, Some, None, Result, Ok, Err}
 use Rattle.outside.specs.Fault.{Rose}
 use Rattle.station.specs.Station.{Image}
@@ -65,14 +65,14 @@ refused heads.NotAStore = NotAStore
 refused (heads.Version v) = Version v
 refused (heads.Differs field kept found) = Differs field kept found
 
-abbrev pub Judges : {X : Type 0} → Result X ResumeFault → Option HeadFault → Type 0
-Judges (Ok x) o = o ≡ None
-Judges (Err NotAStore) o = o ≡ Some heads.NotAStore
-Judges (Err (Version v)) o = o ≡ Some (heads.Version v)
-Judges (Err (Differs field kept found)) o = o ≡ Some (heads.Differs field kept found)
-Judges (Err (Damaged index damage)) o = ⊥
-Judges (Err DiskFault) o = Unit {0}
-Judges (Err OutOfMemory) o = Unit {0}
+abbrev pub IsHeadAnswer : {X : Type 0} → Result X ResumeFault → Option HeadFault → Type 0
+IsHeadAnswer (Ok x) o = o ≡ None
+IsHeadAnswer (Err NotAStore) o = o ≡ Some heads.NotAStore
+IsHeadAnswer (Err (Version v)) o = o ≡ Some (heads.Version v)
+IsHeadAnswer (Err (Differs field kept found)) o = o ≡ Some (heads.Differs field kept found)
+IsHeadAnswer (Err (Damaged index damage)) o = ⊥
+IsHeadAnswer (Err DiskFault) o = Unit {0}
+IsHeadAnswer (Err OutOfMemory) o = Unit {0}
 
 abbrev pub DiskRose : {X : Type 0} → ℕ → ℕ → Result X ResumeFault → Type 0
 DiskRose before now (Ok x) = Unit {0}

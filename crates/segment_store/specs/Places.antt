@@ -4,6 +4,7 @@
 --   IsStep    a body comes next, and its next gate is not far
 use Rattle.std.specs.Prelude.{◌≡◌, ◌<◌, ◌≤◌, ◌+◌, ◌-◌, ◌*◌, ℕ, List, All, length, slice_index, sum_by}
 use Rattle.recording.specs.declared.TheConstants.{MAX_SAMPLES}
+use Rattle.calibration.specs.declared.limits.TheConstants.{MAX_GAUGES}
 use Rattle.segment_rules.specs.Parts.{PartsValue}
 
 abbrev pub held_in : List ℕ → ℕ
@@ -13,7 +14,7 @@ held_in ends = sum_by (λ n. n) ends
 pub record IsNear (place : ℕ) (ends : List ℕ) : Type 0 where
   pub place_to : place ≤ 1302 + 10376 * held_in ends
   pub each : All (λ n. n ≤ MAX_SAMPLES) ends
-  pub few : length ends ≤ 32
+  pub few : length ends ≤ MAX_GAUGES
 
 pub record IsStep (ends : List ℕ) (at : ℕ) (p : PartsValue) (next : ℕ) : Type 0 where
   pub joins : p.name.from ≡ slice_index ends p.name.gauge

@@ -22,6 +22,7 @@ ghost use Rattle.store_head.specs.Head.{see_head, empty_store};
 ghost use Rattle.segment_store.specs.Beginning.{InInit, RefusesFull, Unwrites, InitRose};
 ghost use Rattle.segment_store.specs.Image.{Reads, nothing_held};
 ghost use Rattle.segment_store.specs.Quiet.{IsQuiet};
+ghost use Rattle.calibration.specs.declared.limits.TheConstants.{MAX_GAUGES};
 
 use crate::fault::InitFault;
 use crate::writing::write_synced;
@@ -53,7 +54,7 @@ fn write_store<K: Station>(station: &mut K, bytes: &[u8]) -> Result<(), Failed>
 /// byte, then the head and a closed gate, then the open ready byte, and syncs after each. After a
 /// stop inside it the file is removed, and the store made again.
 pub fn init<K: Station>(alloc: Global, station: &mut K, head: &StoreHead) -> Result<(), InitFault>
-    requires few { length head.now.setup.gains ≤ 32 }
+    requires few { length head.now.setup.gains ≤ MAX_GAUGES }
     requires heads { length head.now.heads ≡ length head.now.setup.gains }
     // With Ok every image is the empty store, which reads with this head and no bodies.
     ensures made { K.tells → OnOk result

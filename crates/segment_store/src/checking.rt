@@ -22,6 +22,7 @@ ghost use Rattle.segment_bytes.specs.declared.layout.Layout.TheVariants.{One};
 ghost use Rattle.calibration.specs.Grid.{IsGrid};
 ghost use Rattle.segment_store.specs.Held.{ends_of};
 ghost use Rattle.segment_store.specs.Resuming.{Checks, Told, StopsAs, IsNotDisk};
+ghost use Rattle.segment_bytes.specs.declared.layout.TheConstants.{MAX_CLASSES_ONE};
 
 use crate::damage::{Damage, Stop};
 use crate::held::Held;
@@ -66,7 +67,7 @@ pub(crate) fn check(
     kept: [u8; 32],
     found: [u8; 32],
 ) -> Result<Segment, Stop>
-    requires narrow { layout ≡ One → setup.now.grid.classes ≤ 128 }
+    requires narrow { layout ≡ One → setup.now.grid.classes ≤ MAX_CLASSES_ONE }
     requires gauges { length held.now ≡ length setup.now.gains }
     ensures checks { Told parts_of
         (Checks layout setup.now (ends_of held.now) bytes.now kept found) result }

@@ -23,6 +23,7 @@ ghost use Rattle.segment_bytes.specs.Grammar.{body_of};
 ghost use Rattle.segment_bytes.specs.Sizes.{max_body, max_body_of};
 ghost use Rattle.segment_bytes.specs.declared.layout.Layout.TheVariants.{One};
 ghost use Rattle.segment_store.specs.Image.{signed, stored};
+ghost use Rattle.segment_bytes.specs.declared.layout.TheConstants.{MAX_CLASSES_ONE};
 
 use segment::Segment;
 use segment_bytes::{Layout, encode};
@@ -43,7 +44,7 @@ fn seal(buf: &mut [u8], n: usize) -> usize
 
 // Writes the length of a body and the body.
 fn sign(layout: Layout, buf: &mut [u8], segment: &Segment) -> usize
-    requires narrow { layout ≡ One → segment.now.grid.classes ≤ 128 }
+    requires narrow { layout ≡ One → segment.now.grid.classes ≤ MAX_CLASSES_ONE }
     requires room { 4 + max_body layout segment.now.grid.classes ≤ length buf.old }
     ensures signed { take result buf.new ≡ signed (body_of layout (parts_of segment.now)) }
     ensures len { result ≡ 4 + length (body_of layout (parts_of segment.now)) }
@@ -61,7 +62,7 @@ fn sign(layout: Layout, buf: &mut [u8], segment: &Segment) -> usize
 
 // Writes what stands behind the gate of a body, and the next gate, closed.
 fn fill(layout: Layout, buf: &mut [u8], segment: &Segment) -> usize
-    requires narrow { layout ≡ One → segment.now.grid.classes ≤ 128 }
+    requires narrow { layout ≡ One → segment.now.grid.classes ≤ MAX_CLASSES_ONE }
     requires room { 37 + max_body layout segment.now.grid.classes ≤ length buf.old }
     ensures filled { take result buf.new ≡
         stored (body_of layout (parts_of segment.now)) ++ 0 ∷ [] }
@@ -76,7 +77,7 @@ fn fill(layout: Layout, buf: &mut [u8], segment: &Segment) -> usize
 
 // The same in a `Vec`.
 pub(crate) fn stage(layout: Layout, buf: &mut Vec<u8>, segment: &Segment) -> usize
-    requires narrow { layout ≡ One → segment.now.grid.classes ≤ 128 }
+    requires narrow { layout ≡ One → segment.now.grid.classes ≤ MAX_CLASSES_ONE }
     requires room { 37 + max_body layout segment.now.grid.classes ≤ vec_len buf.old }
     ensures filled { take result buf.new.items ≡
         stored (body_of layout (parts_of segment.now)) ++ 0 ∷ [] }

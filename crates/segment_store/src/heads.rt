@@ -27,8 +27,10 @@ ghost use Rattle.store_head.specs.Judging.{
   gauge_at,
   layout_in,
 };
-ghost use Rattle.segment_store.specs.Opening.{Judges, DiskRose, refused as refused_as};
+ghost use Rattle.segment_store.specs.Opening.{IsHeadAnswer, DiskRose, refused as refused_as};
 ghost use Rattle.segment_store.specs.Quiet.{IsQuiet};
+ghost use Rattle.calibration.specs.declared.limits.TheConstants.{MAX_GAUGES};
+ghost use Rattle.segment_bytes.specs.declared.layout.TheConstants.{MAX_CLASSES_ONE};
 
 use crate::fault::ResumeFault;
 use calibration::{Gain, Gains, Setup};
@@ -62,13 +64,13 @@ pub(crate) fn check_front<K: Station>(
     setup: &Setup,
     size: u64,
 ) -> Result<Layout, ResumeFault>
-    requires few { length setup.now.gains ≤ 32 }
+    requires few { length setup.now.gains ≤ MAX_GAUGES }
     requires size { K.tells → size ≡ length (K.seen station.old) }
-    ensures judges { K.tells → Judges result (start_fault setup.now (K.seen station.old)) }
+    ensures answer { K.tells → IsHeadAnswer result (start_fault setup.now (K.seen station.old)) }
     ensures front { K.tells → IfOk result (λ l.
         slice_range (K.seen station.old) 0 22 ≡ front l setup.now) }
     ensures layout { K.tells → IfOk result (λ l. l ≡ layout_in (K.seen station.old)) }
-    ensures narrow { IfOk result (λ l. l ≡ One → setup.now.grid.classes ≤ 128) }
+    ensures narrow { IfOk result (λ l. l ≡ One → setup.now.grid.classes ≤ MAX_CLASSES_ONE) }
     ensures size { IfOk result (λ l. 23 + 40 * length setup.now.gains ≤ size) }
     ensures disk { DiskRose (K.faults station.old) (K.faults station.new) result }
     ensures later { K.faults station.old ≤ K.faults station.new }
@@ -90,8 +92,8 @@ pub(crate) fn check_front<K: Station>(
 
 // Reads the bytes of a gauge, and compares them with its gain.
 fn read_gauge<K: Station>(station: &mut K, gauge: u16, gain: &Gain) -> Result<Head, ResumeFault>
-    requires few { gauge < 32 }
-    ensures judges { K.tells → Judges result
+    requires few { gauge < MAX_GAUGES }
+    ensures answer { K.tells → IsHeadAnswer result
         (gauge_fault_in gauge gain.now (gauge_at gauge (K.seen station.old))) }
     ensures bytes { K.tells → IfOk result (λ h.
         gauge_at gauge (K.seen station.old) ≡ gauge_bytes h gain.now) }
@@ -119,8 +121,8 @@ pub(crate) fn read_gauges<K: Station>(
     station: &mut K,
     setup: &Setup,
 ) -> Result<StoreHead, ResumeFault>
-    requires few { length setup.now.gains ≤ 32 }
-    ensures judges { K.tells → Judges result
+    requires few { length setup.now.gains ≤ MAX_GAUGES }
+    ensures answer { K.tells → IsHeadAnswer result
         (gauges_fault 0 setup.now.gains (K.seen station.old)) }
     ensures bytes { K.tells → IfOk result (λ h.
         slice_range (K.seen station.old) 22 (22 + 40 * length setup.now.gains)

@@ -26,7 +26,7 @@ ghost use Rattle.segment_store.specs.Moments.{IsOn};
 ghost use Rattle.segment_store.specs.Opening.{
   fault_is,
   DiskRose,
-  Judges,
+  IsHeadAnswer,
   WalksAs,
   Resumes,
   IsUnharmed,
@@ -34,6 +34,8 @@ ghost use Rattle.segment_store.specs.Opening.{
 ghost use Rattle.segment_store.specs.Quiet.{IsQuiet};
 ghost use Rattle.segment_store.specs.Reading.{StartsAt, IsFound};
 ghost use Rattle.segment_store.specs.declared.putting.State.{State as StateIs};
+ghost use Rattle.calibration.specs.declared.limits.TheConstants.{MAX_GAUGES};
+ghost use Rattle.segment_bytes.specs.declared.layout.TheConstants.{MAX_CLASSES_ONE};
 
 use crate::damage::Stop;
 use crate::fault::ResumeFault;
@@ -65,9 +67,9 @@ fn read_head<K: Station>(
     setup: &Setup,
     size: u64,
 ) -> Result<(Layout, StoreHead), ResumeFault>
-    requires few { length setup.now.gains ≤ 32 }
+    requires few { length setup.now.gains ≤ MAX_GAUGES }
     requires size { K.tells → size ≡ length (K.seen station.old) }
-    ensures judges { K.tells → Judges result (head_fault setup.now (K.seen station.old)) }
+    ensures answer { K.tells → IsHeadAnswer result (head_fault setup.now (K.seen station.old)) }
     ensures bytes { K.tells → IfOk result (λ x.
         take (start_of setup.now) (K.seen station.old) ≡ head_of (see_head x.0 x.1)) }
     ensures layout { K.tells → IfOk result (λ x. x.0 ≡ layout_in (K.seen station.old)) }
@@ -96,8 +98,8 @@ fn open_bodies<K: Station>(
     head: StoreHead,
     size: u64,
 ) -> Result<State, ResumeFault>
-    requires narrow { layout ≡ One → head.setup.grid.classes ≤ 128 }
-    requires few { length head.setup.gains ≤ 32 }
+    requires narrow { layout ≡ One → head.setup.grid.classes ≤ MAX_CLASSES_ONE }
+    requires few { length head.setup.gains ≤ MAX_GAUGES }
     requires size { K.tells → size ≡ length (K.seen station.old) }
     requires start { start_of head.setup < size }
     ensures walks { K.tells → WalksAs layout head.setup
@@ -157,7 +159,7 @@ pub(crate) fn open<K: Station>(
     station: &mut K,
     setup: &Setup,
 ) -> Result<State, ResumeFault>
-    requires few { length setup.now.gains ≤ 32 }
+    requires few { length setup.now.gains ≤ MAX_GAUGES }
     ensures answer { K.tells → Resumes setup.now (K.seen station.old)
         (λ (s : StateIs). (s.place, ends_of s.held)) result }
     ensures on { K.tells → IfOk result (λ s. (bodies : List PartsValue)

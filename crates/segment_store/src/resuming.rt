@@ -25,6 +25,7 @@ ghost use Rattle.segment_store.specs.Resuming.{Finds, Told, Walks, Ends, length_
 ghost use Rattle.segment_store.specs.Reading.{StartsAt, NoDamage, IsFound};
 ghost use Rattle.segment_store.specs.Places.{IsStep, IsNear};
 ghost use Rattle.std.specs.Int.{w32, to_be_bytes, from_be_bytes};
+ghost use Rattle.segment_bytes.specs.declared.layout.TheConstants.{MAX_CLASSES_ONE};
 
 use crate::checking::{check, digest_of};
 use crate::damage::{Damage, Stop};
@@ -57,7 +58,7 @@ fn next_body<K: Station>(
     at: u64,
     buf: &mut [u8],
 ) -> Result<(Segment, u64), Stop>
-    requires narrow { layout ≡ One → setup.now.grid.classes ≤ 128 }
+    requires narrow { layout ≡ One → setup.now.grid.classes ≤ MAX_CLASSES_ONE }
     requires gauges { length held.now ≡ length setup.now.gains }
     requires size { K.tells → size ≡ length (K.seen station.old) }
     requires at { at ≤ size }
@@ -115,7 +116,7 @@ pub(crate) fn walk<K: Station>(
     start: u64,
     buf: &mut [u8],
 ) -> Result<(u64, u64), (u64, Stop)>
-    requires narrow { layout ≡ One → setup.now.grid.classes ≤ 128 }
+    requires narrow { layout ≡ One → setup.now.grid.classes ≤ MAX_CLASSES_ONE }
     requires gauges { length held.old ≡ length setup.now.gains }
     requires empty { AreHeld setup.now.grid [] held.old }
     requires size { K.tells → size ≡ length (K.seen station.old) }
@@ -160,7 +161,7 @@ fn walk_from<K: Station>(
     start: u64,
     buf: &mut [u8],
 ) -> Result<(u64, u64), (u64, Stop)>
-    requires narrow { layout ≡ One → setup.now.grid.classes ≤ 128 }
+    requires narrow { layout ≡ One → setup.now.grid.classes ≤ MAX_CLASSES_ONE }
     requires gauges { length held.old ≡ length setup.now.gains }
     requires empty { AreHeld setup.now.grid [] held.old }
     requires size { K.tells → size ≡ length (K.seen station.old) }

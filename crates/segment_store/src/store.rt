@@ -32,6 +32,7 @@ ghost use Rattle.segment_store.specs.Opening.{DiskRose, Resumes, IsUnharmed};
 ghost use Rattle.segment_store.specs.Putting.{Refuses, Unwritten};
 ghost use Rattle.segment_store.specs.Quiet.{IsQuiet};
 ghost use Rattle.segment_store.specs.declared.fault.PutFault.TheVariants.{DiskFault, Shut};
+ghost use Rattle.calibration.specs.declared.limits.TheConstants.{MAX_GAUGES};
 
 use crate::fault::{PutFault, ResumeFault};
 use crate::opening::open;
@@ -69,7 +70,7 @@ impl Store {
         station: &mut K,
         setup: &Setup,
     ) -> Result<Store, ResumeFault>
-        requires few { length setup.now.gains ≤ 32 }
+        requires few { length setup.now.gains ≤ MAX_GAUGES }
         // With Ok the store is on its station, with the bodies joined.
         ensures on { K.tells → IfOk result (λ s.
             IsThere s (K.seen station.new) (K.leaves station.new)) }

@@ -1,5 +1,6 @@
-use crate::stores::{NEXT, Part, held, stored};
+use crate::stores::{NEXT, Part, WHOLE, held, stored, stored_in};
 use segment::JoinRefusal;
+use segment_bytes::BytesFault;
 use segment_store::{Damage, ResumeFault};
 use std::alloc::Global;
 use std::process::Abort;
@@ -39,6 +40,20 @@ fn a_store_is_cut_or_padded(rt: HostRuntime) -> Result<(), Fail> {
     }
     for size in [258, 300] {
         assert_eq!(rt; sized(&rt, rt.alloc(), size)?, Ok(4), "{size} bytes");
+    }
+    Ok(())
+}
+
+// The closed gate behind the only body is not there.
+#[test]
+fn a_store_is_cut_by_a_byte(rt: HostRuntime) -> Result<(), Fail> {
+    for version in 1..3u8 {
+        for (part, size) in [(FOUR, 257), (WHOLE, 407u64)] {
+            let mut bytes = stored_in(&rt, rt.alloc(), version, &[part])?;
+            assert_eq!(rt; bytes.len() as u64, size + 1, "version {version}");
+            bytes.truncate(size as usize);
+            assert_eq!(rt; held(rt.alloc(), bytes)?, damaged(0, Damage::Cut { size }));
+        }
     }
     Ok(())
 }
@@ -100,20 +115,22 @@ fn a_body_is_of_another_gauge(rt: HostRuntime) -> Result<(), Fail> {
     Ok(())
 }
 
+// Behind the residue, at byte 64, the body in rows has `0001 0008 0001 000d` and so on. As cells
+// these are 65,544 of 12 bytes from byte 68 on, of which the eighth ends at byte 164. The body in
+// cells has `00000001 0008 000d` there. As rows these are none, then one crossing, one peak, two
+// valleys and 12 ranges of 10 bytes from byte 114 on, of which the fifth ends at byte 164 too.
 #[test]
 fn a_body_is_of_another_layout(rt: HostRuntime) -> Result<(), Fail> {
-    let mut bytes = stored(&rt, rt.alloc(), 1, &[FOUR])?;
-    assert!(rt; bytes.len() > 5);
-    bytes[5] = 1;
-    let answer = held(rt.alloc(), bytes)?;
-    assert!(rt;
-        matches!(
-            answer,
-            Err(ResumeFault::Damaged {
-                index: 0,
-                damage: Damage::Bytes(_)
-            })
-        )
-    );
+    let short = Damage::Bytes(BytesFault::Short {
+        need: 164,
+        have: 158,
+    });
+    for version in 1..3u8 {
+        let mut bytes = stored_in(&rt, rt.alloc(), version, &[FOUR])?;
+        assert!(rt; bytes.len() > 5);
+        bytes[5] = 3 - version;
+        let answer = held(rt.alloc(), bytes)?;
+        assert_eq!(rt; answer, damaged(0, short), "version {version}");
+    }
     Ok(())
 }

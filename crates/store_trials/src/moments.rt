@@ -1,8 +1,10 @@
 ghost use Rattle.std.specs.Prelude.{◌≤◌};
 
 use crate::stores::{
-    FIRST, NEXT, Refusal, held, image, made, made_in, put, put_after_a_failure, setup, stored,
+    FIRST, NEXT, Refusal, WHOLE, assert_whole, held, image, made, made_in, put,
+    put_after_a_failure, setup, stored, stored_in,
 };
+use segment_bytes::Layout;
 use segment_store::{PutFault, ResumeFault, Store};
 use station::{MomentStation, Torn};
 use std::alloc::Global;
@@ -47,6 +49,15 @@ fn every_moment_of_making(rt: HostRuntime) -> Result<(), Fail> {
     Ok(())
 }
 
+#[test]
+fn a_store_has_the_layout_of_its_version(rt: HostRuntime) -> Result<(), Fail> {
+    for (version, layout) in [(1, Layout::One), (2u8, Layout::Two)] {
+        let bytes = stored_in(&rt, rt.alloc(), version, &[WHOLE])?;
+        assert_whole(&rt, rt.alloc(), bytes, layout)?;
+    }
+    Ok(())
+}
+
 // A store of this version with the first part, into which the next one is put.
 fn with_next(rt: &impl Abort, alloc: Global, version: u8) -> Result<MomentStation, Fail> {
     let mut station = made_in(rt, alloc, version)?;
@@ -77,6 +88,35 @@ fn every_moment_of_a_put(rt: HostRuntime) -> Result<(), Fail> {
                 let bytes = station.crash(alloc, station.calls() - left, torn)?;
                 assert_eq!(rt; held(alloc, bytes)?, Ok(end), "{left} calls before the end");
             }
+        }
+    }
+    Ok(())
+}
+
+// A put was stopped between its first sync and the opening of the gate, and is made again over what
+// the stop left.
+fn put_after_a_stop(
+    rt: &impl Abort,
+    alloc: Global,
+    stopped: &MomentStation,
+    torn: Torn,
+) -> Result<Vec<u8>, Fail> {
+    assert!(rt; stopped.calls() >= 2);
+    let left = stopped.crash(alloc, stopped.calls() - 2, torn)?;
+    let mut station = MomentStation::new(alloc, left, Vec::new(alloc));
+    put(rt, alloc, 1, &mut station, NEXT)??;
+    image(alloc, &station)
+}
+
+#[test]
+fn a_stopped_put_is_made_again(rt: HostRuntime) -> Result<(), Fail> {
+    let alloc = rt.alloc();
+    for (version, layout) in [(1, Layout::One), (2u8, Layout::Two)] {
+        let station = with_next(&rt, alloc, version)?;
+        for torn in TEARS {
+            let bytes = put_after_a_stop(&rt, alloc, &station, torn)?;
+            assert!(rt; bytes.len() > 5 && bytes[5] == version);
+            assert_whole(&rt, alloc, bytes, layout)?;
         }
     }
     Ok(())

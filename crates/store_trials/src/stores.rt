@@ -3,6 +3,7 @@ ghost use Rattle.std.specs.Prelude.{◌≡◌, ◌<◌, ◌≤◌, length, IfOk}
 use calibration::{Gain, Gains, Grid, Setup};
 use recording::{Head, MAX_SAMPLES};
 use segment::Segment;
+use segment_bytes::Layout;
 use segment_store::{Heads, PutFault, ResumeFault, Store, StoreHead, init};
 use station::{MomentStation, Torn};
 use std::alloc::Global;
@@ -227,6 +228,20 @@ pub fn stored(
     image(alloc, &station)
 }
 
+/// The bytes of a store of one gauge and this version with these parts.
+pub fn stored_in(
+    rt: &impl Abort,
+    alloc: Global,
+    version: u8,
+    parts: &[Part],
+) -> Result<Vec<u8>, Fail> {
+    let mut station = made_in(rt, alloc, version)?;
+    for part in parts {
+        put(rt, alloc, 1, &mut station, *part)??;
+    }
+    image(alloc, &station)
+}
+
 /// Up to where gauge 0 is held in the store with these bytes, or why it is not resumed.
 pub fn held(alloc: Global, bytes: Vec<u8>) -> Result<Result<u64, ResumeFault>, Fail> {
     let setup = setup(alloc, 1)?;
@@ -235,4 +250,23 @@ pub fn held(alloc: Global, bytes: Vec<u8>) -> Result<Result<u64, ResumeFault>, F
         Ok(store) => Ok(Ok(store.held(0).name().to)),
         Err(fault) => Ok(Err(fault)),
     }
+}
+
+/// Asserts that the store with these bytes holds the standard's example, in bodies of this layout.
+pub fn assert_whole(
+    rt: &impl Abort,
+    alloc: Global,
+    bytes: Vec<u8>,
+    layout: Layout,
+) -> Result<(), Fail> {
+    let setup = setup(alloc, 1)?;
+    let mut station = MomentStation::new(alloc, bytes, Vec::new(alloc));
+    let store = Store::resume(alloc, &mut station, &setup)?;
+    assert_eq!(rt; store.layout(), layout);
+    let held = store.held(0);
+    let name = held.name();
+    assert_eq!(rt; (name.from, name.to, held.used()), (0, 9, 9));
+    assert_eq!(rt; held.residue(), [6, 9, 5, 13, 4, 12, 6].as_slice());
+    assert_eq!(rt; held.cycles(7, 11), 1);
+    Ok(())
 }

@@ -1,4 +1,4 @@
-use crate::stores::{WHOLE, held, image, made_in, put};
+use crate::stores::{WHOLE, held, stored_in};
 use segment_store::{Damage, Field, ResumeFault};
 use sha2::{Digest, Sha256};
 use std::alloc::Global;
@@ -7,10 +7,8 @@ use std::test::Fail;
 
 // The bytes of a store of this version that holds the standard's example: the head, a gate, the
 // length 308, the body, its digest from 375 on, and a closed gate.
-fn stored_in(rt: &impl Abort, alloc: Global, version: u8) -> Result<Vec<u8>, Fail> {
-    let mut station = made_in(rt, alloc, version)?;
-    put(rt, alloc, 1, &mut station, WHOLE)??;
-    let bytes = image(alloc, &station)?;
+fn stored_whole(rt: &impl Abort, alloc: Global, version: u8) -> Result<Vec<u8>, Fail> {
+    let bytes = stored_in(rt, alloc, version, &[WHOLE])?;
     assert_eq!(rt; bytes.len(), 408);
     Ok(bytes)
 }
@@ -112,7 +110,7 @@ fn turned(rt: &impl Abort, alloc: Global, store: &[u8], place: usize) -> Result<
 fn each_byte_of_a_store_is_turned(rt: HostRuntime) -> Result<(), Fail> {
     let alloc = rt.alloc();
     for version in 1..3u8 {
-        let store = stored_in(&rt, alloc, version)?;
+        let store = stored_whole(&rt, alloc, version)?;
         for place in 0..408usize {
             let bytes = turned(&rt, alloc, &store, place)?;
             let answer = due(&rt, version, place, &bytes);

@@ -1,4 +1,4 @@
-use Rattle.std.proofs.Common.{◌+◌, ◌-◌, ◌++◌, ◌∙◌, length, map, take, refl, sym, ap, arith, length-append}
+use Rattle.std.proofs.Common.{◌+◌, ◌++◌, length, map, take, refl, ap, arith, length-append}
 use Rattle.std.specs.List.{flat_map}
 use Rattle.std.proofs.lemmas.List.{length-map}
 use Rattle.calibration.specs.Grid.{GridValue}

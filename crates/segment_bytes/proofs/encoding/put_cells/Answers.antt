@@ -1,7 +1,8 @@
-use Rattle.std.proofs.Common.{◌≡◌, ◌+◌, ◌-◌, ◌/◌, ◌^◌, ◌<◌, ◌++◌, ◌∙◌, drop, length, take, refl, sym, ap, subst, arith}
+use Rattle.std.proofs.Common.{◌≡◌, ◌+◌, ◌-◌, ◌/◌, ◌^◌, ◌<◌, ◌++◌, ◌∙◌, drop, length, take, refl, ap, arith}
 use Rattle.std.specs.Int.{w32, to_be_bytes}
 use Rattle.std.specs.List.{flat_map}
 use Rattle.std.proofs.lemmas.Nat.{mul-le}
+use Rattle.calibration.specs.declared.grid.TheConstants.{MAX_CLASSES}
 use Rattle.segment_rules.proofs.Sizes.{is_small}
 use Rattle.segment.specs.Parts.{parts_of}
 use Rattle.segment_bytes.specs.Grammar.{cell}
@@ -22,8 +23,8 @@ overflow_cast-end c =
       s.points,
       c.grid-grid.ensures.rules.span,
       s.cells,
-      mul-le c.args.seg.now.grid.classes c.args.seg.now.grid.classes 1024 1024 c.grid-grid.ensures.rules.over.limits.classes_to
-          c.grid-grid.ensures.rules.over.limits.classes_to,
+      mul-le c.args.seg.now.grid.classes c.args.seg.now.grid.classes MAX_CLASSES MAX_CLASSES
+          c.grid-grid.ensures.rules.over.limits.classes_to c.grid-grid.ensures.rules.over.limits.classes_to,
     ) in
     record { fits = n }
 

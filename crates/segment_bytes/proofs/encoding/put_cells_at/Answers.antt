@@ -1,9 +1,9 @@
 use Rattle.std.proofs.Common.{length, length-take-le, map, subst, ap, arith}
 use Rattle.std.specs.List.{flat_map}
 use Rattle.calibration.specs.Grid.{GridValue}
-use Rattle.segment_bytes.specs.Grammar.{cell, row}
+use Rattle.segment_bytes.specs.Grammar.{cell}
 use Rattle.segment_bytes.specs.Rows.{cell_in}
-use Rattle.segment_bytes.specs.Writing.{Puts, row_of}
+use Rattle.segment_bytes.specs.Writing.{Puts}
 use Rattle.segment_bytes.proofs.Encoded.{row_is}
 use Rattle.segment_bytes.proofs.encoding.put_cells_at.Goals as goal
 

@@ -1,4 +1,4 @@
-use Rattle.std.proofs.Common.{◌+◌, ◌++◌, ◌∙◌, drop, length, take, refl, sym, ap, subst, arith}
+use Rattle.std.proofs.Common.{◌+◌, ◌++◌, ◌∙◌, drop, length, take, refl, ap, arith}
 use Rattle.std.specs.Int.{w16, to_be_bytes}
 use Rattle.std.specs.List.{flat_map}
 use Rattle.segment_bytes.specs.Grammar.{row}

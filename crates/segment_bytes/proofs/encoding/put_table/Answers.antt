@@ -1,4 +1,4 @@
-use Rattle.std.proofs.Common.{◌∙◌, length, length-take-le, subst, ap, arith}
+use Rattle.std.proofs.Common.{length, length-take-le, subst, ap, arith}
 use Rattle.std.specs.Int.{w16}
 use Rattle.segment_bytes.specs.Fields.{listed}
 use Rattle.segment_bytes.specs.Grammar.{bin}

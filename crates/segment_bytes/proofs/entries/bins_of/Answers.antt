@@ -7,7 +7,7 @@ use Rattle.segment_bytes.proofs.entries.bins_of.Goals as goal
 
 pub returns-in_err-bin-clause-reads : goal.returns-in_err-bin-clause-reads
 returns-in_err-bin-clause-reads c =
-    let p = err_from_is_err_and c.from_residual.result c.from_residual.ensures.1 in
+    let p = err_from_is_err_and c.from_residual-in_err-bin.result c.from_residual-in_err-bin.ensures.1 in
     rw (p.1, p.2) (ends (bin_at) c.args.have c.in_err-bin.field-0.0 c.loop.bins.items c.args.count c.loop.counter c.loop.rest.now
     (times (bin_at) c.args.count c.args.have c.args.bytes.now) c.loop-test.true c.in_err-bin.ensures.reads c.loop.invariant.so_far)
 

@@ -7,7 +7,7 @@ use Rattle.segment_bytes.proofs.entries.cells_of.Goals as goal
 
 pub returns-in_err-cell-clause-reads : goal.returns-in_err-cell-clause-reads
 returns-in_err-cell-clause-reads c =
-    let p = err_from_is_err_and c.from_residual.result c.from_residual.ensures.1 in
+    let p = err_from_is_err_and c.from_residual-in_err-cell.result c.from_residual-in_err-cell.ensures.1 in
     rw (p.1, p.2) (ends (cell_at) c.args.have c.in_err-cell.field-0.0 c.loop.cells.items c.args.count c.loop.counter c.loop.rest.now
     (times (cell_at) c.args.count c.args.have c.args.bytes.now) c.loop-test.true c.in_err-cell.ensures.reads c.loop.invariant.so_far)
 

@@ -8,7 +8,7 @@ use Rattle.segment_bytes.proofs.entries.levels_of.Goals as goal
 
 pub returns-in_err-level-clause-reads : goal.returns-in_err-level-clause-reads
 returns-in_err-level-clause-reads c =
-    let p = err_from_is_err_and c.from_residual.result c.from_residual.ensures.1 in
+    let p = err_from_is_err_and c.from_residual-in_err-level.result c.from_residual-in_err-level.ensures.1 in
     rw (p.1, p.2) (ends (number_at w16) c.args.have c.in_err-level.field-0.0 c.loop.levels.items c.args.count c.loop.counter
     c.loop.rest.now (times (number_at w16) c.args.count c.args.have c.args.bytes.now) c.loop-test.true c.in_err-level.ensures.reads
     c.loop.invariant.so_far)

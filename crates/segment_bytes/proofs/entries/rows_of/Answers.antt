@@ -9,7 +9,7 @@ use Rattle.segment_bytes.proofs.entries.rows_of.Goals as goal
 
 pub returns-in_err-row-clause-reads : goal.returns-in_err-row-clause-reads
 returns-in_err-row-clause-reads c =
-    let p = err_from_is_err_and c.from_residual.result c.from_residual.ensures.1 in
+    let p = err_from_is_err_and c.from_residual-in_err-row.result c.from_residual-in_err-row.ensures.1 in
     rw (p.1, p.2) (ends row_at c.args.have c.in_err-row.field-0.0
     (see_rows c.loop.rows.items) c.args.count c.loop.counter c.loop.rest.now
     (times row_at c.args.count c.args.have c.args.bytes.now) c.loop-test.true c.in_err-row.ensures.reads c.loop.invariant.so_far)

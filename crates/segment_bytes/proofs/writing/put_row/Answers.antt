@@ -5,5 +5,5 @@ use Rattle.segment_bytes.proofs.writing.put_row.Goals as goal
 
 pub put_list-requires-clause-room : goal.put_list-requires-clause-room
 put_list-requires-clause-room c =
-    let n = row_bytes c.args.lo (bins_of (c.args.lo + 1) c.args.counts.now) (omega (arith, c.entries.ensures, c.if-entries-eq0.false)) in
+    let n = row_bytes c.args.lo (bins_of (c.args.lo + 1) c.args.counts.now) (c.has_entry.ensures.some c.if-not-has_entry.false) in
     omega (arith, n, c.requires.room, c.put_u16-at.ensures.next_is, c.put_u16-at.auto.buf)

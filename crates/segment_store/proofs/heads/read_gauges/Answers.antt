@@ -35,7 +35,7 @@ loop-gain-preserved g c =
           let image = k.seen c.args.station.now in
           let same = (v.quiet tells).seen_same in
           let none : gauge_fault c.loop-gain.gauge x (gauge_at c.loop-gain.gauge image) ≡ None =
-          ap (λ s. gauge_fault c.loop-gain.gauge x (gauge_at c.loop-gain.gauge s)) (sym same) ∙ c.in_ok-head.ensures.judges tells in
+          ap (λ s. gauge_fault c.loop-gain.gauge x (gauge_at c.loop-gain.gauge s)) (sym same) ∙ c.in_ok-head.ensures.answer tells in
           sym (fault_next c.loop-gain.gauge x gains i image here none) ∙ v.fault tells;
       bytes = λ tells.
           let image = k.seen c.args.station.now in

@@ -28,7 +28,7 @@ returns-in-Err-clause-unharmed g c tells head bodies ends same reads =
     let none : head_fault s image ≡ None =
     ap (λ v. head_fault v image) (sym same) ∙ ap (head_fault head.setup) seen2
     ∙ never head bodies ends (k.seen c.args.station.now) reads in
-    never_err State (Layout × StoreHead) s image c.in-Err.fault (c.in-Err.ensures.judges tells) none
+    never_err State (Layout × StoreHead) s image c.in-Err.fault (c.in-Err.ensures.answer tells) none
 
 pub returns-in-Ok-clause-quiet : goal.returns-in-Ok-clause-quiet
 returns-in-Ok-clause-quiet g c tells =
