@@ -4,6 +4,7 @@ use Rattle.std.proofs.lemmas.List.{append-nil}
 use Rattle.std.proofs.lemmas.List.Elements.{filter-append}
 use Rattle.std.proofs.lemmas.Bool.{cases_eq, cases_lt, eq-eqb, ne_eqb, lt-ltb, le-ltb}
 use Rattle.std.proofs.Math.Nat.{mul-div_cancel, mul-le-mul_right}
+use Rattle.std.proofs.Math.Bool.{and-false}
 use Rattle.segment_rules.specs.declared.name.Name.{Name}
 use Rattle.flow.specs.Flow.{Flow, Event, named, changed, changed_at, next, worker_of_next, Allowed, after, run, AllAllowed}
 use Rattle.flow.specs.Flow.Event.{Feed, Count, Deposit, Commit, Stop}
@@ -34,12 +35,8 @@ module _ (block workers : ℕ) (r : Round) where
   pub test_gauge : (a g b v : ℕ) → (a ≡ g → ⊥) → (eqb a g && eqb b v) ≡ false
   test_gauge a g b v e = ap (λ t. t && eqb b v) (ne_eqb a g e)
 
-  and_false : (t : Bool) → (t && false) ≡ false
-  and_false true = refl
-  and_false false = refl
-
   pub test_worker : (a g b v : ℕ) → (b ≡ v → ⊥) → (eqb a g && eqb b v) ≡ false
-  test_worker a g b v e = ap (λ t. eqb a g && t) (ne_eqb b v e) ∙ and_false (eqb a g)
+  test_worker a g b v e = ap (λ t. eqb a g && t) (ne_eqb b v e) ∙ and-false (eqb a g)
 
   all_pass : (g v : ℕ) (l : List Name) → Every (λ n. passes g v n ≡ true) l → through block workers r g v l ≡ l
   all_pass g v [] none = refl

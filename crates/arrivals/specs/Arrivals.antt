@@ -13,6 +13,7 @@ use Rattle.block_pool.specs.Units.{FilledValue}
 use Rattle.flow.specs.Flow.{Flow, Event, named, run, AllAllowed}
 use Rattle.flow.specs.Flow.Event.{Feed, Count, Deposit}
 use Rattle.flow.specs.Kept.{Every, Ascends}
+use Rattle.flow.specs.declared.TheConstants.{BLOCKS_PER_WINDOW}
 
 abbrev pub names_of : List FilledValue → List Name
 names_of [] = []
@@ -45,12 +46,12 @@ module _ (block workers : ℕ) (r : Round) where
   pub record AreArrivals (gauges : ℕ) (l : List Name) : Type 0 where
     pub known : Every (λ n. n.gauge < gauges) l
     -- each block once, and in order
-    pub through : (g v : ℕ) → g < gauges → v < workers → through g v l ≡ fed_to g v 16
+    pub through : (g v : ℕ) → g < gauges → v < workers → through g v l ≡ fed_to g v BLOCKS_PER_WINDOW
 
   -- a gauge is read from where it stood, at most 16 blocks
   pub record IsRound (gauges : ℕ) : Type 0 where
     pub at : (g : ℕ) → r.at g ≤ length (r.samples g)
-    pub few : (g : ℕ) → length (r.samples g) ≤ r.at g + 16 * block
+    pub few : (g : ℕ) → length (r.samples g) ≤ r.at g + BLOCKS_PER_WINDOW * block
     pub others : (g : ℕ) → gauges ≤ g → length (r.samples g) ≡ r.at g
 
   -- the run that begins with the round
@@ -72,7 +73,7 @@ module _ (block workers : ℕ) (r : Round) where
 
   abbrev pub feeds : ℕ → List Event
   feeds zero = []
-  feeds (suc g) = feeds g ++ feeds_of g 16
+  feeds (suc g) = feeds g ++ feeds_of g BLOCKS_PER_WINDOW
 
   -- then for each name its Count and its Deposit
   abbrev pub counts : List Name → List Event

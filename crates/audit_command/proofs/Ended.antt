@@ -2,7 +2,7 @@
 use Rattle.std.proofs.Common.{◌≡◌, ◌≢◌, ◌<◌, ◌≤◌, ◌⊎◌, inl, inr, ℕ, ℤ, List, [], length, take, get_or, refl, sym, ap, subst, ◌∙◌, arith}
 use Rattle.std.proofs.lemmas.Bool.{cases_lt}
 use Rattle.std.proofs.lemmas.List.{get_or_past}
-use Rattle.std.specs.Prelude.{slice_index, slice_index_or, Some, None, Result, Ok, Err}
+use Rattle.std.specs.Prelude.{slice_index, Result, Ok, Err}
 use Rattle.outside.specs.Site.{Files}
 use Rattle.station.specs.Station.{Image}
 use Rattle.recording.specs.declared.head.Head.{Head}
@@ -31,18 +31,18 @@ use Rattle.site_report.proofs.Printed.{short_name}
 use Rattle.fault_lines.specs.FaultLine.{fault_line, name_for}
 use Rattle.site_config.specs.declared.fault.ConfigFault.{ConfigFault}
 use Rattle.recorded.specs.Recorded.{recorded}
-use Rattle.site_lanes.specs.Answers.{AllOpened, FaultOf, OpenAnswers}
-use Rattle.site_lanes.specs.Opening.{fault_of}
+use Rattle.site_lanes.specs.Answers.{AllOpened, OpenAnswers}
+use Rattle.site_lanes.proofs.Opened.{not_both}
 use Rattle.status.specs.declared.status.RecordingFault.{RecordingFault}
 use Rattle.status.specs.declared.status.Status.{Status}
 use Rattle.status.specs.declared.status.Status.TheVariants.{Done, Usage, Config as BadConfig, Store as BadStore, Recording, Torn, ReadFault, WriteFault, DiskFault, OutOfMemory, TooLong, Differs}
 use Rattle.config_reading.specs.Reading.{MeansAs, IsRefusal}
 use Rattle.report_command.specs.Answers.{ReadsAs, store_status}
 use Rattle.report_command.specs.Printing.{IsPrinting}
-use Rattle.report_command.proofs.Ended.{by_refusal}
+use Rattle.config_reading.proofs.Refusing.{by_refusal}
 use Rattle.audit_command.specs.Recounted.{IsRecounting}
 use Rattle.audit_command.specs.Audited.{Meant, IsItem, HasKept, IsStanding, IsOther, AllSame, Finds, first_samples}
-use Rattle.audit_command.specs.Answers.{HeldAnswers, CountedAnswers, AnswersOver, AuditAnswers, IsSound, IsAuditing}
+use Rattle.audit_command.specs.Answers.{HeldAnswers, CountedAnswers, MayAnswerOver, AuditAnswers, IsSound, IsAuditing}
 use Rattle.audit_command.specs.Printing.{Prints}
 use Rattle.audit_command.proofs.Audits.{differ_clash, finds_by}
 
@@ -135,9 +135,9 @@ finds_of c heads meant ends files s is a =
 
 -- over a store that was read, by the setup of the configuration
 pub answers_over : (c : Config) (image : Image) (files : Files) (r : ReadsAs c.setup image) (s : Status) → IsAuditing s
-    → HeldAnswers c r.head.heads (HasKept r.bodies) r.ends files s → AnswersOver c image files s
+    → HeldAnswers c r.head.heads (HasKept r.bodies) r.ends files s → MayAnswerOver c image files s
 answers_over c image files r s is a =
-    let P : Status → Type 0 = λ x. HeldAnswers c r.head.heads (HasKept r.bodies) r.ends files x → AnswersOver c image files x in
+    let P : Status → Type 0 = λ x. HeldAnswers c r.head.heads (HasKept r.bodies) r.ends files x → MayAnswerOver c image files x in
     by_auditing P (λ b. (r, b)) (λ b. (r, b)) (by_recounting P (λ g f b. (r, b)) (λ b. (r, b)) (λ b. tt))
     (by_other P (λ g w x y b. (r, b))) s is a
 
@@ -183,7 +183,7 @@ module _ (s : StoreValue) (bodies : List PartsValue) (seen : Image) (leaves : Im
   }
 
 pub refused_answers : {X : Type 0} (c : Config) (image : Image) (files : Files) (see : X → ℕ × List ℕ) (f : ResumeFault)
-    → Resumes {X = X} c.setup image see (Err f) → AnswersOver c image files (store_status f)
+    → Resumes {X = X} c.setup image see (Err f) → MayAnswerOver c image files (store_status f)
 refused_answers c image files see fault.NotAStore h = (fault.NotAStore, refl, h)
 refused_answers c image files see (fault.Version v) h = (fault.Version v, refl, h)
 refused_answers c image files see (fault.Differs field kept found) h = (fault.Differs field kept found, refl, h)
@@ -198,20 +198,6 @@ refused_unprinted (fault.Differs field kept found) c old = refl
 refused_unprinted (fault.Damaged index damage) c old = refl
 refused_unprinted fault.DiskFault c old = refl
 refused_unprinted fault.OutOfMemory c old = refl
-
--- a recording is not at once sound and refused
-not_both : (c : Config) (heads : List Head) (n : ℕ → ℕ) (files : Files) (g : ℕ) (f : RecordingFault) → FaultOf c heads n files g None
-    → FaultOf c heads n files g (Some f) → ⊥
-not_both c heads n files g f sound faulty =
-    let any : Head = record { id = []; period_us = 0 } in
-    let same : sound.0 ≡ faulty.0 = some_same sound.0 faulty.0 (sym sound.1 ∙ faulty.1) in
-    clash f (sym (sound.2 any) ∙ (ap (fault_of (slice_index_or heads g any) (n g)) same ∙ faulty.2 any))
-  where
-    some_same : (a b : List ℕ) → Some a ≡ Some b → a ≡ b
-    some_same a b e = cc
-
-    clash : (f : RecordingFault) → None ≡ Some f → ⊥
-    clash f e = cc
 
 pub held_complete : (c : Config) (heads : List Head) (bodies : List PartsValue) (ends : List ℕ) (files : Files) (s : Status)
     → HeldAnswers c heads (HasKept bodies) ends files s → AllOpened c heads (slice_index ends) files (length c.gauges)
@@ -239,7 +225,7 @@ held_complete c heads bodies ends files (TooLong g) a opened same r w = absurd a
 
 -- an answer over a configuration that was read
 pub over_config : (conf : Result Config ConfigFault) (c : Config) (image : Image) (files : Files) → conf ≡ Ok c → (s : Status)
-    → AnswersOver c image files s → AuditAnswers conf image files s
+    → MayAnswerOver c image files s → AuditAnswers conf image files s
 over_config conf c image files is Done a = (c, is, a)
 over_config conf c image files is WriteFault a = (c, is, a)
 over_config conf c image files is (BadStore f) a = (c, is, a)

@@ -1,8 +1,7 @@
 -- What the recording of a gauge is refused for, by what opening it and counting its samples again answered.
-use Rattle.std.proofs.Common.{◌≡◌, ◌≤◌, ◌<◌, ◌+◌, ℕ, ℤ, List, inl, inr, length, take, refl, sym, ◌∙◌, ap, subst, arith}
-use Rattle.std.proofs.lemmas.Bool.{cases_lt}
+use Rattle.std.proofs.Common.{◌≡◌, ◌<◌, ℕ, ℤ, List, length, take, refl, sym, ◌∙◌, ap, subst, arith}
 use Rattle.std.proofs.lemmas.Bool.Decides.{nat_tests}
-use Rattle.std.proofs.lemmas.List.{get_or_default, length-take}
+use Rattle.std.proofs.lemmas.List.{length-take}
 use Rattle.std.specs.Prelude.{slice_index_or, Option, Some, None, Result, Ok, Err}
 use Rattle.outside.specs.Site.{Files}
 use Rattle.recording.specs.Head.{recording_head}
@@ -17,10 +16,11 @@ use Rattle.status.specs.declared.status.RecordingFault.{RecordingFault}
 use Rattle.status.specs.declared.status.RecordingFault.TheVariants.{Fewer}
 use Rattle.status.specs.declared.status.Status.{Status}
 use Rattle.status.specs.declared.status.Status.TheVariants as status
-use Rattle.site_lanes.specs.Answers.{FaultOf, GaugeAnswers, AllOpened, OpenAnswers}
-use Rattle.site_lanes.specs.Opening.{fault_by, fault_of, head_fault, IsBehind, Judged, status_of}
+use Rattle.site_lanes.specs.Answers.{FaultOf, GaugeAnswers}
+use Rattle.site_lanes.specs.Opening.{fault_by, fault_of, head_fault, IsBehind, IsOpeningAnswer, status_of}
 use Rattle.site_lanes.specs.declared.opening.OpenFault.{OpenFault}
 use Rattle.site_lanes.specs.declared.opening.OpenFault.TheVariants.{Recording, ReadFault}
+use Rattle.site_lanes.proofs.Opened.{gauge_fault, fault_by-none}
 use Rattle.audit_command.specs.Recounted.{SourceAnswers, recounted_status}
 
 none_held : (o : Option RecordingFault) (there : ℕ) → fault_by o 0 there ≡ None → o ≡ None
@@ -38,17 +38,14 @@ fewer_there : (o : Option RecordingFault) (held there : ℕ) → o ≡ None → 
 fewer_there (Some f) held there e lt = absurd cc
 fewer_there None held there e lt = grind (arith, nat_tests)
 
-enough_there : (o : Option RecordingFault) (held there : ℕ) → o ≡ None → held ≤ there → fault_by o held there ≡ None
-enough_there (Some f) held there e le = absurd cc
-enough_there None held there e le = grind (arith, nat_tests)
-
 -- a recording that was opened from its first sample on
 module _ (kept : Head) (held : ℕ) (file left : List ℕ) (g : ℕ) where
-  pub not_opened : (X : Type 0) (fault : OpenFault) (s : Status) → s ≡ status_of g fault → Judged (fault_of kept 0 file) (Err fault)
+  pub not_opened : (X : Type 0) (fault : OpenFault) (s : Status) → s ≡ status_of g fault
+      → IsOpeningAnswer (fault_of kept 0 file) (Err fault)
       → SourceAnswers {X = X} (fault_of kept held file) g (Err s)
-  not_opened X (Recording f) s is judged = subst (λ (x : Status). SourceAnswers {X = X} (fault_of kept held file) g (Err x)) (sym is)
-      (refl, some_held (head_fault (recording_head file) kept) held (length (samples (body_in (Some file)))) f judged)
-  not_opened X ReadFault s is judged = subst (λ (x : Status). SourceAnswers {X = X} (fault_of kept held file) g (Err x)) (sym is) tt
+  not_opened X (Recording f) s is opened = subst (λ (x : Status). SourceAnswers {X = X} (fault_of kept held file) g (Err x)) (sym is)
+      (refl, some_held (head_fault (recording_head file) kept) held (length (samples (body_in (Some file)))) f opened)
+  not_opened X ReadFault s is opened = subst (λ (x : Status). SourceAnswers {X = X} (fault_of kept held file) g (Err x)) (sym is) tt
 
   pub has_fewer : (there : ℕ) → fault_of kept 0 file ≡ None → IsBehind 0 (body_in (Some file)) left → there ≡ length (samples left)
       → there < held → fault_of kept held file ≡ Some (Fewer held there)
@@ -60,7 +57,7 @@ module _ (kept : Head) (held : ℕ) (file left : List ℕ) (g : ℕ) where
 
   pub has_enough : (w : List ℤ) → fault_of kept 0 file ≡ None → IsBehind 0 (body_in (Some file)) left → length w ≡ held
       → w ≡ take held (samples left) → fault_of kept held file ≡ None
-  has_enough w opened behind long is = enough_there (head_fault (recording_head file) kept) held (length (samples (body_in (Some file))))
+  has_enough w opened behind long is = fault_by-none (head_fault (recording_head file) kept) held (length (samples (body_in (Some file))))
       (none_held (head_fault (recording_head file) kept) (length (samples (body_in (Some file)))) opened)
       (omega (
         arith,
@@ -88,20 +85,13 @@ not_recounted X kept held file left g recount.OutOfMemory s is opened behind few
 module _ (conf : Config) (heads : List Head) (n : ℕ → ℕ) (files : Files) (g : ℕ) (lt : g < length heads) (name file : List ℕ)
     (is : files name ≡ Some file) (same : file_of conf g ≡ name) (heads2 : List Head) (here : Head) (k : ℕ) (kept : heads2 ≡ heads)
     (held : k ≡ n g) where
-  gauge_fault : (fault : Option RecordingFault) → fault_of (slice_index_or heads2 g here) k file ≡ fault
-      → FaultOf conf heads n files g fault
-  gauge_fault fault judged = (
-    file,
-    ap files same ∙ is,
-    λ d. ap (λ (h : Head). fault_of h (n g) file) (get_or_default heads g d here lt
-        ∙ ap (λ (l : List Head). slice_index_or l g here) (sym kept))
-        ∙ ap (λ (m : ℕ). fault_of (slice_index_or heads2 g here) m file) (sym held) ∙ judged,
-  )
+  fault_here : (fault : Option RecordingFault) → fault_of (slice_index_or heads2 g here) k file ≡ fault → FaultOf conf heads n files g fault
+  fault_here = gauge_fault conf heads n files g lt name file is same heads2 here k kept held
 
   pub gauge_answers : {X : Type 0} (r : Result X Status) → SourceAnswers {X = X} (fault_of (slice_index_or heads2 g here) k file) g r
       → GaugeAnswers {A = X} conf heads n files g r
-  gauge_answers (Ok x) a = gauge_fault None a
-  gauge_answers (Err (status.Recording h f)) a = (a.0, gauge_fault (Some f) a.1)
+  gauge_answers (Ok x) a = fault_here None a
+  gauge_answers (Err (status.Recording h f)) a = (a.0, fault_here (Some f) a.1)
   gauge_answers (Err status.Done) a = tt
   gauge_answers (Err status.Usage) a = tt
   gauge_answers (Err (status.Config f)) a = tt
@@ -113,30 +103,3 @@ module _ (conf : Config) (heads : List Head) (n : ℕ → ℕ) (files : Files) (
   gauge_answers (Err status.OutOfMemory) a = tt
   gauge_answers (Err (status.TooLong h)) a = tt
   gauge_answers (Err (status.Differs h w x y)) a = tt
-
--- of all gauges, where those below are sound
-pub open_refused : (A : Type 0) (c : Config) (heads : List Head) (n : ℕ → ℕ) (files : Files) (g : ℕ) → g < length c.gauges
-    → AllOpened c heads n files g → (s : Status) → GaugeAnswers {A = A} c heads n files g (Err s) → OpenAnswers c heads n files (Err s)
-open_refused A c heads n files g lt below (status.Recording h f) a = (
-  omega (arith, lt, a.0),
-  subst (λ (k : ℕ). AllOpened c heads n files k) (sym a.0) below,
-  subst (λ (k : ℕ). FaultOf c heads n files k (Some f)) (sym a.0) a.1,
-)
-open_refused A c heads n files g lt below status.Done a = tt
-open_refused A c heads n files g lt below status.Usage a = tt
-open_refused A c heads n files g lt below (status.Config f) a = tt
-open_refused A c heads n files g lt below (status.Store f) a = tt
-open_refused A c heads n files g lt below (status.Torn h b) a = tt
-open_refused A c heads n files g lt below status.ReadFault a = tt
-open_refused A c heads n files g lt below status.WriteFault a = tt
-open_refused A c heads n files g lt below status.DiskFault a = tt
-open_refused A c heads n files g lt below status.OutOfMemory a = tt
-open_refused A c heads n files g lt below (status.TooLong h) a = tt
-open_refused A c heads n files g lt below (status.Differs h w x y) a = tt
-
-pub all_more_opened : (c : Config) (heads : List Head) (n : ℕ → ℕ) (files : Files) (k : ℕ) → AllOpened c heads n files k
-    → FaultOf c heads n files k None → AllOpened c heads n files (k + 1)
-all_more_opened c heads n files k below here g lt = elim (cases_lt g k) [
-  | inl within ↦ below g within
-  | inr past ↦ subst (λ (h : ℕ). FaultOf c heads n files h None) (let e : k ≡ g = omega (arith, past, lt) in e) here
-]

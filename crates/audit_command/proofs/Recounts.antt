@@ -1,12 +1,9 @@
 -- What was found of each gauge.
 --   recounts_more   of one gauge more
 --   are_of, are_over   what this says of the samples of recordings, and of the classes
-use Rattle.std.proofs.Common.{◌≡◌, ◌<◌, ℕ, ℤ, List, [], ◌∷◌, ◌++◌, inl, inr, length, take, sym, ap, ◌∙◌, subst, arith}
+use Rattle.std.proofs.Common.{◌≡◌, ◌<◌, ℕ, ℤ, List, [], ◌∷◌, ◌++◌, length, take, ap, ◌∙◌, subst}
 use Rattle.std.specs.Prelude.{pos, slice_index_or, Result, Ok, Err, IfOk}
-use Rattle.std.proofs.lemmas.Bool.{cases_lt}
-use Rattle.std.proofs.lemmas.List.{get_or_default, length-append}
-use Rattle.std.proofs.Math.ListN.{get_or-append}
-use Rattle.std.proofs.Math.Seq.{get_or-append_seam}
+use Rattle.std.proofs.lemmas.List.{get_or_default}
 use Rattle.calibration.specs.Gain.{GainValue}
 use Rattle.recount.specs.Counted.{IsRecount}
 use Rattle.recount.specs.declared.count.Recount.{Recount}
@@ -16,18 +13,7 @@ use Rattle.segment_store.specs.Holds.{gain_at}
 use Rattle.site_config.specs.declared.config.Config.{Config}
 use Rattle.status.specs.declared.status.Status.{Status}
 use Rattle.audit_command.specs.Recounted.{AreOf, AreOver, AreRecounts, IsOfFirst, IsRecountOf}
-
-each_more : {A : Type 0} (P : ℕ → A → Type 0) (xs ys : List A) (x : A) (k : ℕ) → ys ≡ xs ++ x ∷ [] → k ≡ length xs
-    → ((g : ℕ) (d : A) → g < length xs → P g (slice_index_or xs g d)) → P k x → (g : ℕ) (d : A) → g < length ys →
-    P g (slice_index_or ys g d)
-each_more {A} P xs ys x k is long all here g d lt =
-    subst (λ (l : List A). P g (slice_index_or l g d)) (sym is) (elim (cases_lt g (length xs)) [
-      | inl within ↦ subst (P g) (sym (get_or-append xs (x ∷ []) d g within)) (all g d within)
-      | inr past ↦
-          let at : g ≡ length xs = omega (arith, past, lt, ap length is, length-append xs (x ∷ [])) in
-          subst (λ (n : ℕ). P n (slice_index_or (xs ++ x ∷ []) n d)) (sym at)
-          (subst (P (length xs)) (sym (get_or-append_seam xs x [] d)) (subst (λ (n : ℕ). P n x) long here))
-    ])
+use Rattle.lemmas.proofs.Lists.{each_more}
 
 pub recounts_more : (c : Config) (tells : Type 0) (w : ℕ → List ℤ) (held : ℕ → ℕ) (xs ys : List Recount) (x : Recount) (k : ℕ)
     → ys ≡ xs ++ x ∷ [] → k ≡ length xs → AreRecounts c tells w held xs → IsOfFirst c tells w held k x → AreRecounts c tells w held ys

@@ -1,7 +1,7 @@
 -- Which answer `audit` has. Each has its cause in the configuration, the store and the recordings; a fault of the
 -- outside has a clause of its own, and want of memory none.
 --   HeldAnswers    over a store that holds so many samples of each gauge
---   AnswersOver    over what a read of the store gives
+--   MayAnswerOver  over what a read of the store gives
 --   AuditAnswers   by the configuration
 --   IsSound        the configuration is sound, the store is one of its setup, and the recordings begin with what it
 --                  holds
@@ -36,19 +36,19 @@ HeldAnswers c heads meant ends files (Differs g what held found) =
     CountedAnswers c heads meant ends files (Differs g what held found)
 HeldAnswers c heads meant ends files status = ⊥
 
-abbrev pub AnswersOver : Config → Image → Files → Status → Type 0
-AnswersOver c image files (BadStore fault) =
+abbrev pub MayAnswerOver : Config → Image → Files → Status → Type 0
+MayAnswerOver c image files (BadStore fault) =
     (f : ResumeFault) × (store_status f ≡ BadStore fault) × IsRefused c.setup image f
-AnswersOver c image files DiskFault = Unit {0}
-AnswersOver c image files OutOfMemory = Unit {0}
-AnswersOver c image files status =
+MayAnswerOver c image files DiskFault = Unit {0}
+MayAnswerOver c image files OutOfMemory = Unit {0}
+MayAnswerOver c image files status =
     (r : ReadsAs c.setup image) × HeldAnswers c r.head.heads (HasKept r.bodies) r.ends files status
 
 abbrev pub AuditAnswers : Result Config ConfigFault → Image → Files → Status → Type 0
 AuditAnswers conf image files (BadConfig fault) = conf ≡ Err fault
 AuditAnswers conf image files ReadFault = Unit {0}
 AuditAnswers conf image files OutOfMemory = Unit {0}
-AuditAnswers conf image files status = (c : Config) × (conf ≡ Ok c) × AnswersOver c image files status
+AuditAnswers conf image files status = (c : Config) × (conf ≡ Ok c) × MayAnswerOver c image files status
 
 -- the recordings begin with samples that were counted as it holds
 abbrev pub IsAudited : Config → Image → Files → Type 0

@@ -13,7 +13,7 @@ ghost use Rattle.fault_lines.specs.Telling.{TellsAtMost};
 ghost use Rattle.status.specs.declared.status.Status.TheVariants.{Done, Usage, ReadFault, WriteFault, DiskFault, OutOfMemory};
 ghost use Rattle.report_command.specs.Printing.{IsPrinting};
 ghost use Rattle.audit_command.specs.Audited.{Finds, IsStanding, first_samples};
-ghost use Rattle.audit_command.specs.Answers.{AnswersOver, AuditAnswers, IsAudited, IsSound};
+ghost use Rattle.audit_command.specs.Answers.{MayAnswerOver, AuditAnswers, IsAudited, IsSound};
 ghost use Rattle.audit_command.specs.Printing.{Prints};
 
 use crate::audited::audit_held;
@@ -108,7 +108,7 @@ fn audit_by<T: Site, K: Station, O: Sink>(
     requires conf { IsConfig conf.now }
     requires home { T.out site.old ≡ 0 }
     ensures answer { K.tells → T.tells →
-        AnswersOver conf.now (K.seen station.old) (T.files site.old) result }
+        MayAnswerOver conf.now (K.seen station.old) (T.files site.old) result }
     ensures stands { K.tells → T.tells → (w : ℕ → List ℤ) (n : List ℕ) →
         Holds conf.now.setup w n (K.seen station.old) →
         Finds conf.now (IsStanding conf.now (first_samples w n))

@@ -17,7 +17,7 @@ pub use std::alloc::AllocError as OutOfMemory;
 pub use unit::{Blank, Counted, Filled};
 
 /// The most samples of a block.
-pub const MAX_BLOCK: usize = 4096;
+pub const MAX_BLOCK: usize = calibration::MAX_BLOCK as usize;
 
 /// The most units of a pool.
 pub const MAX_UNITS: usize = 1024;

@@ -1,12 +1,11 @@
 -- The blocks of a round, counted over its workers.
-use Rattle.std.proofs.Common.{◌≡◌, ◌≤◌, ◌<◌, ◌+◌, ◌%◌, ℕ, zero, suc, List, [], ◌∷◌, ◌++◌, refl, sym, ap, ◌∙◌, arith, append_assoc, Bool, true, false, cond, eqb}
+use Rattle.std.proofs.Common.{◌≡◌, ◌≤◌, ◌<◌, ◌+◌, ◌%◌, ℕ, List, [], ◌∷◌, ◌++◌, refl, sym, ap, ◌∙◌, arith, append_assoc, Bool, true, false, cond, eqb}
 use Rattle.std.proofs.lemmas.Bool.{eq-eqb, ne_eqb}
-use Rattle.std.proofs.lemmas.Bool.Decides.{nat_tests}
 use Rattle.std.proofs.lemmas.List.{append_cancel_left}
 use Rattle.segment_rules.specs.declared.name.Name.{Name}
 use Rattle.flow.specs.Flow.{named, has, hits}
 use Rattle.flow.specs.Kept.{over, between}
-use Rattle.flow.proofs.Counting.{over_same, over_one, over_none}
+use Rattle.flow.proofs.Counting.{over_same, over_one, over_none, over_sum, between_parts, nothing_between}
 use Rattle.block_pool.specs.Units.{FilledValue}
 use Rattle.block_workers.specs.declared.item.Item.{Item}
 use Rattle.block_workers.specs.declared.item.Item.TheVariants.{Block, Mark}
@@ -65,10 +64,6 @@ one_worker n w x l =
     let zeros : over n z ≡ 0 = over_none n z (λ v h. refl) in
     let here : f w ≡ x = ap (λ b. cond b x 0) (eq-eqb w w refl) in omega (arith, split, zeros, here)
 
-pub over_sum : (n : ℕ) (f h : ℕ → ℕ) → over n (λ v. f v + h v) ≡ over n f + over n h
-over_sum zero f h = refl
-over_sum (suc n) f h = let e : over n (λ v. f v + h v) ≡ over n f + over n h = over_sum n f h in omega (arith, e)
-
 -- each block of a lane goes to one worker
 pub dealt_once : (g i n k : ℕ) (us : List FilledValue) → 0 < n → over n (λ v. hits g i (names_of (dealt n v k us))) ≡ hits g i (names_of us)
 dealt_once g i n k [] h = over_none n (λ v. 0) (λ v l. refl)
@@ -84,17 +79,11 @@ dealt_once g i n k (u ∷ us) h =
     let rest : over n (λ v. hits g i (names_of (dealt n v (k + 1) us))) ≡ hits g i (names_of us) = dealt_once g i n (k + 1) us h in
     omega (arith, parts, sums, here, rest)
 
-between_two : (a b c i : ℕ) → a ≤ b → b ≤ c → between a b i + between b c i ≡ between a c i
-between_two a b c i h k = grind (arith, nat_tests)
-
 named_has : (g a b i : ℕ) → has g i (named g a b) ≡ between a b i
 named_has g a b i = ap (λ t. cond t (between a b i) 0) (eq-eqb g g refl)
 
 has_named : (g a b i : ℕ) (n : Name) → n ≡ named g a b → has g i n ≡ between a b i
 has_named g a b i n e = ap (has g i) e ∙ named_has g a b i
-
-nothing_between : (a i : ℕ) → between a a i ≡ 0
-nothing_between a i = grind (arith, nat_tests)
 
 pub blocks_ascend : (d : Desk) (a b : ℕ) (us : List FilledValue) → AreBlocks d a us b → a ≤ b
 blocks_ascend d a b [] none = omega arith
@@ -110,5 +99,5 @@ blocks_once d a b i (u ∷ us) (more h r) =
     let e : has d.gauge i u.name ≡ between a (a + d.block) i = has_named d.gauge a (a + d.block) i u.name h.name in
     let f : hits d.gauge i (names_of us) ≡ between (a + d.block) b i = blocks_once d (a + d.block) b i us r in
     let s : between a (a + d.block) i + between (a + d.block) b i ≡ between a b i =
-    between_two a (a + d.block) b i (omega arith) (blocks_ascend d (a + d.block) b us r) in
+    between_parts a (a + d.block) b i (omega arith) (blocks_ascend d (a + d.block) b us r) in
     omega (arith, e, f, s)

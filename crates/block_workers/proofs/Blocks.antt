@@ -1,11 +1,10 @@
 -- What a reader keeps while it reads.
 use Rattle.std.proofs.Common.{◌≡◌, ◌⊎◌, inl, inr, ◌≤◌, ◌<◌, ◌+◌, ◌-◌, ◌*◌, ◌%◌, ℕ, zero, suc, List, [], ◌∷◌, ◌++◌, take, drop, map, length, get_or, refl, sym, ap, ◌∙◌, subst, arith, Some, append_assoc, length-append, length-take, rules, vec_len, Bool, true, false, cond, eqb}
-use Rattle.std.proofs.lemmas.List.{append-nil}
+use Rattle.std.proofs.lemmas.List.{append-nil, map-append}
 use Rattle.std.proofs.lemmas.Bool.{cases_eq, eq-eqb, ne_eqb}
 use Rattle.std.proofs.Math.Nat.{mul-le-mul_right}
 use Rattle.std.proofs.Math.Seq.{take-add}
 use Rattle.std.specs.List.{All}
-use Rattle.std.proofs.lemmas.List.Elements.{All-take, All-push}
 use Rattle.std.specs.Prelude.{ℤ}
 use Rattle.calibration.specs.Gain.{GainValue}
 use Rattle.calibration.specs.Grid.{GridValue}
@@ -28,8 +27,8 @@ use Rattle.block_workers.specs.Reading.{IsUnit, AreBlocks, AreWhole, samples_of,
 use Rattle.block_workers.specs.Reading.AreBlocks.{none, last, more}
 use Rattle.block_workers.specs.Reading.AreWhole.{empty, whole}
 use Rattle.block_workers.specs.Jobs.{NotRead}
-use Rattle.block_workers.proofs.Lists.{all_written}
-use Rattle.block_workers.proofs.Drains.{map_push}
+use Rattle.block_workers.proofs.Settling.{same_feeders}
+use Rattle.lemmas.proofs.Lists.{all_written}
 
 pub unit_is : (d : Desk) (n : ℕ) (kind : GridValue) (buf out : List ℤ) (u : FilledValue)
     → u ≡ record {
@@ -119,7 +118,7 @@ fed_or n v w us u a b c e at here there (inl q) =
     let deal : dealt n v 0 (us ++ u ∷ []) ≡ dealt n v 0 us ++ u ∷ [] = dealt_push n v 0 us u
     ∙ ap (λ b. dealt n v 0 us ++ cond b (u ∷ []) []) test in
     here (sym q) ∙ ap (λ l. l ++ block_of u ∷ []) e ∙ append_assoc a (map block_of (dealt n v 0 us)) (block_of u ∷ [])
-    ∙ ap (λ l. a ++ l) (sym (ap (map block_of) deal ∙ map_push block_of (dealt n v 0 us) (u ∷ [])))
+    ∙ ap (λ l. a ++ l) (sym (ap (map block_of) deal ∙ map-append block_of (dealt n v 0 us) (u ∷ [])))
 fed_or n v w us u a b c e at here there (inr q) =
     let test : eqb ((0 + length us) % n) v ≡ false = ap (λ i. eqb (i % n) v) (omega arith)
     ∙ ne_eqb (length us % n) v (λ r. q (sym r ∙ at)) in
@@ -152,9 +151,6 @@ unit_from a b x y u h i = record {
 
 fits_from : (a b : Desk) (l : List BlankValue) → SameDesk a b → All (IsBlank b.block b.grid) l → All (IsBlank a.block a.grid) l
 fits_from a b l h f = subst (λ k. All (IsBlank k a.grid) l) h.block (subst (λ k. All (IsBlank b.block k) l) h.grid f)
-
-same_ends : (a b c : Feeder Item) → IsSameFeeder a b → IsSameFeeder b c → IsSameFeeder a c
-same_ends a b c h k = search (rules, h, k)
 
 -- what was given so far, and then for one block
 extend_gives : (left_old left_mid left_new : List ℕ) (old mid new : Desk) (number : ℕ) → SameDesk old mid
@@ -215,7 +211,8 @@ one_more tells left_old left_mid left_new old mid new number P r s limit k o p =
           (ap (λ k. k % vec_len old.feeders) r.are.0 ∙ ap (λ k. number % k) (sym r.same.feeders))
           (λ q. subst (λ k. fed (get_or new.feeders.items k d) ≡ fed (get_or mid.feeders.items k d) ++ block_of o.unit ∷ []) q
           (o.feeds.here d)) (o.feeds.there v d) (cases_eq v (number % vec_len mid.feeders));
-      ends = λ v d h. same_ends (get_or old.feeders.items v d) (get_or mid.feeders.items v d) (get_or new.feeders.items v d) (r.ends v d h)
+      ends = λ v d h. same_feeders (get_or old.feeders.items v d) (get_or mid.feeders.items v d) (get_or new.feeders.items v d)
+          (r.ends v d h)
           (o.feeds.same v d);
       blanks = omega (arith, r.blanks, o.blanks, length-append r.units (o.unit ∷ []));
       fit = fits_from old mid new.blanks.items r.same o.fit;
@@ -368,7 +365,7 @@ marked tells left_old left_new old mid new r s at end b m = record {
       (subst (λ a. Gives (16 * old.block) (most old) left_old (a - old.at) mid.end left_new) (sym at) (r.gives t));
   fed = λ v d h. m.marked v d (omega (arith, h, r.same.feeders, mid.feeders.ok.0)) ∙ ap (λ l. l ++ Mark ∷ []) (r.fed v d h)
       ∙ append_assoc (fed (get_or old.feeders.items v d)) (map block_of (dealt (vec_len old.feeders) v 0 r.units)) (Mark ∷ []);
-  ends = λ v d h. same_ends (get_or old.feeders.items v d) (get_or mid.feeders.items v d) (get_or new.feeders.items v d) (r.ends v d h)
+  ends = λ v d h. same_feeders (get_or old.feeders.items v d) (get_or mid.feeders.items v d) (get_or new.feeders.items v d) (r.ends v d h)
       (m.same v d);
   blanks = ap (λ l. vec_len l + length r.units) b ∙ r.blanks;
   fit = subst (λ l. All (IsBlank old.block old.grid) l) (sym (ap (λ l. l.items) b)) r.fit;
@@ -381,9 +378,6 @@ popped b g n xs u a l some v =
     let is : Some u ≡ Some (get_or xs (n - 1) u) = v u some in
     let same : get_or xs (n - 1) u ≡ u = cc in
     let at : IsBlank b g (get_or xs (n - 1) u) = a (n - 1) u (omega (arith, l, some)) in subst (IsBlank b g) same at
-
-pub left_fit : (b : ℕ) (g : GridValue) (n : ℕ) (xs ys : List BlankValue) → All (IsBlank b g) xs → ys ≡ take n xs → All (IsBlank b g) ys
-left_fit b g n xs ys a e = subst (All (IsBlank b g)) (sym e) (All-take (IsBlank b g) n xs a)
 
 -- the samples of a unit are the first that were left
 pub first_samples : (n : ℕ) (u : FilledValue) (a : ℕ) (out : List ℤ) (w : List ℤ) → a + length u.samples ≡ a + n → u.samples ≡ take n out
@@ -412,7 +406,3 @@ marks_only old new s at end b m = record {
   ends = λ v d h. m.same v d;
   blanks = b;
 }
-
-pub all_push : (b : ℕ) (g : GridValue) (xs ys : List BlankValue) (x : BlankValue) → All (IsBlank b g) xs → IsBlank b g x
-    → ys ≡ xs ++ x ∷ [] → All (IsBlank b g) ys
-all_push b g xs ys x a p e = subst (All (IsBlank b g)) (sym e) (All-push (IsBlank b g) xs x a p)

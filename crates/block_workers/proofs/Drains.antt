@@ -1,6 +1,7 @@
 -- What a worker keeps while it takes its rings.
 use Rattle.std.proofs.Common.{◌≡◌, ◌<◌, ◌+◌, ℕ, zero, suc, List, [], ◌∷◌, ◌++◌, take, drop, map, length, get_or, set, refl, sym, ap, ◌∙◌, subst, arith, append_assoc}
-use Rattle.std.proofs.lemmas.List.{append-nil, take_all}
+use Rattle.std.proofs.lemmas.List.{append-nil, take_all, map-append}
+use Rattle.std.proofs.Math.Seq.{drop-append_seam}
 use Rattle.gauge_ring.specs.declared.taker.Taker.{Taker}
 use Rattle.gauge_ring.specs.declared.feeder.Feeder.{Feeder}
 use Rattle.gauge_ring.specs.Ends.{fed, taken, IsSameFeeder, IsSameTaker}
@@ -12,19 +13,14 @@ use Rattle.block_workers.specs.declared.item.Back.TheVariants.{Over}
 use Rattle.block_workers.specs.Dealing.{block_of, round_of}
 use Rattle.block_workers.specs.Working.{blocks_in, new_blocks, all_new, AreCounts, back_of, Gave, Took, Drained, Worked}
 use Rattle.block_workers.specs.Working.AreCounts.{nil, one}
-use Rattle.block_workers.proofs.Lists.{drop_front}
 
 pub blocks_in_round : (fs : List FilledValue) → blocks_in (round_of fs) ≡ fs
 blocks_in_round [] = refl
 blocks_in_round (f ∷ fs) = ap (λ l. f ∷ l) (blocks_in_round fs)
 
 pub new_is : (old new : Taker Item) (fs : List FilledValue) → taken new ≡ taken old ++ round_of fs → new_blocks old new ≡ fs
-new_is old new fs e = ap (λ l. blocks_in (drop (length (taken old)) l)) e ∙ ap blocks_in (drop_front (taken old) (round_of fs))
+new_is old new fs e = ap (λ l. blocks_in (drop (length (taken old)) l)) e ∙ ap blocks_in (drop-append_seam (taken old) (round_of fs))
     ∙ blocks_in_round fs
-
-pub map_push : {A B : Type 0} → (f : A → B) (xs ys : List A) → map f (xs ++ ys) ≡ map f xs ++ map f ys
-map_push f [] ys = refl
-map_push f (x ∷ xs) ys = ap (λ l. f x ∷ l) (map_push f xs ys)
 
 pub counts_long : (fs : List FilledValue) (cs : List CountedValue) → AreCounts fs cs → length cs ≡ length fs
 counts_long [] [] nil = refl
@@ -47,7 +43,7 @@ gave_both a b c fs gs h k s = record {
   units = h.units ++ k.units;
   counts = counts_both fs gs h.units k.units h.counts k.counts;
   fed = k.fed ∙ ap (λ l. l ++ map back_of k.units) h.fed ∙ append_assoc (fed a) (map back_of h.units) (map back_of k.units)
-      ∙ ap (λ l. fed a ++ l) (sym (map_push back_of h.units k.units));
+      ∙ ap (λ l. fed a ++ l) (sym (map-append back_of h.units k.units));
   same = s;
 }
 
@@ -59,7 +55,7 @@ gave_more a b c fs f x h e i t s = gave_both a b c fs (f ∷ []) h (record { uni
 pub took_more : (l m n : List Item) (fs : List FilledValue) (f : FilledValue) → m ≡ l ++ map block_of fs → n ≡ m ++ block_of f ∷ []
     → n ≡ l ++ map block_of (fs ++ f ∷ [])
 took_more l m n fs f e h = h ∙ ap (λ k. k ++ block_of f ∷ []) e ∙ append_assoc l (map block_of fs) (block_of f ∷ [])
-    ∙ ap (λ k. l ++ k) (sym (map_push block_of fs (f ∷ [])))
+    ∙ ap (λ k. l ++ k) (sym (map-append block_of fs (f ∷ [])))
 
 pub drained : (old mid new : Taker Item) (before now : Feeder Back) (fs : List FilledValue) → taken mid ≡ taken old ++ map block_of fs
     → Gave before now fs → taken new ≡ taken mid ++ Mark ∷ [] → IsSameTaker old new → Drained old new before now

@@ -20,6 +20,8 @@ use Rattle.block_workers.specs.declared.desk.Desk.{Desk}
 use Rattle.block_workers.specs.Dealing.{round_of}
 use Rattle.block_workers.specs.Reading.{IsReady, ReadDone, SameDesk}
 use Rattle.block_workers.specs.Working.{Worked}
+use Rattle.flow.specs.declared.TheConstants.{BLOCKS_PER_WINDOW}
+use Rattle.calibration.specs.declared.limits.TheConstants.{MAX_GAUGES}
 
 -- a lane that had ended: nothing but marks
 pub record NotRead (old new : Desk) : Type 0 where
@@ -37,7 +39,7 @@ module _ {C : Type 0} where
   pub record CanRead (r : Reader C) : Type 0 where
     pub src : C
     pub has : r.src ≡ Some src
-    pub ready : r.desk.end ≡ More → IsReady r.desk 16
+    pub ready : r.desk.end ≡ More → IsReady r.desk BLOCKS_PER_WINDOW
     pub fit : All (IsBlank r.desk.block r.desk.grid) r.desk.blanks.items
 
   pub record ReadJob (tells : Type 0) (left : C → List ℕ) (faults : C → ℕ) (old new : Reader C) : Type 0 where
@@ -78,7 +80,7 @@ module _ {C : Type 0} where
         → fed (slice_index_or r.desk.feeders.items v e) ≡ taken (slice_index_or w.takers.items g d) ++ left
 
 pub record CanWork (w : Worker) : Type 0 where
-  pub takers : vec_len w.takers ≤ 32
+  pub takers : vec_len w.takers ≤ MAX_GAUGES
 
 pub record WorkJob (old new : Worker) : Type 0 where
   pub number : new.number ≡ old.number

@@ -2,6 +2,7 @@
 use Rattle.std.specs.Prelude.{◌≡◌, ◌⊎◌, ◌+◌, ◌*◌, ◌%◌, ◌<◌, ◌≤◌, ℕ, ℤ, List, [], ◌∷◌, ◌++◌, ◌-◌, ◌≢◌, length, take, map, Bool, true, false, slice_index_or, vec_len, vec_capacity}
 use Rattle.std.specs.List.{All}
 use Rattle.recording.specs.declared.TheConstants.{MAX_SAMPLES}
+use Rattle.flow.specs.declared.TheConstants.{BLOCKS_PER_WINDOW}
 use Rattle.recording.specs.Samples.{samples}
 use Rattle.lane_ends.specs.declared.end.End.TheVariants.{More}
 use Rattle.lane_ends.specs.Ends.{Gives}
@@ -110,16 +111,16 @@ abbrev pub WholeSoFar : Desk → Desk → ℕ → List FilledValue → Type 0
 WholeSoFar old new n us = (length us ≡ n) × AreWhole old old.at us new.at × (new.end ≡ More)
 
 abbrev pub BlocksOfRound : Desk → Desk → List FilledValue → Type 0
-BlocksOfRound old new us = (length us ≤ 16) × AreBlocks old old.at us new.at
+BlocksOfRound old new us = (length us ≤ BLOCKS_PER_WINDOW) × AreBlocks old old.at us new.at
 
 pub record ReadDone (tells : Type 0) (left_old left_new : List ℕ) (old new : Desk) : Type 0 where
   pub same : SameDesk old new
   pub limit : new.at ≤ MAX_SAMPLES
   pub units : List FilledValue
-  pub few : length units ≤ 16
+  pub few : length units ≤ BLOCKS_PER_WINDOW
   pub blocks : AreBlocks old old.at units new.at
   pub samples : tells → samples_of units ≡ take (new.at - old.at) (samples left_old)
-  pub gives : tells → Gives (16 * old.block) (most old) left_old (new.at - old.at) new.end left_new
+  pub gives : tells → Gives (BLOCKS_PER_WINDOW * old.block) (most old) left_old (new.at - old.at) new.end left_new
   pub fed : (v : ℕ) (d : Feeder Item) → v < vec_len old.feeders
       → fed (slice_index_or new.feeders.items v d)
       ≡ fed (slice_index_or old.feeders.items v d) ++ round_of (dealt (vec_len old.feeders) v 0 units)

@@ -3,11 +3,13 @@ ghost use Rattle.outside.specs.Fault.{Rose};
 ghost use Rattle.lane_ends.specs.declared.end.End.TheVariants.{More, ReadFault};
 ghost use Rattle.block_workers.specs.Jobs.{NotRead};
 ghost use Rattle.block_workers.specs.Reading.{OneRead, Reading, ReadDone, IsReady, BlocksOfRound};
+ghost use Rattle.flow.specs.declared.TheConstants.{BLOCKS_PER_WINDOW};
 
 use crate::Item;
 use crate::waits::{deal, mark_all};
 use block_pool::Blank;
 use calibration::{Gain, Grid};
+use flow::BLOCKS_PER_WINDOW;
 use gauge_ring::Feeder;
 use lane_ends::{End, read_samples};
 use outside::Source;
@@ -48,8 +50,8 @@ fn may_go_on(end: End) -> bool
 
 // Reads one block and deals it. Answers whether it was a whole one, after which more may follow.
 fn read_block<R: Wait, C: Source>(rt: &R, src: &mut C, desk: &mut Desk, number: u64) -> bool
-    requires ready { IsReady desk.old (16 - number) }
-    requires number { number < 16 }
+    requires ready { IsReady desk.old (BLOCKS_PER_WINDOW - number) }
+    requires number { number < BLOCKS_PER_WINDOW }
     ensures read { OneRead C.tells (C.left src.old) (C.left src.new)
         desk.old desk.new number result }
     ensures cause { desk.new.end ≡ ReadFault → Rose (C.faults src.old) (C.faults src.new) }
@@ -73,13 +75,13 @@ fn read_block<R: Wait, C: Source>(rt: &R, src: &mut C, desk: &mut Desk, number: 
 
 // Reads the blocks of a round, and deals them.
 fn read_blocks<R: Wait, C: Source>(rt: &R, src: &mut C, desk: &mut Desk)
-    requires ready { IsReady desk.old 16 }
+    requires ready { IsReady desk.old BLOCKS_PER_WINDOW }
     ensures read { Reading C.tells (C.left src.old) (C.left src.new) desk.old desk.new
-        (16 * desk.old.block) (BlocksOfRound desk.old desk.new) }
+        (BLOCKS_PER_WINDOW * desk.old.block) (BlocksOfRound desk.old desk.new) }
     ensures cause { desk.new.end ≡ ReadFault → Rose (C.faults src.old) (C.faults src.new) }
     ensures later { C.faults src.old ≤ C.faults src.new }
 {
-    for number in 0..16u64 {
+    for number in 0..BLOCKS_PER_WINDOW as u64 {
         if !read_block(rt, src, desk, number) {
             return;
         }
@@ -91,7 +93,7 @@ fn read_blocks<R: Wait, C: Source>(rt: &R, src: &mut C, desk: &mut Desk)
 /// `block`; `end` tells why fewer came. A sample past the limit of a recording is taken, and not
 /// among the blocks.
 pub fn read_lane<R: Wait, C: Source>(rt: &R, src: &mut C, desk: &mut Desk)
-    requires ready { IsReady desk.old 16 }
+    requires ready { IsReady desk.old BLOCKS_PER_WINDOW }
     ensures read { ReadDone C.tells (C.left src.old) (C.left src.new) desk.old desk.new }
     ensures cause { desk.new.end ≡ ReadFault → Rose (C.faults src.old) (C.faults src.new) }
     ensures later { C.faults src.old ≤ C.faults src.new }

@@ -1,5 +1,6 @@
 ghost use Rattle.std.specs.Prelude.{◌≤◌, length};
 ghost use Rattle.block_workers.specs.Working.{Drained, Worked};
+ghost use Rattle.calibration.specs.declared.limits.TheConstants.{MAX_GAUGES};
 
 use crate::waits::{feed_waiting, take_waiting};
 use crate::{Back, Item};
@@ -52,7 +53,7 @@ pub fn work<R: Wait, G: Gate>(
     takers: &mut [Taker<Item>],
     back: &mut Feeder<Back>,
 )
-    requires { length takers.old ≤ 32 }
+    requires { length takers.old ≤ MAX_GAUGES }
     ensures { Worked takers.old takers.new back.old back.new }
 {
     for g in 0..takers.len() {

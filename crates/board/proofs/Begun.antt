@@ -8,13 +8,13 @@ use Rattle.block_pool.specs.declared.TheConstants.{MAX_BLOCK}
 use Rattle.board.specs.declared.TheConstants.{MAX_GAUGES}
 use Rattle.calibration.specs.Gain.{GainValue}
 use Rattle.segment.specs.Segment.{SegmentValue, Stands, empty_at}
-use Rattle.board.proofs.Empty.{empty_stands}
+use Rattle.segment.proofs.Empty.{empty_stands}
 use Rattle.flow.specs.Flow.{hits}
 use Rattle.flow.proofs.Counting.{over_none}
 use Rattle.board.specs.Board.{BoardValue, Row, IsRow, IsBoard, IsBegun, StandsIn, spans, start_of}
 use Rattle.board.specs.Clearing.{IsFresh, RowBegun, RowsBegun}
-use Rattle.board.proofs.Lists.{all_written}
 use Rattle.board.proofs.Placing.{between_off, spans_none, none_stand}
+use Rattle.lemmas.proofs.Lists.{all_written}
 
 module _ (block gauge start : ℕ) (kind : GridValue) (r : Row) (h : IsFresh block kind gauge start r) where
   from_is : (k : ℕ) (d : SegmentValue) → k < 16 → (get_or r.slots k d).from ≡ start

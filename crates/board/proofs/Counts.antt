@@ -8,14 +8,9 @@ use Rattle.segment_rules.specs.declared.name.Name.{Name}
 use Rattle.segment.specs.Segment.{SegmentValue}
 use Rattle.flow.specs.Flow.{has, hits}
 use Rattle.flow.specs.Kept.{between, over}
-use Rattle.flow.proofs.Counting.{over_same, over_none, has_other, has_past, has_inside, hits-append}
+use Rattle.flow.proofs.Counting.{over_same, over_none, has_other, has_past, has_inside, hits-append, over_sum}
 use Rattle.board.specs.Board.{spans, IsRow, Row}
 use Rattle.board.proofs.Placing.{between_off, spans_none}
-
--- sums over numbers
-pub over_sum : (n : ℕ) (f h : ℕ → ℕ) → over n (λ v. f v + h v) ≡ over n f + over n h
-over_sum zero f h = refl
-over_sum (suc n) f h = let e : over n (λ v. f v + h v) ≡ over n f + over n h = over_sum n f h in omega (arith, e)
 
 pub over_most : (n c : ℕ) (f : ℕ → ℕ) → ((v : ℕ) → v < n → f v ≤ c) → over n f ≤ n * c
 over_most zero c f h = omega arith

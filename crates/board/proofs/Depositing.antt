@@ -1,18 +1,16 @@
 -- What a deposit does to a board.
 use Rattle.segment.specs.Name.{name_of}
 use Rattle.recording.specs.declared.TheConstants.{MAX_SAMPLES}
-use Rattle.std.proofs.Common.{◌≡◌, ◌≢◌, ◌≤◌, ◌<◌, ◌+◌, ◌*◌, ℕ, zero, suc, List, [], ◌∷◌, ◌++◌, length, get_or, set, refl, sym, ap, ◌∙◌, subst, arith, cond}
+use Rattle.std.proofs.Common.{◌≡◌, ◌≢◌, ◌≤◌, ◌<◌, ◌+◌, ◌*◌, ℕ, zero, suc, List, [], ◌∷◌, ◌++◌, length, get_or, set, refl, sym, ap, ◌∙◌, subst, arith}
 use Rattle.std.specs.Prelude.{ℤ}
 use Rattle.std.proofs.lemmas.List.{get_or_default, set-get_or}
-use Rattle.std.proofs.lemmas.Bool.{eq-eqb}
-use Rattle.std.proofs.lemmas.Bool.Decides.{nat_tests}
 use Rattle.std.proofs.Math.ListN.{length-set}
 use Rattle.calibration.specs.Gain.{GainValue}
 use Rattle.segment_rules.specs.declared.name.Name.{Name}
 use Rattle.segment.specs.Segment.{SegmentValue}
 use Rattle.flow.specs.Flow.{has, hits}
 use Rattle.flow.specs.Kept.{between, over}
-use Rattle.flow.proofs.Counting.{over_same, has_other, hits-append}
+use Rattle.flow.proofs.Counting.{over_same, has_other, hits-append, has_between, between_one}
 use Rattle.board.specs.Board.{BoardValue, Row, IsRow, IsBoard, Carries, StandsIn, SameBoard, spans, start_of, blocks_placed, Fits}
 use Rattle.board.specs.Rows.{CanPlace, Placed, Doubled}
 use Rattle.board.specs.Deposits.{Numbered, HasSample}
@@ -22,9 +20,6 @@ use Rattle.std.specs.Prelude.{Some}
 
 no_row : Row
 no_row = record { start = 0; slots = [] }
-
-has_between : (g i : ℕ) (n : Name) → n.gauge ≡ g → has g i n ≡ between n.from n.to i
-has_between g i n e = ap (λ t. cond t (between n.from n.to i) 0) (eq-eqb n.gauge g e)
 
 hits_push : (g i : ℕ) (l m : List Name) (n : Name) → m ≡ l ++ n ∷ [] → hits g i m ≡ hits g i l + has g i n
 hits_push g i l m n e = let a : hits g i m ≡ hits g i (l ++ n ∷ []) = ap (hits g i) e in let b : hits g i (l ++ n ∷ []) ≡ hits g i l +
@@ -142,10 +137,7 @@ row_same rows g new d e f =
 pub spans_has : (i : ℕ) (l : List SegmentValue) (k : ℕ) (d : SegmentValue) → k < length l → (get_or l k d).from ≤ i → i < (get_or l k d).to
     → 1 ≤ spans i l
 spans_has i [] k d m a b = absurd (omega (arith, m))
-spans_has i (s ∷ l) zero d m a b = let e : between s.from s.to i ≡ 1 = inside s.from s.to i a b in omega (arith, e)
-  where
-    inside : (a b i : ℕ) → a ≤ i → i < b → between a b i ≡ 1
-    inside a b i h k = grind (arith, nat_tests)
+spans_has i (s ∷ l) zero d m a b = let e : between s.from s.to i ≡ 1 = between_one s.from s.to i a b in omega (arith, e)
 spans_has i (s ∷ l) (suc k) d m a b = let e = spans_has i l k d (omega (arith, m)) a b in omega (arith, e)
 
 -- the place has the first sample

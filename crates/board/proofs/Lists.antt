@@ -1,8 +1,8 @@
 -- Lists of which one place has changed, that have an item more, and buffers that a slice wrote over.
-use Rattle.std.proofs.Common.{◌≡◌, ◌≢◌, ◌⊎◌, inl, inr, ◌≤◌, ◌<◌, ℕ, ◌+◌, List, [], ◌∷◌, ◌++◌, length, get_or, set, take, drop, ap, sym, ◌∙◌, subst, arith}
+use Rattle.std.proofs.Common.{◌≡◌, ◌≢◌, ◌⊎◌, inl, inr, ◌<◌, ℕ, ◌+◌, List, [], ◌∷◌, ◌++◌, length, get_or, set, ap, sym, ◌∙◌, subst, arith}
 use Rattle.std.proofs.Math.ListN.{get_or-append}
 use Rattle.std.proofs.Math.Seq.{get_or-append_seam}
-use Rattle.std.proofs.lemmas.List.{get_or-set_same, get_or-set_other, take_all, take-append-le}
+use Rattle.std.proofs.lemmas.List.{get_or-set_same, get_or-set_other}
 use Rattle.std.proofs.lemmas.Bool.{cases_eq}
 
 at_or : {A : Type 0} → (Q : ℕ → A → Type 0) (l : List A) (k : ℕ) (x : A) (i : ℕ) (d : A) → k < length l → (i ≢ k → Q i (get_or l i d)) →
@@ -15,12 +15,6 @@ at_or Q l k x i d h old new (inr e) = subst (Q i) (sym (get_or-set_other l k i x
 pub at_set : {A : Type 0} → (Q : ℕ → A → Type 0) (l : List A) (k : ℕ) (x : A) (i : ℕ) (d : A) → k < length l → (i ≢ k → Q i (get_or l i d))
     → (i ≡ k → Q k x) → Q i (get_or (set l k x) i d)
 at_set Q l k x i d h old new = at_or Q l k x i d h old new (cases_eq i k)
-
-pub all_written : {A : Type 0} → (old new : List A) (n : ℕ) → n ≡ length old → length new ≡ length old → take n
-    (new ++ drop (length new) old) ≡ new
-all_written old new n e l =
-    let few : n ≤ length new = omega (arith, e, l) in
-    take-append-le n new (drop (length new) old) few ∙ take_all n new (omega (arith, e, l))
 
 pushed_or : {A : Type 0} → (P : A → Type 0) (l : List A) (x : A) (n : ℕ) → length l ≡ n → ((k : ℕ) (d : A) → k < n → P (get_or l k d))
     → P x → (k : ℕ) (d : A) → k < n + 1 → ((k ≡ n) ⊎ (k ≡ n → ⊥)) → P (get_or (l ++ x ∷ []) k d)

@@ -1,6 +1,6 @@
 -- What a deposit does to the intervals of a gauge.
-use Rattle.std.proofs.Common.{◌≡◌, ◌≢◌, ◌⊎◌, inl, inr, ◌≤◌, ◌<◌, ◌+◌, ◌-◌, ◌*◌, ℕ, zero, suc, List, [], ◌∷◌, ◌++◌, length, get_or, set, take, drop, refl, sym, ap, ◌∙◌, subst, arith}
-use Rattle.std.proofs.lemmas.List.{get_or-set_same, get_or-set_other, get_or_default}
+use Rattle.std.proofs.Common.{◌≡◌, ◌≢◌, ◌⊎◌, inl, inr, ◌≤◌, ◌<◌, ◌+◌, ◌-◌, ◌*◌, ℕ, suc, List, [], ◌∷◌, ◌++◌, length, get_or, set, take, drop, refl, sym, ap, ◌∙◌, subst, arith}
+use Rattle.std.proofs.lemmas.List.{get_or-set_same, get_or-set_other, get_or_default, drop-drop}
 use Rattle.std.proofs.lemmas.Bool.{cases_lt}
 use Rattle.std.proofs.lemmas.Bool.Decides.{nat_tests}
 use Rattle.std.proofs.Math.ListN.{length-set}
@@ -12,6 +12,7 @@ use Rattle.calibration.specs.Grid.{GridValue}
 use Rattle.segment.specs.Segment.{SegmentValue}
 use Rattle.segment.specs.Segment.{Stands}
 use Rattle.flow.specs.Kept.{between}
+use Rattle.flow.proofs.Counting.{between_parts}
 use Rattle.segment.specs.Name.{name_of}
 use Rattle.board.specs.Board.{spans, IsRow, IsSlot, StandsIn}
 use Rattle.board.specs.Rows.{IsEmpty, IsCopy, IsJoin, Put, Extended, Closes, CanPlace, Placed, AllStand}
@@ -217,9 +218,6 @@ close_row start block gauge kind j n old new less full_j r (inl (p, (inside, tou
           h m;
     })
 
-between_parts : (a b c i : ℕ) → a ≤ b → b ≤ c → between a b i + between b c i ≡ between a c i
-between_parts a b c i h k = grind (arith, nat_tests)
-
 between_empty : (a b i : ℕ) → b ≤ a → between a b i ≡ 0
 between_empty a b i h = grind (arith, nat_tests)
 
@@ -295,20 +293,11 @@ free_there start block k old seg r c before = spans_none seg.from old
       | inr upto ↦ inl (before i d upto some)
     ]))
 
-drop_nothing : {A : Type 0} → (n : ℕ) → drop {A = A} n [] ≡ []
-drop_nothing zero = refl
-drop_nothing (suc n) = refl
-
-drop_twice : {A : Type 0} → (m n : ℕ) (l : List A) → drop n (drop m l) ≡ drop (m + n) l
-drop_twice zero n l = let e : n ≡ 0 + n = omega arith in ap (λ k. drop k l) e
-drop_twice (suc m) n [] = drop_nothing n ∙ sym (drop_nothing (suc m + n))
-drop_twice (suc m) n (x ∷ l) = let e : suc m + n ≡ suc (m + n) = omega arith in drop_twice m n l ∙ sym (ap (λ k. drop k (x ∷ l)) e)
-
 pub slices : (w : List ℤ) (a b c : ℕ) → a ≤ b → b ≤ c → slice_range w a b ++ slice_range w b c ≡ slice_range w a c
 slices w a b c h k =
     let n : a + (b - a) ≡ b = omega (arith, h) in
     let m : (b - a) + (c - b) ≡ c - a = omega (arith, h, k) in
-    ap (λ l. take (b - a) (drop a w) ++ take (c - b) l) (sym (drop_twice a (b - a) w ∙ ap (λ i. drop i w) n)) ∙ sym
+    ap (λ l. take (b - a) (drop a w) ++ take (c - b) l) (sym (drop-drop (b - a) a w ∙ ap (λ i. drop i w) n)) ∙ sym
     (take-add (b - a) (c - b) (drop a w)) ∙ ap (λ i. take i (drop a w)) m
 
 copy_stands : (gain : GainValue) (w : List ℤ) (m : ℕ) (seg x : SegmentValue) → IsCopy m seg x → StandsIn seg gain w → StandsIn x gain w

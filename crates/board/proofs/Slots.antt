@@ -7,18 +7,13 @@ use Rattle.std.proofs.lemmas.List.{get_or_default, get_or-take, get_or-drop}
 use Rattle.board.specs.Board.{spans}
 use Rattle.flow.specs.Flow.{named}
 use Rattle.segment.specs.Name.{name_of}
-use Rattle.segment.specs.Joining.{Answers}
+use Rattle.segment.specs.Joining.{IsJoinAnswer}
 use Rattle.segment.specs.declared.segment.join.JoinRefusal.{JoinRefusal}
 use Rattle.segment.specs.declared.segment.join.JoinRefusal.TheVariants.{OtherGauge, NotNext}
 use Rattle.board.specs.Rows.{IsEmptied, IsJoin, IsNextTo, Merged}
 
-pub set_twice : {A : Type 0} → (l : List A) (k : ℕ) (x y : A) → set (set l k x) k y ≡ set l k y
-set_twice [] k x y = refl
-set_twice (a ∷ l) zero x y = refl
-set_twice (a ∷ l) (suc k) x y = ap (λ m. a ∷ m) (set_twice l k x y)
-
 -- a segment of the same gauge that begins where the other ends is joined
-pub joined : (v w : SegmentValue) (r : Result (Unit {0}) JoinRefusal) → IsNextTo v w → Answers v w r → IsOk r
+pub joined : (v w : SegmentValue) (r : Result (Unit {0}) JoinRefusal) → IsNextTo v w → IsJoinAnswer v w r → IsOk r
 joined v w (Ok u) next a = search rules
 joined v w (Err (OtherGauge x y)) next a = absurd (a.0 (sym next.0))
 joined v w (Err (NotNext t f)) next a = absurd (a.1 (sym next.1))

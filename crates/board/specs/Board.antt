@@ -16,6 +16,7 @@ use Rattle.segment_rules.specs.declared.name.Name.{Name}
 use Rattle.segment.specs.Segment.{SegmentValue, Stands}
 use Rattle.block_pool.specs.declared.TheConstants.{MAX_BLOCK}
 use Rattle.board.specs.declared.TheConstants.{MAX_GAUGES}
+use Rattle.flow.specs.declared.TheConstants.{BLOCKS_PER_WINDOW}
 use Rattle.flow.specs.Flow.{hits}
 use Rattle.flow.specs.Kept.{between, over}
 
@@ -39,20 +40,20 @@ spans i (s ∷ l) = between s.from s.to i + spans i l
 pub record IsSlot (block : ℕ) (kind : GridValue) (number : ℕ) (s : SegmentValue) : Type 0 where
   pub gauge : s.gauge ≡ number
   pub grid : s.grid ≡ kind
-  pub longest : s.longest ≡ 16 * block
+  pub longest : s.longest ≡ BLOCKS_PER_WINDOW * block
   pub ordered : s.from ≤ s.to
 
 pub record IsRow (block : ℕ) (grid : GridValue) (gauge : ℕ) (r : Row) : Type 0 where
-  pub long : length r.slots ≡ 16
-  pub each : (k : ℕ) (d : SegmentValue) → k < 16 → IsSlot block grid gauge (slice_index_or r.slots k d)
+  pub long : length r.slots ≡ BLOCKS_PER_WINDOW
+  pub each : (k : ℕ) (d : SegmentValue) → k < BLOCKS_PER_WINDOW → IsSlot block grid gauge (slice_index_or r.slots k d)
   pub first : (d : SegmentValue) → (slice_index_or r.slots 0 d).from ≡ r.start
   -- an interval begins with its block, within the window
-  pub shape : (k : ℕ) (d : SegmentValue) → k < 16 →
+  pub shape : (k : ℕ) (d : SegmentValue) → k < BLOCKS_PER_WINDOW →
       (slice_index_or r.slots k d).from < (slice_index_or r.slots k d).to →
       ((slice_index_or r.slots k d).from ≡ r.start + k * block)
-      × ((slice_index_or r.slots k d).to ≤ r.start + 16 * block)
+      × ((slice_index_or r.slots k d).to ≤ r.start + BLOCKS_PER_WINDOW * block)
   -- and two of them do not touch
-  pub apart : (j k : ℕ) (d : SegmentValue) → j < k → k < 16 →
+  pub apart : (j k : ℕ) (d : SegmentValue) → j < k → k < BLOCKS_PER_WINDOW →
       (slice_index_or r.slots j d).from < (slice_index_or r.slots j d).to →
       (slice_index_or r.slots k d).from < (slice_index_or r.slots k d).to →
       (slice_index_or r.slots j d).to < (slice_index_or r.slots k d).from
@@ -64,7 +65,7 @@ pub record IsBlockOf (block gauges : ℕ) (start : ℕ) (n : Name) : Type 0 wher
   pub short : n.to ≤ n.from + block
   pub number : ℕ
   pub at : n.from ≡ start + number * block
-  pub window : n.to ≤ start + 16 * block
+  pub window : n.to ≤ start + BLOCKS_PER_WINDOW * block
 
 abbrev pub start_of : BoardValue → ℕ → ℕ
 start_of b g = (slice_index_or b.rows g (record { start = 0; slots = [] })).start
@@ -77,7 +78,7 @@ StandsIn s gain w = Stands s gain (slice_range w s.from s.to)
 
 -- A place without an interval has an empty segment, which stands for no samples.
 abbrev pub Carries : BoardValue → (ℕ → GainValue) → (ℕ → List ℤ) → Type 0
-Carries b gain w = (g k : ℕ) (r : Row) (d : SegmentValue) → g < length b.rows → k < 16 →
+Carries b gain w = (g k : ℕ) (r : Row) (d : SegmentValue) → g < length b.rows → k < BLOCKS_PER_WINDOW →
     StandsIn (slice_index_or (slice_index_or b.rows g r).slots k d) (gain g) (w g)
 
 -- the same windows, block and grid
@@ -89,7 +90,8 @@ pub record SameBoard (old new : BoardValue) : Type 0 where
 
 -- how many names were placed, counted by the first samples of the blocks of each window
 abbrev pub blocks_placed : BoardValue → ℕ
-blocks_placed b = over (length b.rows) (λ g. over 16 (λ k. hits g (start_of b g + k * b.block) b.arrivals))
+blocks_placed b = over (length b.rows) (λ g.
+    over BLOCKS_PER_WINDOW (λ k. hits g (start_of b g + k * b.block) b.arrivals))
 
 -- Its intervals are the greatest runs of placed names without a gap, and have each placed sample once.
 pub record IsBoard (b : BoardValue) : Type 0 where

@@ -6,6 +6,7 @@ use Rattle.std.specs.Prelude.{◌≡◌, ◌<◌, ◌*◌, ℕ, List, length, sl
 use Rattle.calibration.specs.Grid.{GridValue}
 use Rattle.segment.specs.Segment.{SegmentValue, empty_at}
 use Rattle.board.specs.Board.{Row}
+use Rattle.flow.specs.declared.TheConstants.{BLOCKS_PER_WINDOW}
 
 abbrev pub emptied : ℕ → ℕ → SegmentValue → SegmentValue
 emptied gauge start s = empty_at s.grid gauge start s.longest
@@ -26,5 +27,6 @@ pub record RowsBegun (starts : List ℕ) (old new : List Row) : Type 0 where
 
 pub record IsFresh (block : ℕ) (grid : GridValue) (gauge start : ℕ) (r : Row) : Type 0 where
   pub from : r.start ≡ start
-  pub long : length r.slots ≡ 16
-  pub each : (k : ℕ) (d : SegmentValue) → k < 16 → slice_index_or r.slots k d ≡ empty_at grid gauge start (16 * block)
+  pub long : length r.slots ≡ BLOCKS_PER_WINDOW
+  pub each : (k : ℕ) (d : SegmentValue) → k < BLOCKS_PER_WINDOW →
+      slice_index_or r.slots k d ≡ empty_at grid gauge start (BLOCKS_PER_WINDOW * block)

@@ -1,7 +1,7 @@
 -- What a deposit answers.
---   HasSample   a name names an interval that has a sample
---   Answers     the answer, and what it leaves
---   Numbered    the number of a name among the blocks of a window, where it is one
+--   HasSample        a name names an interval that has a sample
+--   IsDepositAnswer  the answer, and what it leaves
+--   Numbered         the number of a name among the blocks of a window, where it is one
 use Rattle.std.specs.Prelude.{◌≡◌, ◌+◌, ◌*◌, ◌≤◌, ◌<◌, ◌++◌, ◌∷◌, [], ℕ, Option, Some, None, slice_index_or}
 use Rattle.segment_rules.specs.declared.name.Name.{Name}
 use Rattle.segment.specs.Segment.{SegmentValue}
@@ -10,24 +10,25 @@ use Rattle.flow.specs.Flow.{hits}
 use Rattle.board.specs.Board.{BoardValue, Row, IsBlockOf, Fits}
 use Rattle.board.specs.declared.windows.Deposit.{Deposit}
 use Rattle.board.specs.declared.windows.Deposit.TheVariants.{Placed, Stranger, Double}
+use Rattle.flow.specs.declared.TheConstants.{BLOCKS_PER_WINDOW}
 
 pub record HasSample (b : BoardValue) (g i : ℕ) (n : Name) : Type 0 where
   pub place : ℕ
-  pub within : place < 16
+  pub within : place < BLOCKS_PER_WINDOW
   pub interval : (r : Row) (d : SegmentValue) → n ≡ name_of (slice_index_or (slice_index_or b.rows g r).slots place d)
   pub from : n.from ≤ i
   pub to : i < n.to
 
 -- A block of the board's window is placed where nothing has its first sample.
-abbrev pub Answers : BoardValue → BoardValue → SegmentValue → Deposit → Type 0
-Answers old new s Placed =
+abbrev pub IsDepositAnswer : BoardValue → BoardValue → SegmentValue → Deposit → Type 0
+IsDepositAnswer old new s Placed =
     Fits old (name_of s) × (hits s.gauge s.from old.arrivals ≡ 0) × (new.arrivals ≡ old.arrivals ++ name_of s ∷ [])
-Answers old new s (Stranger n) = (Fits old (name_of s) → ⊥) × (n ≡ name_of s) × (new ≡ old)
-Answers old new s (Double n) =
+IsDepositAnswer old new s (Stranger n) = (Fits old (name_of s) → ⊥) × (n ≡ name_of s) × (new ≡ old)
+IsDepositAnswer old new s (Double n) =
     Fits old (name_of s) × (1 ≤ hits s.gauge s.from old.arrivals) × HasSample old s.gauge s.from n × (new ≡ old)
 
 abbrev pub Numbered : ℕ → ℕ → ℕ → Name → Option ℕ → Type 0
 Numbered block gauges start n (Some k) =
-    (k < 16) × (n.gauge < gauges) × (n.from < n.to) × (n.to ≤ n.from + block) × (n.from ≡ start + k * block)
-    × (n.to ≤ start + 16 * block)
+    (k < BLOCKS_PER_WINDOW) × (n.gauge < gauges) × (n.from < n.to) × (n.to ≤ n.from + block)
+    × (n.from ≡ start + k * block) × (n.to ≤ start + BLOCKS_PER_WINDOW * block)
 Numbered block gauges start n None = IsBlockOf block gauges start n → ⊥

@@ -14,6 +14,7 @@ use Rattle.segment.specs.Name.{name_of}
 use Rattle.board.specs.Board.{IsRow, spans, StandsIn}
 use Rattle.flow.specs.Flow.{named}
 use Rattle.flow.specs.Kept.{between}
+use Rattle.flow.specs.declared.TheConstants.{BLOCKS_PER_WINDOW}
 
 abbrev pub IsEmpty : SegmentValue → Type 0
 IsEmpty s = s.to ≤ s.from
@@ -88,14 +89,14 @@ Closes old new j n = (Merged old new j n × Touches old j n) ⊎ ((new ≡ old) 
 
 pub record CanPlace (start block k : ℕ) (seg : SegmentValue) : Type 0 where
   pub some_block : 0 < block
-  pub place : k < 16
+  pub place : k < BLOCKS_PER_WINDOW
   pub from : seg.from ≡ start + k * block
   pub some : seg.from < seg.to
   pub short : seg.to ≤ seg.from + block
-  pub window : seg.to ≤ start + 16 * block
+  pub window : seg.to ≤ start + BLOCKS_PER_WINDOW * block
 
 abbrev pub AllStand : GainValue → List ℤ → List SegmentValue → Type 0
-AllStand gain w slots = (i : ℕ) (d : SegmentValue) → i < 16 → StandsIn (slice_index_or slots i d) gain w
+AllStand gain w slots = (i : ℕ) (d : SegmentValue) → i < BLOCKS_PER_WINDOW → StandsIn (slice_index_or slots i d) gain w
 
 pub record Placed (start block : ℕ) (old new : List SegmentValue) (seg : SegmentValue) : Type 0 where
   pub free : spans seg.from old ≡ 0
@@ -106,7 +107,7 @@ pub record Placed (start block : ℕ) (old new : List SegmentValue) (seg : Segme
 pub record Doubled (old new : List SegmentValue) (seg : SegmentValue) (n : Name) : Type 0 where
   pub same : new ≡ old
   pub at : ℕ
-  pub within : at < 16
+  pub within : at < BLOCKS_PER_WINDOW
   pub interval : (d : SegmentValue) → n ≡ name_of (slice_index_or old at d)
   pub from : n.from ≤ seg.from
   pub to : seg.from < n.to

@@ -18,11 +18,9 @@ mod rows;
 mod tests;
 mod windows;
 
+pub use flow::BLOCKS_PER_WINDOW;
 pub use std::alloc::AllocError as OutOfMemory;
 pub use windows::{Board, Deposit};
 
 /// The most gauges of a board.
-pub const MAX_GAUGES: u16 = 32;
-
-/// The blocks of a window.
-pub const BLOCKS_PER_WINDOW: usize = 16;
+pub const MAX_GAUGES: u16 = calibration::MAX_GAUGES;

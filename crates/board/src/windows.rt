@@ -37,6 +37,7 @@ pub struct Board {
 impl Model for Board {
     ghost use Rattle.board.specs.Board.{BoardValue, IsBoard};
     ghost use Rattle.std.specs.Prelude.{◌≤◌, ◌*◌, vec_capacity, vec_len};
+    ghost use Rattle.flow.specs.declared.TheConstants.{BLOCKS_PER_WINDOW};
 
     ghost Value = { BoardValue };
 
@@ -47,12 +48,13 @@ impl Model for Board {
       arrivals = b.arrivals.items;
     } };
 
-    ghost invariant = { λ b. (16 * vec_len b.rows ≤ vec_capacity b.arrivals) × IsBoard (record {
-      grid = b.grid;
-      block = b.block;
-      rows = b.rows.items;
-      arrivals = b.arrivals.items;
-    }) };
+    ghost invariant = { λ b.
+        (BLOCKS_PER_WINDOW * vec_len b.rows ≤ vec_capacity b.arrivals) × IsBoard (record {
+          grid = b.grid;
+          block = b.block;
+          rows = b.rows.items;
+          arrivals = b.arrivals.items;
+        }) };
 }
 
 /// The number of the name among the blocks of a window, where it is one.
@@ -75,7 +77,7 @@ fn number_in(start: u64, block: u32, gauges: usize, name: Name) -> Option<u64>
 
 impl Board {
     ghost use Rattle.board.specs.Board.{IsBoard, IsBegun, SameBoard, Carries, StandsIn, IsFront};
-    ghost use Rattle.board.specs.Deposits.{Answers};
+    ghost use Rattle.board.specs.Deposits.{IsDepositAnswer};
 
     /// An empty board for blocks of so many samples, whose windows begin at 0. Takes all memory
     /// that it will need.
@@ -117,7 +119,7 @@ impl Board {
     /// first sample is there already. Takes no memory.
     pub fn deposit(&mut self, seg: &Segment) -> Deposit
         requires grid { seg.now.grid ≡ self.old.grid }
-        ensures answer { Answers self.old self.new seg.now result }
+        ensures answer { IsDepositAnswer self.old self.new seg.now result }
         ensures same { SameBoard self.old self.new }
         ensures carries { (gain : ℕ → GainValue) (w : ℕ → List ℤ) → Carries self.old gain w →
             StandsIn seg.now (gain seg.now.gauge) (w seg.now.gauge) → Carries self.new gain w }

@@ -10,21 +10,18 @@ use Rattle.calibration.specs.Level.{in_grid, is_missing, class_of, stress_of}
 use Rattle.calibration.specs.History.{history, level_in}
 use Rattle.calibration.specs.declared.reading.Reading.TheVariants.{Missing, Refused, Level}
 
-abbrev Below : ℕ → List ℕ → Type 0
-Below classes levels = All (λ l. l < classes) levels
-
-class_below : (classes n : ℕ) (b : Bool) (rest : List ℕ) → nat_lt n classes ≡ b → Below classes rest →
-    Below classes (cons_option (level_in (if b then Level n else Refused)) rest)
+class_below : (classes n : ℕ) (b : Bool) (rest : List ℕ) → nat_lt n classes ≡ b → All (λ l. l < classes) rest →
+    All (λ l. l < classes) (cons_option (level_in (if b then Level n else Refused)) rest)
 class_below classes n true rest is below = All-cons (λ l. l < classes) n rest (grind (arith, nat_tests, is)) below
 class_below classes n false rest is below = below
 
-grid_below : (grid : GridValue) (z : ℤ) (rest : List ℕ) → Below grid.classes rest →
-    Below grid.classes (cons_option (level_in (in_grid grid z)) rest)
+grid_below : (grid : GridValue) (z : ℤ) (rest : List ℕ) → All (λ l. l < grid.classes) rest →
+    All (λ l. l < grid.classes) (cons_option (level_in (in_grid grid z)) rest)
 grid_below grid (pos n) rest below = class_below grid.classes n _ rest refl below
 grid_below grid (negsuc n) rest below = below
 
-reading_below : (grid : GridValue) (missing : Bool) (z : ℤ) (rest : List ℕ) → Below grid.classes rest →
-    Below grid.classes (cons_option (level_in (if missing then Missing else in_grid grid z)) rest)
+reading_below : (grid : GridValue) (missing : Bool) (z : ℤ) (rest : List ℕ) → All (λ l. l < grid.classes) rest →
+    All (λ l. l < grid.classes) (cons_option (level_in (if missing then Missing else in_grid grid z)) rest)
 reading_below grid true z rest below = below
 reading_below grid false z rest below = grid_below grid z rest below
 

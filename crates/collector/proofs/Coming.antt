@@ -1,6 +1,6 @@
 -- What one look more tells of the units that came.
 use Rattle.std.proofs.Common.{◌≡◌, ◌≢◌, ◌⊎◌, inl, inr, ◌<◌, ℕ, List, [], ◌∷◌, ◌++◌, length, map, get_or, set, refl, sym, ap, ◌∙◌, subst, rules, append_assoc, arith, false}
-use Rattle.std.proofs.lemmas.List.{append-nil, get_or-set_same, get_or-set_other}
+use Rattle.std.proofs.lemmas.List.{append-nil, get_or-set_same, get_or-set_other, map-append}
 use Rattle.std.proofs.lemmas.Bool.{cases_eq}
 use Rattle.std.proofs.Math.ListN.{length-set}
 use Rattle.gauge_ring.specs.declared.taker.Taker.{Taker}
@@ -17,7 +17,6 @@ use Rattle.block_workers.specs.declared.item.Back.{Back}
 use Rattle.block_workers.specs.declared.item.Back.TheVariants.{Over}
 use Rattle.block_workers.specs.Working.{back_of}
 use Rattle.block_workers.proofs.Blocks.{no_both}
-use Rattle.block_workers.proofs.Drains.{map_push}
 use Rattle.collector.specs.declared.collecting.Return.{Return}
 use Rattle.collector.specs.Collecting.{IsAwaited, NoUnit, OneUnit, Looked, Coming, Collecting, Collected}
 
@@ -48,7 +47,7 @@ more_coming : (old now new : Return) (us : List CountedValue) (u : CountedValue)
 more_coming old now new us u h s o t = record {
   same = same_returns old.taker now.taker new.taker h.same s;
   awaited = λ k. t ∙ ap (λ l. l ++ back_of u ∷ []) (h.awaited o.0) ∙ append_assoc (taken old.taker) (map back_of us) (back_of u ∷ [])
-      ∙ ap (λ l. taken old.taker ++ l) (sym (map_push back_of us (u ∷ [])));
+      ∙ ap (λ l. taken old.taker ++ l) (sym (map-append back_of us (u ∷ [])));
   marked = λ k. absurd (no_both new.awaited o.1 k);
 }
 

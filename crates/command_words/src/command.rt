@@ -1,5 +1,5 @@
 /// The most workers that a line may ask for; there is at least one.
-pub const MAX_WORKERS: u8 = 8;
+pub const MAX_WORKERS: u8 = calibration::MAX_WORKERS;
 
 /// The greatest seed of `demo`.
 pub const MAX_SEED: u64 = 9_223_372_036_854_775_807;

@@ -1,9 +1,11 @@
 -- What a run has done when each lane has ended.
-use Rattle.std.proofs.Common.{◌≡◌, ◌≢◌, ◌≤◌, ◌<◌, ℕ, zero, suc, ◌+◌, ◌*◌, ◌++◌, min, ℤ, List, [], ◌∷◌, length, take, drop, refl, sym, ◌∙◌, ap, subst, arith}
+use Rattle.std.proofs.Common.{◌≡◌, ◌≢◌, ◌≤◌, ◌<◌, ℕ, ◌+◌, ◌*◌, ◌++◌, min, ℤ, List, length, take, drop, refl, sym, ◌∙◌, ap, subst, arith}
 use Rattle.std.proofs.Math.Nat.{mul-zero}
 use Rattle.std.specs.List.{All}
-use Rattle.std.specs.Prelude.{Option, Some, None, Result, Ok, Err, slice_index, slice_index_or, nat_lt, ◌==◌, if◌then◌else◌}
+use Rattle.std.specs.Prelude.{Some, None, Result, Ok, Err, slice_index, slice_index_or, nat_lt, ◌==◌, if◌then◌else◌}
 use Rattle.std.proofs.lemmas.Bool.Decides.{nat_tests}
+use Rattle.std.proofs.lemmas.Option.{same_Some}
+use Rattle.std.proofs.lemmas.List.{take_all}
 use Rattle.station.specs.Station.{Image, Lines}
 use Rattle.outside.specs.Site.{Files}
 use Rattle.recording.specs.Samples.{samples, torn_bytes}
@@ -31,7 +33,7 @@ use Rattle.count_command.specs.Printed.{AllStandFor, Prints, IsPrinting, figures
 use Rattle.segment_store.specs.Opening.{Resumes}
 use Rattle.segment_store.specs.declared.fault.ResumeFault.{ResumeFault}
 use Rattle.segment_store.specs.declared.fault.ResumeFault.TheVariants as fault
-use Rattle.count_command.specs.Answer.{ReadsAs, IsRefused, store_fault, EndAnswers, RunAnswers, IsEnding, IsRunning, IsCounting, AnswersOver, CountAnswers}
+use Rattle.count_command.specs.Answer.{ReadsAs, IsRefused, store_fault, EndAnswers, RunAnswers, IsEnding, IsRunning, IsCounting, MayAnswerOver, CountAnswers}
 use Rattle.store_head.specs.Head.{HeadValue}
 use Rattle.site_config.specs.declared.fault.ConfigFault.{ConfigFault}
 use Rattle.status.specs.declared.status.Status.{Status}
@@ -44,6 +46,7 @@ use Rattle.site_report.specs.Report.{Agrees}
 use Rattle.calibration.specs.Grid.{GridValue}
 use Rattle.held_samples.proofs.Going.{stored_holds, same_lines}
 use Rattle.held_rounds.proofs.RoundOf.{any_of}
+use Rattle.lemmas.proofs.Lists.{all_written}
 
 -- a lane that has ended, by its answer
 sound_lane : (g : ℕ) (e : End) → e ≢ end.More → lane_fault g e ≡ None → e ≡ end.Ended
@@ -78,19 +81,6 @@ long_end : (g len part : ℕ) → MAX_SAMPLES < len →
     (if nat_lt MAX_SAMPLES len then Some (TooLong g) else (if part == 0 then None else Some (Torn g part))) ≡ Some (TooLong g)
 long_end g len part le = grind (arith, nat_tests, le)
 
-abbrev value_or : {A : Type 0} → A → Option A → A
-value_or d None = d
-value_or d (Some z) = z
-
-some_is : {A : Type 0} {x y : A} → Some x ≡ Some y → x ≡ y
-some_is {A} {x} {y} is = ap (value_or x) is
-
-take_all : {A : Type 0} (n : ℕ) (xs : List A) → n ≡ length xs → take n xs ≡ xs
-take_all {A} zero [] is = refl
-take_all {A} zero (x ∷ xs) is = absurd (omega (arith, is))
-take_all {A} (suc n) [] is = absurd (omega (arith, is))
-take_all {A} (suc n) (x ∷ xs) is = ap (λ (l : List A). x ∷ l) (take_all n xs (omega (arith, is)))
-
 -- the held segments stand for all samples, where that many are held
 pub stand_for : (r : Recorded) (s : StoreValue) (seen : Image) (leaves : Image → Type 0) → IsStored r s seen leaves
     → ((g : ℕ) → g < length s.held → slice_index (ends_of s.held) g ≡ length (r.samples g)) → AllStandFor r.setup r.samples s.held
@@ -99,7 +89,7 @@ stand_for r s seen leaves stored all =
     subst (λ (x : Setup). AllStandFor x r.samples s.held) stored.setup (λ g d lt. (
       (held_is s.head.setup.grid g stored.bodies (slice_index_or s.held g d) (stored.on.held g d lt)).grid_is,
       subst (λ (l : List ℤ). Stands (slice_index_or s.held g d) (gain_at s.head.setup g) l)
-          (take_all (slice_index (ends_of s.held) g) (r.samples g) (all g lt))
+          (take_all (slice_index (ends_of s.held) g) (r.samples g) (omega (arith, all g lt)))
           (held_stand s stored.bodies seen leaves stored.on r.samples bodies g d lt),
     ))
 
@@ -130,9 +120,9 @@ pub by_fault : (P : Status → Type 0) (g : ℕ) → ((b : ℕ) → P (Torn g b)
     lane_fault g e ≡ Some s → P s
 by_fault P g torn read long end.More s is = absurd cc
 by_fault P g torn read long end.Ended s is = absurd cc
-by_fault P g torn read long (end.Torn b) s is = subst P (some_is is) (torn b)
-by_fault P g torn read long end.ReadFault s is = subst P (some_is is) read
-by_fault P g torn read long end.TooLong s is = subst P (some_is is) long
+by_fault P g torn read long (end.Torn b) s is = subst P (same_Some _ _ is) (torn b)
+by_fault P g torn read long end.ReadFault s is = subst P (same_Some _ _ is) read
+by_fault P g torn read long end.TooLong s is = subst P (same_Some _ _ is) long
 
 pub not_done : (g : ℕ) (e : End) (s : Status) → lane_fault g e ≡ Some s → s ≢ Done
 not_done g = by_fault (λ s. s ≢ Done) g (λ b is. absurd cc) (λ is. absurd cc) (λ is. absurd cc)
@@ -206,10 +196,10 @@ module _ {C : Type 0} {tells : Type 0} {left : C → List ℕ} (c : Config) (fil
           Stood (samples (body_in (files (file_of c g)))) (torn_bytes (body_in (files (file_of c g)))) l at e → EndAnswers c files s
       by_end at l end.More le is st = absurd cc
       by_end at l end.Ended le is st = absurd cc
-      by_end at l (end.Torn b) le is st = subst (EndAnswers c files) (some_is is)
+      by_end at l (end.Torn b) le is st = subst (EndAnswers c files) (same_Some _ _ is)
           (omega (arith, lt, many), sound_below g (omega (arith, lt)) none, torn_end g _ _ b (omega (arith, st.0, le)) st.1 st.2)
-      by_end at l end.ReadFault le is st = subst (EndAnswers c files) (some_is is) tt
-      by_end at l end.TooLong le is st = subst (EndAnswers c files) (some_is is)
+      by_end at l end.ReadFault le is st = subst (EndAnswers c files) (same_Some _ _ is) tt
+      by_end at l end.TooLong le is st = subst (EndAnswers c files) (same_Some _ _ is)
           (omega (arith, lt, many), sound_below g (omega (arith, lt)) none, long_end g _ _ st.1)
 
   -- every image holds all
@@ -305,23 +295,11 @@ run_answers c heads n files all (Differs g w x y) k e = absurd k
 
 -- what was written through a slice of a whole vector
 pub written_back : {A : Type 0} (xs ys : List A) (n : ℕ) → length xs ≡ n → length ys ≡ n → take n (ys ++ drop (length ys) xs) ≡ ys
-written_back {A} xs ys n long same =
-    let none : drop (length ys) xs ≡ [] = drop_all (length ys) xs (omega (arith, long, same)) in
-    ap (λ (l : List A). take n (ys ++ l)) none ∙ ap (λ (l : List A). take n l) (append_none ys) ∙ take_all n ys (sym same)
-  where
-    drop_all : (k : ℕ) (l : List A) → length l ≡ k → drop k l ≡ []
-    drop_all zero [] is = refl
-    drop_all zero (x ∷ l) is = absurd (omega (arith, is))
-    drop_all (suc k) [] is = absurd (omega (arith, is))
-    drop_all (suc k) (x ∷ l) is = drop_all k l (omega (arith, is))
-
-    append_none : (l : List A) → l ++ [] ≡ l
-    append_none [] = refl
-    append_none (x ∷ l) = ap (λ (k : List A). x ∷ k) (append_none l)
+written_back xs ys n long same = all_written xs ys n (sym long) (same ∙ sym long)
 
 -- over a store that was found
 pub answers_over : (c : Config) (image : Image) (files : Files) (h : HeadValue) (n : List ℕ) → ReadsAs c.setup h n image → (s : Status) →
-    IsRunning s → RunAnswers c h.heads (slice_index n) files s → AnswersOver c image files s
+    IsRunning s → RunAnswers c h.heads (slice_index n) files s → MayAnswerOver c image files s
 answers_over c image files h n found Done is a = (h, (n, found, a))
 answers_over c image files h n found WriteFault is a = (h, (n, found, a))
 answers_over c image files h n found (Torn g b) is a = (h, (n, found, a))
@@ -347,7 +325,7 @@ refused setup image see fault.DiskFault h = tt
 refused setup image see fault.OutOfMemory h = tt
 
 pub over_refused : (c : Config) (image : Image) (files : Files) (f : ResumeFault) → IsRefused c.setup image f →
-    AnswersOver c image files (store_fault f)
+    MayAnswerOver c image files (store_fault f)
 over_refused c image files fault.NotAStore h = (fault.NotAStore, refl, h)
 over_refused c image files (fault.Version v) h = (fault.Version v, refl, h)
 over_refused c image files (fault.Differs field kept found) h = (fault.Differs field kept found, refl, h)
@@ -357,7 +335,7 @@ over_refused c image files fault.OutOfMemory h = tt
 
 -- and over a configuration that was read
 pub count_answers : (conf : Result Config ConfigFault) (c : Config) (image : Image) (files : Files) → conf ≡ Ok c → (s : Status) →
-    IsCounting s → AnswersOver c image files s → CountAnswers conf image files s
+    IsCounting s → MayAnswerOver c image files s → CountAnswers conf image files s
 count_answers conf c image files is Done k a = (c, is, a)
 count_answers conf c image files is WriteFault k a = (c, is, a)
 count_answers conf c image files is (Torn g b) k a = (c, is, a)

@@ -1,8 +1,7 @@
 -- Over a sound store and sound recordings the answer is `Done` or want of memory, unless a count of the outside rose.
-use Rattle.std.proofs.Common.{◌≡◌, ◌≤◌, ◌<◌, ◌⊎◌, inl, inr, ℕ, zero, suc, ◌+◌, ◌-◌, ℤ, List, [], length, take, drop, get_or, set, replicate, refl, sym, ◌∙◌, ap, subst, arith}
+use Rattle.std.proofs.Common.{◌≡◌, ◌≤◌, ◌<◌, ◌⊎◌, inl, inr, ℕ, ◌+◌, ◌-◌, ℤ, List, [], length, take, drop, get_or, set, refl, sym, ◌∙◌, ap, subst, arith}
 use Rattle.std.specs.Prelude.{Option, Some, None, Result, Ok, Err, slice_index, slice_index_or}
 use Rattle.std.proofs.lemmas.Bool.{cases_eq, cases_lt}
-use Rattle.std.proofs.lemmas.Bool.Decides.{nat_tests}
 use Rattle.std.proofs.lemmas.List.{get_or-set_same, get_or-set_other, get_or_past, length-drop, length-take, length-set}
 use Rattle.station.specs.Station.{Image}
 use Rattle.outside.specs.Site.{Files}
@@ -22,13 +21,14 @@ use Rattle.site_config.specs.declared.config.Config.{Config}
 use Rattle.site_config.specs.declared.fault.ConfigFault.{ConfigFault}
 use Rattle.site_config.specs.Valid.{file_of}
 use Rattle.recorded.specs.Recorded.{body_in}
-use Rattle.site_lanes.specs.Opening.{head_fault, fault_by, fault_of}
-use Rattle.site_lanes.specs.Answers.{FaultOf, AllOpened, AllSound, HeadsFit}
+use Rattle.site_lanes.specs.Opening.{head_fault}
+use Rattle.site_lanes.specs.Answers.{AllOpened, AllSound, HeadsFit}
+use Rattle.site_lanes.proofs.Opened.{fault_by-none, not_both}
 use Rattle.config_reading.specs.Reading.{MeansAs, IsRefusal}
 use Rattle.count_command.specs.Answer.{RunAnswers, IsRunning, IsComplete, store_fault}
-use Rattle.status.specs.declared.status.RecordingFault.{RecordingFault}
 use Rattle.status.specs.declared.status.Status.{Status}
 use Rattle.status.specs.declared.status.Status.TheVariants.{Done, Usage, Config as BadConfig, Store as BadStore, Recording, Torn, ReadFault, WriteFault, DiskFault, OutOfMemory, TooLong, Differs}
+use Rattle.lemmas.proofs.Lists.{get_or-zeros}
 
 -- no more is held than there is
 abbrev Within : (ℕ → List ℤ) → List ℕ → Type 0
@@ -61,20 +61,11 @@ module _ (setup : Setup) (w : ℕ → List ℤ) where
   all_within none all was = was
   all_within (one {ends} {p} next tiles) all was = all_within tiles all.1 (next_within ends p next all.0 was)
 
-none_held : (n g : ℕ) → slice_index (replicate n 0) g ≡ 0
-none_held zero g = refl
-none_held (suc n) zero = refl
-none_held (suc n) (suc g) = none_held n g
-
 pub held_within : (setup : Setup) (w : ℕ → List ℤ) (n : List ℕ) (image : Image) → Holds setup w n image → (g : ℕ) →
     slice_index n g ≤ length (w g)
 held_within setup w n image h =
     all_within h.head.setup w h.reads.tiles (subst (λ (s : Setup). AllStand s w h.bodies) (sym h.of_setup) h.stand)
-    (λ g. omega (arith, none_held (length h.head.setup.gains) g))
-
-fits_none : (o : Option RecordingFault) (held there : ℕ) → o ≡ None → held ≤ there → fault_by o held there ≡ None
-fits_none (Some fault) held there is le = absurd cc
-fits_none None held there is le = grind (arith, nat_tests, le)
+    (λ g. omega (arith, get_or-zeros (length h.head.setup.gains) g))
 
 pub all_opened : (c : Config) (files : Files) (n : List ℕ) (heads : List Head) →
     ((g : ℕ) → slice_index n g ≤ length (samples (body_in (files (file_of c g)))))
@@ -83,26 +74,10 @@ all_opened c files n heads within fit g lt =
     let f = fit g lt in (
       f.0,
       f.1,
-      λ d. fits_none (head_fault (recording_head f.0) (slice_index_or heads g d)) (slice_index n g)
+      λ d. fault_by-none (head_fault (recording_head f.0) (slice_index_or heads g d)) (slice_index n g)
           (length (samples (body_in (Some f.0)))) (f.2 d)
           (subst (λ (o : Option (List ℕ)). slice_index n g ≤ length (samples (body_in o))) f.1 (within g)),
     )
-
-abbrev file_in : List ℕ → Option (List ℕ) → List ℕ
-file_in d None = d
-file_in d (Some x) = x
-
-file_same : {x y : List ℕ} {o : Option (List ℕ)} → o ≡ Some x → o ≡ Some y → x ≡ y
-file_same {x} {y} {o} is also = ap (file_in x) (sym is ∙ also)
-
-no_head : Head
-no_head = record { id = []; period_us = 0 }
-
-not_both : (c : Config) (heads : List Head) (n : ℕ → ℕ) (files : Files) (g : ℕ) (f : RecordingFault) → FaultOf c heads n files g None →
-    FaultOf c heads n files g (Some f) → ⊥
-not_both c heads n files g f sound fault =
-    let e : None ≡ Some f = sym (sound.2 no_head) ∙ ap (λ (x : List ℕ). fault_of (slice_index_or heads g no_head) (n g) x)
-    (file_same sound.1 fault.1) ∙ fault.2 no_head in cc
 
 none_some : {o : Option Status} {s : Status} → o ≡ None → o ≡ Some s → ⊥
 none_some {o} {s} is also = let e : None ≡ Some s = sym is ∙ also in cc

@@ -1,6 +1,5 @@
 -- From the images at entry to the store that was resumed.
 use Rattle.std.proofs.Common.{◌≡◌, ℕ, List, sym, ◌∙◌, ap, subst}
-use Rattle.std.specs.Prelude.{Result, Ok, Err}
 use Rattle.station.specs.Station.{Image, Lines, MomentsSince}
 use Rattle.segment_rules.specs.Parts.{PartsValue}
 use Rattle.calibration.specs.declared.setup.Setup.{Setup}
@@ -9,8 +8,6 @@ use Rattle.segment_store.specs.Image.{Reads}
 use Rattle.segment_store.specs.Moments.{StoreValue, IsOn, IsThere}
 use Rattle.store_head.specs.Head.{HeadValue}
 use Rattle.segment_store.proofs.Quiet.{quiet_starts}
-use Rattle.site_config.specs.declared.config.Config.{Config}
-use Rattle.site_config.specs.declared.fault.ConfigFault.{ConfigFault}
 use Rattle.recorded.specs.Recorded.{Recorded}
 use Rattle.held_samples.specs.Told.{EachAtMost}
 use Rattle.held_samples.specs.Going.{HoldsAtLeast, Safe, IsStored}
@@ -53,12 +50,3 @@ pub safe_starts : (r : Recorded) (a : List ℕ) (start : ℕ) (past : MomentsSin
     → ((lines : Lines) (c : Image) → past start lines c → (lines ≡ told) × leaves c) → Safe r a start past told start past told leaves
 safe_starts r a start past told seen leaves holds only =
     safe_quiet r a start start past past told told seen seen leaves leaves holds (quiet_starts start past told seen leaves only)
-
-ok_of : Config → Result Config ConfigFault → Config
-ok_of d (Ok c) = c
-ok_of d (Err f) = d
-
--- the configuration that was read is the one that the bytes are
-pub same_conf : (conf : Result Config ConfigFault) (c d : Config) → conf ≡ Ok c → conf ≡ Ok d → c ≡ d
-unfolding ok_of
-same_conf conf c d is also = ap (ok_of c) (sym is ∙ also)

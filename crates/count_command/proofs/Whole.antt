@@ -10,46 +10,33 @@ use Rattle.count_command.specs.Holding.{HeldAt, HeldCut}
 use Rattle.count_command.specs.Printed.{Prints}
 use Rattle.fault_lines.specs.FaultLine.{fault_line}
 use Rattle.config_reading.specs.Reading.{MeansAs, IsRefusal}
+use Rattle.config_reading.proofs.Refusing.{by_refusal}
 use Rattle.count_command.specs.Answer.{CountAnswers}
 use Rattle.status.specs.declared.status.Status.{Status}
 use Rattle.status.specs.declared.status.Status.TheVariants.{Done, Usage, Config as BadConfig, Store as BadStore, Recording, Torn, ReadFault, WriteFault, DiskFault, OutOfMemory, TooLong, Differs}
 
-by_reading : (P : Status → Type 0) → ((f : ConfigFault) → P (BadConfig f)) → P ReadFault → P OutOfMemory → (s : Status) → IsRefusal s → P s
-by_reading P c r o Done is = absurd is
-by_reading P c r o Usage is = absurd is
-by_reading P c r o (BadConfig f) is = c f
-by_reading P c r o (BadStore f) is = absurd is
-by_reading P c r o (Recording g f) is = absurd is
-by_reading P c r o (Torn g b) is = absurd is
-by_reading P c r o ReadFault is = r
-by_reading P c r o WriteFault is = absurd is
-by_reading P c r o DiskFault is = absurd is
-by_reading P c r o OutOfMemory is = o
-by_reading P c r o (TooLong g) is = absurd is
-by_reading P c r o (Differs g w x y) is = absurd is
-
 pub held_read : (r : Recorded) (leaves : Image → Type 0) (s : Status) → IsRefusal s → HeldAt s r leaves
-held_read r leaves = by_reading (λ (s : Status). HeldAt s r leaves) (λ f. tt) tt tt
+held_read r leaves = by_refusal (λ (s : Status). HeldAt s r leaves) (λ f. tt) tt tt
 
 pub cut_read : (r : Recorded) (leaves : Image → Type 0) (s : Status) → IsRefusal s → HeldCut s r leaves
-cut_read r leaves = by_reading (λ (s : Status). HeldCut s r leaves) (λ f. tt) tt tt
+cut_read r leaves = by_refusal (λ (s : Status). HeldCut s r leaves) (λ f. tt) tt tt
 
 pub prints_read : (c : Config) (w : ℕ → List ℤ) (old : List ℕ) (s : Status) → IsRefusal s → Prints s c w old old
-prints_read c w old = by_reading (λ (s : Status). Prints s c w old old) (λ f. refl) refl refl
+prints_read c w old = by_refusal (λ (s : Status). Prints s c w old old) (λ f. refl) refl refl
 
 pub answers_read : (conf : Result Config ConfigFault) (image : Image) (files : Files) (s : Status) → IsRefusal s → MeansAs conf (Err s) →
     CountAnswers conf image files s
 answers_read conf image files =
-    by_reading (λ (s : Status). MeansAs conf (Err s) → CountAnswers conf image files s) (λ f a. a) (λ a. tt) (λ a. tt)
+    by_refusal (λ (s : Status). MeansAs conf (Err s) → CountAnswers conf image files s) (λ f a. a) (λ a. tt) (λ a. tt)
 
 pub not_done_read : (s : Status) → IsRefusal s → s ≢ Done
-not_done_read = by_reading (λ s. s ≢ Done) (λ f is. absurd cc) (λ is. absurd cc) (λ is. absurd cc)
+not_done_read = by_refusal (λ s. s ≢ Done) (λ f is. absurd cc) (λ is. absurd cc) (λ is. absurd cc)
 
 pub not_write_read : (s : Status) → IsRefusal s → s ≢ WriteFault
-not_write_read = by_reading (λ s. s ≢ WriteFault) (λ f is. absurd cc) (λ is. absurd cc) (λ is. absurd cc)
+not_write_read = by_refusal (λ s. s ≢ WriteFault) (λ f is. absurd cc) (λ is. absurd cc) (λ is. absurd cc)
 
 pub not_disk_read : (s : Status) → IsRefusal s → s ≢ DiskFault
-not_disk_read = by_reading (λ s. s ≢ DiskFault) (λ f is. absurd cc) (λ is. absurd cc) (λ is. absurd cc)
+not_disk_read = by_refusal (λ s. s ≢ DiskFault) (λ f is. absurd cc) (λ is. absurd cc) (λ is. absurd cc)
 
 -- where no image is new
 pub held_fewer : (r : Recorded) (leaves leaves2 : Image → Type 0) → NoNew leaves leaves2 → (s : Status) → HeldAt s r leaves →
@@ -84,4 +71,4 @@ cut_fewer r leaves leaves2 none (Differs g w x y) h = tt
 
 -- before the configuration is known no line has a name
 pub line_read : (name : List ℕ) (s : Status) → IsRefusal s → fault_line s [] ≡ fault_line s name
-line_read name = by_reading (λ (s : Status). fault_line s [] ≡ fault_line s name) (λ f. refl) refl refl
+line_read name = by_refusal (λ (s : Status). fault_line s [] ≡ fault_line s name) (λ f. refl) refl refl

@@ -3,7 +3,7 @@
 --   EndAnswers     after all recordings were opened
 --   RunAnswers     after the store was resumed
 --   store_fault    the answer for a store that is refused
---   AnswersOver    over what a read of the store gives
+--   MayAnswerOver  over what a read of the store gives
 --   CountAnswers   by the configuration
 --   IsEnding, IsRunning, IsCounting   the answers that can come at all, by stage
 --   IsComplete     the answers over a sound site and store
@@ -69,20 +69,20 @@ pub record ReadsAs (setup : Setup) (head : HeadValue) (n : List ℕ) (image : Im
   pub bodies : List PartsValue
   pub reads : Reads head bodies n image
 
-abbrev pub AnswersOver : Config → Image → Files → Status → Type 0
-AnswersOver c image files (BadStore fault) =
+abbrev pub MayAnswerOver : Config → Image → Files → Status → Type 0
+MayAnswerOver c image files (BadStore fault) =
     (f : ResumeFault) × (store_fault f ≡ BadStore fault) × IsRefused c.setup image f
-AnswersOver c image files ReadFault = Unit {0}
-AnswersOver c image files DiskFault = Unit {0}
-AnswersOver c image files OutOfMemory = Unit {0}
-AnswersOver c image files status =
+MayAnswerOver c image files ReadFault = Unit {0}
+MayAnswerOver c image files DiskFault = Unit {0}
+MayAnswerOver c image files OutOfMemory = Unit {0}
+MayAnswerOver c image files status =
     (h : HeadValue) × ((n : List ℕ) × ReadsAs c.setup h n image × RunAnswers c h.heads (slice_index n) files status)
 
 abbrev pub CountAnswers : Result Config ConfigFault → Image → Files → Status → Type 0
 CountAnswers conf image files (BadConfig fault) = conf ≡ Err fault
 CountAnswers conf image files ReadFault = Unit {0}
 CountAnswers conf image files OutOfMemory = Unit {0}
-CountAnswers conf image files status = (c : Config) × (conf ≡ Ok c) × AnswersOver c image files status
+CountAnswers conf image files status = (c : Config) × (conf ≡ Ok c) × MayAnswerOver c image files status
 
 abbrev pub IsEnding : Status → Type 0
 IsEnding Done = Unit {0}

@@ -25,7 +25,7 @@ ghost use Rattle.site_lanes.specs.Answers.{HeadsFit, AllSound};
 ghost use Rattle.site_lanes.specs.Lanes.{HasSource, IsFaulty, HasNotFailed};
 ghost use Rattle.status.specs.declared.status.Status.TheVariants.{Done, ReadFault, WriteFault, DiskFault};
 ghost use Rattle.count_command.specs.Holding.{HeldAt, HeldCut, LeavesStore};
-ghost use Rattle.count_command.specs.Answer.{store_fault, RunAnswers, AnswersOver, IsRunning, IsCounting, IsComplete};
+ghost use Rattle.count_command.specs.Answer.{store_fault, RunAnswers, MayAnswerOver, IsRunning, IsCounting, IsComplete};
 ghost use Rattle.count_command.specs.Printed.{Prints, IsPrinting};
 
 use crate::opened::count_opened;
@@ -192,7 +192,7 @@ pub fn count_by<
     ensures nothing { O.tells → (IsPrinting result → ⊥) → O.written out.new ≡ O.written out.old }
     // Which answer it is.
     ensures answer { K.tells → T.tells →
-        AnswersOver conf.now (K.seen station.old) (T.files site.old) result }
+        MayAnswerOver conf.now (K.seen station.old) (T.files site.old) result }
     // Over a sound store and sound recordings there is no refusal.
     ensures complete { K.tells → T.tells → (n : List ℕ)
         (h : Holds conf.now.setup (recorded conf.now (T.files site.old)).samples n

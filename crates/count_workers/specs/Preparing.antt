@@ -8,6 +8,7 @@ use Rattle.block_workers.specs.declared.item.Back.{Back}
 use Rattle.block_workers.specs.declared.jobs.Reader.{Reader}
 use Rattle.block_workers.specs.declared.worker.Worker.{Worker}
 use Rattle.count_workers.specs.declared.plan.Plan.{Plan}
+use Rattle.flow.specs.declared.TheConstants.{BLOCKS_PER_WINDOW}
 
 module _ {C : Type 0} where
   -- a reader with no source and no units, with its first so many rings
@@ -19,7 +20,7 @@ module _ {C : Type 0} where
     pub feeders : vec_len r.desk.feeders ≡ rings
     pub places : plan.workers ≤ vec_capacity r.desk.feeders
     pub blanks : vec_len r.desk.blanks ≡ 0
-    pub room : 16 ≤ vec_capacity r.desk.blanks
+    pub room : BLOCKS_PER_WINDOW ≤ vec_capacity r.desk.blanks
 
   abbrev pub NewReaders : Plan → ℕ → List (Reader C) → Type 0
   NewReaders plan rings readers = (g : ℕ) (d : Reader C) → g < length readers →

@@ -8,7 +8,7 @@
 //! them, read the lanes and then count; where a thread can't be made, its work is done by the
 //! caller.
 //!
-//! What a round does is said by `RoundDone` (crate `round_making`, specs/Round.antt).
+//! What a round does is said by `RoundDone` (`crates/round_making/specs/Round.antt`).
 #![tactic(auto)]
 
 mod plan;

@@ -1,5 +1,6 @@
 ghost use Rattle.std.specs.Prelude.{◌≡◌, ◌<◌, ◌≤◌, ◌*◌, ℕ, List, length, slice_index_or, IfOk};
 ghost use Rattle.board.specs.Board.{IsFront};
+ghost use Rattle.flow.specs.declared.TheConstants.{BLOCKS_PER_WINDOW};
 
 use crate::preparing::{new_readers, new_worker};
 use crate::{Lane, OutOfMemory, Plan};
@@ -7,6 +8,7 @@ use block_pool::Pool;
 use block_workers::{Reader, Worker};
 use board::Board;
 use collector::Return;
+use flow::BLOCKS_PER_WINDOW;
 use gauge_ring::ring;
 use outside::{Gate, Source};
 use round_making::make_round;
@@ -49,7 +51,7 @@ impl<C: Source + Send> Prepared<C> {
         requires { IsPlan plan.now }
         ensures { IfOk result (IsNew plan.now) }
     {
-        let units = 16 * plan.gauges as usize;
+        let units = BLOCKS_PER_WINDOW * plan.gauges as usize;
         let count = plan.workers as usize;
         let pool = Pool::new(alloc, units, plan.block as usize, &plan.grid)?;
         let board = Board::new(alloc, plan.gauges, plan.block, &plan.grid)?;
@@ -125,7 +127,7 @@ impl<C: Source + Send> Prepared<C> {
     /// How many units are in the pool.
     pub fn inside(&self) -> usize
         ensures inside { result ≡ self.now.inside }
-        ensures all { result ≡ 16 * self.now.gauges }
+        ensures all { result ≡ BLOCKS_PER_WINDOW * self.now.gauges }
     {
         self.pool.inside()
     }

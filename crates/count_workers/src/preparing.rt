@@ -4,6 +4,7 @@ ghost use Rattle.count_workers.specs.Preparing.{IsFreshReader, NewReaders, Conne
 use crate::{OutOfMemory, Plan};
 use block_workers::{Back, Desk, Item, Reader, Worker};
 use calibration::Gain;
+use flow::BLOCKS_PER_WINDOW;
 use gauge_ring::{Feeder, Taker, ring};
 use lane_ends::End;
 use outside::Source;
@@ -16,7 +17,7 @@ fn new_reader<C: Source>(alloc: Global, plan: &Plan, gauge: u16) -> Result<Reade
     let Ok(gain) = Gain::new(1, 1, 0) else {
         unreachable!()
     };
-    let blanks = Vec::with_capacity(alloc, 16)?;
+    let blanks = Vec::with_capacity(alloc, BLOCKS_PER_WINDOW)?;
     let feeders = Vec::with_capacity(alloc, plan.workers as usize)?;
     Ok(Reader {
         src: None,

@@ -1,6 +1,7 @@
 ghost use Rattle.std.specs.Prelude.{◌≡◌, ◌<◌, ◌≤◌, ℕ, IfOk, length, slice_index_or};
 ghost use Rattle.count_workers.specs.Plans.{IsPlan};
 ghost use Rattle.lane_loans.specs.Lent.{CanRound};
+ghost use Rattle.calibration.specs.declared.limits.TheConstants.{MAX_GAUGES, MAX_BLOCK, MAX_WORKERS};
 
 use super::*;
 use block_pool::{Counted, Pool};
@@ -19,8 +20,8 @@ const EXAMPLE: [i32; 9] = [-2, 1, -3, 5, -1, 3, -4, 4, -2];
 
 // Classes of 1 N/mm² from -8 on: a raw value `r` has level `r + 8`.
 fn plan(rt: &impl Abort, gauges: u16, block: u32, workers: u8) -> Plan
-    requires { (1 ≤ gauges) × (gauges ≤ 32) × (1 ≤ block) × (block ≤ 4096)
-        × (1 ≤ workers) × (workers ≤ 8) }
+    requires { (1 ≤ gauges) × (gauges ≤ MAX_GAUGES) × (1 ≤ block) × (block ≤ MAX_BLOCK)
+        × (1 ≤ workers) × (workers ≤ MAX_WORKERS) }
     ensures plan { IsPlan result }
     ensures gauges { result.gauges ≡ gauges }
 {

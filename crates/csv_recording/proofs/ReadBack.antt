@@ -1,54 +1,25 @@
 -- A recording that was written reads as its head and its samples.
-use Rattle.std.proofs.Common.{◌≡◌, ◌≤◌, ◌<◌, ◌^◌, ℕ, ◌+◌, Bool, true, false, ℤ, pos, negsuc, List, [], ◌∷◌, ◌++◌, length, take, drop, refl, ap, ◌∙◌, subst, append_assoc, rules, arith}
+use Rattle.std.proofs.Common.{◌≡◌, ◌≤◌, ℕ, ◌+◌, Bool, true, false, ℤ, pos, negsuc, List, [], ◌∷◌, ◌++◌, length, take, drop, refl, ap, ◌∙◌, subst, append_assoc, rules, arith}
 use Rattle.std.proofs.lemmas.Bool.{cond-false, and_parts}
 use Rattle.std.proofs.lemmas.Option.{same_Some}
 use Rattle.std.specs.Str.Parse.{digits_value}
 use Rattle.csv.specs.Records.{field_at}
 use Rattle.std.proofs.lemmas.Bool.Decides.{nat_tests}
 use Rattle.std.specs.Prelude.{⊤, zero, suc, nat_lt, nat_le, ◌==◌, if◌then◌else◌, FitsSigned, Result, Ok, Err, Option, Some, None, neg_ℤ, option_map}
-use Rattle.std.specs.Int.{w32, to_le_bytes, cast_signed, cast_unsigned}
-use Rattle.std.proofs.lemmas.Int.{to_z-of_z, fits_signed_from_abs}
+use Rattle.std.specs.Int.{w32, to_le_bytes}
+use Rattle.std.proofs.lemmas.Int.{fits_signed_from_abs}
 use Rattle.std.proofs.lemmas.List.{take_at, drop_at, length-append}
 use Rattle.std.proofs.lemmas.Nat.{from_le_bytes-to_le_bytes_4}
 use Rattle.recording.specs.Head.{head_bytes, head_in, recording_head}
 use Rattle.recording.specs.Samples.{sample, samples, torn_bytes, sample_bytes}
 use Rattle.recording.specs.declared.head.Head.{Head}
 use Rattle.recording.specs.declared.head.HeadFault.TheVariants.{Short}
+use Rattle.recording.proofs.Groups.{samples-group, torn_bytes-group, bytes_of, length-bytes_of, sample-bytes_of}
 use Rattle.csv_recording.specs.Cells.{missing, magnitude, reading_in, cell_sample, means_missing, without_blanks}
 use Rattle.csv_recording.specs.Column.{◌>>=◌, present, place_of, records_of, column_in, samples_of_rows, sample_of_row}
 use Rattle.csv_recording.specs.Recording.{recording_bytes, ReadsAs, IsHead, ReadsAsWritten}
 use Rattle.csv_recording.specs.declared.columns.ColumnFault.{ColumnFault}
 use Rattle.csv_recording.specs.declared.columns.ColumnFault.TheVariants.{NoColumn, ShortRow, Cell}
-
--- a group of four bytes in front
-samples-group : (bs rest : List ℕ) → length bs ≡ 4 → samples (bs ++ rest) ≡ sample bs ∷ samples rest
-samples-group [] rest four = absurd (omega (arith, four))
-samples-group (a ∷ []) rest four = absurd (omega (arith, four))
-samples-group (a ∷ b ∷ []) rest four = absurd (omega (arith, four))
-samples-group (a ∷ b ∷ c ∷ []) rest four = absurd (omega (arith, four))
-samples-group (a ∷ b ∷ c ∷ d ∷ []) rest four = refl
-samples-group (a ∷ b ∷ c ∷ d ∷ e ∷ l) rest four = absurd (omega (arith, four))
-
-torn_bytes-group : (bs rest : List ℕ) → length bs ≡ 4 → torn_bytes (bs ++ rest) ≡ torn_bytes rest
-torn_bytes-group [] rest four = absurd (omega (arith, four))
-torn_bytes-group (a ∷ []) rest four = absurd (omega (arith, four))
-torn_bytes-group (a ∷ b ∷ []) rest four = absurd (omega (arith, four))
-torn_bytes-group (a ∷ b ∷ c ∷ []) rest four = absurd (omega (arith, four))
-torn_bytes-group (a ∷ b ∷ c ∷ d ∷ []) rest four = refl
-torn_bytes-group (a ∷ b ∷ c ∷ d ∷ e ∷ l) rest four = absurd (omega (arith, four))
-
-abbrev bytes_of : ℤ → List ℕ
-bytes_of v = to_le_bytes w32 (cast_unsigned w32 v)
-
-length-bytes_of : (v : ℤ) → length (bytes_of v) ≡ 4
-length-bytes_of v = refl
-
-bits_few : (v : ℤ) → FitsSigned w32 v → cast_unsigned w32 v < 2 ^ 32
-bits_few (pos n) f = let small : n < 2147483648 = f.sfits in omega (arith, small)
-bits_few (negsuc n) f = let small : n < 2147483648 = f.sfits in omega (arith, small)
-
-sample-bytes_of : (v : ℤ) → FitsSigned w32 v → sample (bytes_of v) ≡ v
-sample-bytes_of v f = ap (cast_signed w32) (from_le_bytes-to_le_bytes_4 (cast_unsigned w32 v) (bits_few v f)) ∙ to_z-of_z w32 v f
 
 -- every sample is a value of 32 bits
 unfoldable pub AllFit : List ℤ → Type 0

@@ -11,18 +11,20 @@ use Rattle.calibration.specs.Gain.{GainValue}
 use Rattle.segment_rules.specs.declared.name.Name.{Name}
 use Rattle.segment.specs.Segment.{SegmentValue, Stands, empty_at}
 use Rattle.board.specs.Board.{BoardValue, IsFront}
-use Rattle.board.proofs.Empty.{empty_stands}
+use Rattle.segment.proofs.Empty.{empty_stands}
 use Rattle.lane_ends.specs.declared.end.End.{End}
 use Rattle.lane_ends.specs.declared.end.End.TheVariants.{More, Ended, Torn, ReadFault, TooLong}
+use Rattle.lane_ends.proofs.Giving.{more_or_not}
 use Rattle.lane_loans.specs.declared.lane.Lane.{Lane}
 use Rattle.round_making.specs.Resting.{PreparedValue}
 use Rattle.round_making.specs.Round.{LaneDone, FrontDone, RoundDone}
 use Rattle.site_lanes.specs.Lanes.{Stood, IsLane, AreReady, AreLanes, IsWhole}
-use Rattle.site_lanes.proofs.AfterRound.{more_or_not, same_some, stood_more}
+use Rattle.site_lanes.proofs.AfterRound.{stood_more}
 use Rattle.site_lanes.proofs.AllLanes.{ready_after, lanes_after, all_reached}
 use Rattle.demo_command.specs.Made.{demo_grid, demo_gain, made_at, made, IsStart}
 use Rattle.demo_command.specs.Totals.{IsTotal, CanJoin, HasJoined}
 use Rattle.demo_command.proofs.MadeBytes.{length-made, samples-made, torn_bytes-made}
+use Rattle.lemmas.proofs.Outcomes.{same_some}
 
 abbrev pub DemoLane : Type 0
 DemoLane = Lane (List ℕ)

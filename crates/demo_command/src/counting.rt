@@ -2,6 +2,7 @@ ghost use Rattle.std.specs.Prelude.{◌≡◌, ◌≤◌, ◌<◌, ℕ, length, 
 ghost use Rattle.demo_command.specs.Totals.{IsTotal};
 ghost use Rattle.demo_command.specs.declared.TheConstants.{MAX_SEED, MAX_DEMO_SAMPLES};
 ghost use Rattle.round_making.specs.declared.TheConstants.{MAX_WORKERS};
+ghost use Rattle.demo_command.specs.declared.made.TheConstants.{GAUGES};
 
 use crate::made::{BLOCK, GAUGES, grid_of_demo, made_lanes};
 use crate::totals::{join_fronts, new_totals};
@@ -23,8 +24,8 @@ pub fn count_made<R: AllocGlobal + Threads + Wait + Sync, G: Gate + Sync>(
     requires seed { seed ≤ MAX_SEED }
     requires samples { (1 ≤ samples) × (samples ≤ MAX_DEMO_SAMPLES) }
     requires workers { (1 ≤ workers) × (workers ≤ MAX_WORKERS) }
-    ensures long { IfOk result (λ totals. length totals ≡ 4) }
-    ensures all { IfOk result (λ totals. (g : ℕ) (d : _) → g < 4 →
+    ensures long { IfOk result (λ totals. length totals ≡ GAUGES) }
+    ensures all { IfOk result (λ totals. (g : ℕ) (d : _) → g < GAUGES →
         IsTotal seed samples g samples (slice_index_or totals g d)) }
 {
     let plan = Plan {

@@ -1,6 +1,7 @@
 ghost use Rattle.std.specs.Prelude.{◌≡◌, ◌≤◌, ◌<◌, ◌+◌, ℕ, length, slice_index_or};
 ghost use Rattle.demo_command.specs.Made.{demo_gain, demo_grid, IsStart};
 ghost use Rattle.demo_command.specs.declared.TheConstants.{MAX_SEED, MAX_DEMO_SAMPLES};
+ghost use Rattle.demo_command.specs.declared.made.TheConstants.{GAUGES};
 
 use calibration::{Gain, Grid};
 use count_workers::{End, Lane};
@@ -48,7 +49,7 @@ fn gain_of_demo() -> Gain
 
 // A lane at the start of the recording of a gauge.
 fn made_lane(gauge: u16, seed: u64, samples: u64) -> Lane<Synth>
-    requires gauge { gauge < 4 }
+    requires gauge { gauge < GAUGES }
     requires seed { seed ≤ MAX_SEED }
     requires samples { samples ≤ MAX_DEMO_SAMPLES }
     ensures { IsStart seed samples gauge result }
@@ -66,8 +67,9 @@ fn made_lane(gauge: u16, seed: u64, samples: u64) -> Lane<Synth>
 pub fn made_lanes(seed: u64, samples: u64) -> [Lane<Synth>; GAUGES]
     requires seed { seed ≤ MAX_SEED }
     requires samples { samples ≤ MAX_DEMO_SAMPLES }
-    ensures long { length result ≡ 4 }
-    ensures start { (g : ℕ) (d : _) → g < 4 → IsStart seed samples g (slice_index_or result g d) }
+    ensures long { length result ≡ GAUGES }
+    ensures start { (g : ℕ) (d : _) → g < GAUGES →
+        IsStart seed samples g (slice_index_or result g d) }
 {
     [
         made_lane(0, seed, samples),

@@ -21,6 +21,8 @@ ghost use Rattle.report.specs.Lines.{tenths as tenths_of};
 ghost use Rattle.demo_command.specs.Made.{demo_grid, demo_gain};
 ghost use Rattle.demo_command.specs.Totals.{IsTotal};
 ghost use Rattle.demo_command.specs.Summary as spec;
+ghost use Rattle.demo_command.specs.declared.made.TheConstants.{GAUGES};
+ghost use Rattle.calibration.specs.declared.grid.TheConstants.{MAX_CLASSES};
 
 use crate::made::CLASSES;
 use itoa::Buffer;
@@ -30,7 +32,7 @@ use std::alloc::{AllocError, Global};
 // What stands at the places from 1 on, together.
 fn sum_of(halves: &[u64]) -> u128
     requires some { 1 ≤ length halves.now }
-    requires few { length halves.now ≤ 1024 }
+    requires few { length halves.now ≤ MAX_CLASSES }
     ensures { result ≡ spec.all_halves (λ k. slice_index halves.now k) (length halves.now - 1) }
 {
     let mut sum = 0u128;
@@ -108,8 +110,8 @@ pub fn summary_text(
     samples: u64,
     totals: &[Segment],
 ) -> Result<String, AllocError>
-    requires long { length totals.now ≡ 4 }
-    requires totals { (g : ℕ) (d : _) → g < 4 →
+    requires long { length totals.now ≡ GAUGES }
+    requires totals { (g : ℕ) (d : _) → g < GAUGES →
         IsTotal seed samples g samples (slice_index_or totals.now g d) }
     ensures { IfOk result (λ text. spec.IsSummary seed samples (string_bytes text)) }
 {

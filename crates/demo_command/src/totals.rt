@@ -3,6 +3,7 @@ ghost use Rattle.segment.specs.Segment.{empty_at};
 ghost use Rattle.demo_command.specs.Made.{demo_grid};
 ghost use Rattle.demo_command.specs.Totals.{CanJoin, HasJoined};
 ghost use Rattle.demo_command.specs.declared.TheConstants.{MAX_DEMO_SAMPLES};
+ghost use Rattle.demo_command.specs.declared.made.TheConstants.{GAUGES};
 
 use crate::made::{GAUGES, grid_of_demo};
 use count_workers::Prepared;
@@ -22,8 +23,8 @@ fn new_total(alloc: Global, gauge: u16, samples: u64) -> Result<Segment, AllocEr
 pub fn new_totals(alloc: Global, samples: u64) -> Result<[Segment; GAUGES], AllocError>
     requires some { 1 ≤ samples }
     requires few { samples ≤ MAX_DEMO_SAMPLES }
-    ensures long { IfOk result (λ totals. length totals ≡ 4) }
-    ensures nothing { IfOk result (λ totals. (g : ℕ) (d : _) → g < 4 →
+    ensures long { IfOk result (λ totals. length totals ≡ GAUGES) }
+    ensures nothing { IfOk result (λ totals. (g : ℕ) (d : _) → g < GAUGES →
         slice_index_or totals g d ≡ empty_at demo_grid g 0 samples) }
 {
     Ok([
@@ -36,11 +37,11 @@ pub fn new_totals(alloc: Global, samples: u64) -> Result<[Segment; GAUGES], Allo
 
 /// Joins the front of each gauge, which comes next.
 pub fn join_fronts(prepared: &Prepared<Synth>, totals: &mut [Segment])
-    requires long { (length totals.old ≡ 4) × (prepared.now.gauges ≡ 4) }
-    requires next { (g : ℕ) (d : _) → g < 4 →
+    requires long { (length totals.old ≡ GAUGES) × (prepared.now.gauges ≡ GAUGES) }
+    requires next { (g : ℕ) (d : _) → g < GAUGES →
         CanJoin prepared.now.board g (slice_index_or totals.old g d) }
-    ensures long { length totals.new ≡ 4 }
-    ensures joined { (g : ℕ) (d : _) → g < 4 → HasJoined prepared.now.board g
+    ensures long { length totals.new ≡ GAUGES }
+    ensures joined { (g : ℕ) (d : _) → g < GAUGES → HasJoined prepared.now.board g
         (slice_index_or totals.old g d) (slice_index_or totals.new g d) }
 {
     for gauge in 0..GAUGES {

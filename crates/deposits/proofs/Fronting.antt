@@ -1,5 +1,5 @@
 -- The front of a gauge whose placed names cover a range of samples once.
-use Rattle.std.proofs.Common.{◌≡◌, inl, inr, ◌≤◌, ◌<◌, ℕ, ap, ◌∙◌, arith}
+use Rattle.std.proofs.Common.{◌≡◌, inl, inr, ◌≤◌, ℕ, ap, ◌∙◌, arith}
 use Rattle.std.proofs.lemmas.Bool.{cases_lt}
 use Rattle.std.proofs.lemmas.Bool.Decides.{nat_tests}
 use Rattle.segment_rules.specs.declared.name.Name.{Name}
@@ -8,10 +8,8 @@ use Rattle.segment.specs.Name.{name_of}
 use Rattle.flow.specs.Flow.{named}
 use Rattle.flow.specs.Flow.{hits}
 use Rattle.flow.specs.Kept.{between}
+use Rattle.flow.proofs.Counting.{between_one}
 use Rattle.board.specs.Board.{BoardValue, IsFront, start_of}
-
-inside : (a b i : ℕ) → a ≤ i → i < b → between a b i ≡ 1
-inside a b i h k = grind (arith, nat_tests)
 
 behind : (a b i : ℕ) → b ≤ i → between a b i ≡ 0
 behind a b i h = grind (arith, nat_tests)
@@ -27,7 +25,7 @@ front_name b g from to s f start up once =
     let ends : s.to ≡ to = elim (cases_lt s.to to) [
       | inl short ↦ absurd (
           let e : hits g s.to b.arrivals ≡ between from to s.to = once s.to in
-          let o : between from to s.to ≡ 1 = inside from to s.to (omega (arith, at, f.ordered)) short in
+          let o : between from to s.to ≡ 1 = between_one from to s.to (omega (arith, at, f.ordered)) short in
           let z : hits g s.to b.arrivals ≡ 0 = f.greatest in omega (arith, e, o, z))
       | inr fits ↦ elim (cases_lt to s.to) [
         | inl long ↦ absurd (

@@ -8,7 +8,7 @@ use Rattle.segment.specs.Segment.{SegmentValue}
 use Rattle.segment.specs.Name.{name_of}
 use Rattle.board.specs.declared.windows.Deposit.{Deposit}
 use Rattle.board.specs.declared.windows.Deposit.TheVariants.{Placed, Stranger, Double}
-use Rattle.board.specs.Deposits.{Answers}
+use Rattle.board.specs.Deposits.{IsDepositAnswer}
 use Rattle.block_pool.specs.Units.{CountedValue, PoolValue}
 use Rattle.flow.specs.Flow.{has, hits}
 use Rattle.flow.proofs.Counting.{hits-append, has_inside}
@@ -38,7 +38,7 @@ same_board a b c h k = record {
       ∙ h.starts g;
 }
 
-same_pool : (a b c : PoolValue) → SamePool a b → SamePool b c → SamePool a c
+pub same_pool : (a b c : PoolValue) → SamePool a b → SamePool b c → SamePool a c
 same_pool a b c h k = record { units = k.units ∙ h.units; block = k.block ∙ h.block; grid = k.grid ∙ h.grid }
 
 fits_still : (b c : BoardValue) (n : Name) → SameBoard b c → Fits b n → Fits c n
@@ -110,7 +110,7 @@ deposited_more b c d p q r us u h s = record {
 
 -- what one deposit answers
 pub stepped : (b c : BoardValue) (p q : PoolValue) (u : CountedValue) (seg : SegmentValue) (answer : Deposit) → seg ≡ u.segment
-    → Answers b c seg answer → SameBoard b c
+    → IsDepositAnswer b c seg answer → SameBoard b c
     → ((gain : ℕ → GainValue) (w : ℕ → List ℤ) → Carries b gain w → StandsIn seg (gain seg.gauge) (w seg.gauge) → Carries c gain w)
     → q ≡ record { units = p.units; block = p.block; grid = p.grid; inside = p.inside + 1 } → Stepped b c p q u
 stepped b c p q u seg answer e a s carries g = record {
@@ -129,7 +129,7 @@ stepped b c p q u seg answer e a s carries g = record {
     one u (both p d) = p
 
     came_by : (b c : BoardValue) (p q : PoolValue) (u : CountedValue) (seg : SegmentValue) (answer : Deposit) → seg ≡ u.segment
-        → Answers b c seg answer → Fits b (unit_name u) → hits u.segment.gauge u.segment.from b.arrivals ≡ 0
+        → IsDepositAnswer b c seg answer → Fits b (unit_name u) → hits u.segment.gauge u.segment.from b.arrivals ≡ 0
         → ((gain : ℕ → GainValue) (w : ℕ → List ℤ) → Carries b gain w → UnitStands gain w u → Carries c gain w) → q.inside ≡ p.inside + 1
         → Came b c p q (u ∷ [])
     came_by b c p q u seg Placed e a fits free carries inside =

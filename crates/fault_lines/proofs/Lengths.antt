@@ -1,8 +1,8 @@
 -- How long a line is beside its name, whatever its numbers: a decimal has 64 digits at most.
-use Rattle.std.proofs.Common.{◌≤◌, ◌+◌, ◌/◌, ◌%◌, ℕ, Bool, true, false, cond, zero, suc, List, [], ◌∷◌, ◌++◌, length, take, codes, arith}
+use Rattle.std.proofs.Common.{◌≤◌, ◌+◌, ◌/◌, ◌%◌, ℕ, Bool, true, false, zero, suc, List, [], ◌∷◌, ◌++◌, length, take, codes, arith}
 use Rattle.std.specs.Prelude.{ℤ, pos, negsuc}
 use Rattle.std.specs.Fmt.{digit_glyph, digits_onto, digits, decimal, signed_decimal}
-use Rattle.std.proofs.lemmas.List.{length-append, length-take, length-map}
+use Rattle.std.proofs.lemmas.List.{length-take, length-map}
 use Rattle.hex.specs.Hex.{lower_digits}
 use Rattle.hex.proofs.HexLemmas.{length-encode_with}
 use Rattle.line_room.specs.Room.{shown, shown_byte}
@@ -29,14 +29,7 @@ use Rattle.status.specs.declared.status.Status.{Status}
 use Rattle.status.specs.declared.status.Status.TheVariants.{Done, Usage, Config, Store, Recording, Torn, ReadFault, WriteFault, DiskFault, OutOfMemory, TooLong, Differs}
 use Rattle.fault_lines.specs.FaultLine.{digest_digits, id_digits, field_text, damage_text, store_text, recording_text, what_text, differs_text, torn_text, recording_line, fault_line}
 use Rattle.fault_lines.specs.declared.line.TheConstants.{MAX_BYTES_BESIDE_NAME}
-
--- two pieces, each within its bound
-appended : (a b : List ℕ) (m n : ℕ) → length a ≤ m → length b ≤ n → length (a ++ b) ≤ m + n
-appended a b m n x y = omega (arith, length-append a b, x, y)
-
-either : (b : Bool) (x y : List ℕ) (n : ℕ) → length x ≤ n → length y ≤ n → length (cond b x y) ≤ n
-either true x y n p q = p
-either false x y n p q = q
+use Rattle.lemmas.proofs.Lists.{length-append-le as appended, length-cond-le as either}
 
 onto-short : (k n : ℕ) (acc : List ℕ) → length (digits_onto k 10 false n acc) ≤ k + length acc
 onto-short zero n acc = omega arith

@@ -228,9 +228,11 @@ fn push_too_long(line: &mut LineRoom, name: &[u8])
 
 fn push_differs(line: &mut LineRoom, name: &[u8], what: What, held: u64, found: u64)
     requires { Fits line.old
-        (codes "audit " ++ shown name.now ++ codes ": " ++ differs_text what held found ++ codes "\n") }
+        (codes "audit " ++ shown name.now ++ codes ": " ++ differs_text what held found
+        ++ codes "\n") }
     ensures { line.new ≡ with_text line.old
-        (codes "audit " ++ shown name.now ++ codes ": " ++ differs_text what held found ++ codes "\n") }
+        (codes "audit " ++ shown name.now ++ codes ": " ++ differs_text what held found
+        ++ codes "\n") }
 {
     line.push(b"audit ");
     line.push_shown(name);

@@ -6,7 +6,7 @@ use Rattle.std.proofs.lemmas.Bool.{cases_eq, eq-eqb, ne_eqb}
 use Rattle.segment_rules.specs.declared.name.Name.{Name}
 use Rattle.flow.specs.Flow.{has, hits, In, changed, changed_at, stays}
 use Rattle.flow.specs.Flow.In.{here, there}
-use Rattle.flow.specs.Kept.{Every, Ascends, over}
+use Rattle.flow.specs.Kept.{Every, Ascends, over, between}
 use Rattle.flow.specs.Kept.Every.{none, both}
 use Rattle.flow.specs.Kept.Ascends.{empty, step}
 
@@ -195,3 +195,20 @@ at_or_gauge P f g v x i j h p (inr e) = subst (λ y. P i j y) (sym (changed_at_g
 pub changed_at_all : {A : Type 0} → (P : ℕ → ℕ → A → Type 0) (f : ℕ → ℕ → A) (g v : ℕ) (x : A) → ((i j : ℕ) → P i j (f i j)) → P g v x
     → (i j : ℕ) → P i j (changed_at f g v x i j)
 changed_at_all P f g v x h p i j = at_or_gauge P f g v x i j h p (cases_eq i g)
+
+pub over_sum : (n : ℕ) (f h : ℕ → ℕ) → over n (λ v. f v + h v) ≡ over n f + over n h
+over_sum zero f h = refl
+over_sum (suc n) f h = let e : over n (λ v. f v + h v) ≡ over n f + over n h = over_sum n f h in omega (arith, e)
+
+-- a number lies in one of two parts that meet
+pub between_parts : (a b c i : ℕ) → a ≤ b → b ≤ c → between a b i + between b c i ≡ between a c i
+between_parts a b c i h k = grind (arith, nat_tests)
+
+pub between_one : (a b x : ℕ) → a ≤ x → x < b → between a b x ≡ 1
+between_one a b x h k = grind (arith, nat_tests)
+
+pub nothing_between : (a x : ℕ) → between a a x ≡ 0
+nothing_between a x = grind (arith, nat_tests)
+
+pub has_between : (g i : ℕ) (n : Name) → n.gauge ≡ g → has g i n ≡ between n.from n.to i
+has_between g i n h = grind (arith, nat_tests)

@@ -9,7 +9,7 @@ use Rattle.flow.specs.Flow.Event.{Feed, Count, Deposit, Commit, Stop}
 use Rattle.flow.specs.Kept.{Every, Ascends, over, between, everywhere, IsBlock, IsDealt, IsLine, Meets, IsThrough}
 use Rattle.flow.specs.Kept.Every.{none, both}
 use Rattle.flow.specs.Kept.Ascends.{empty}
-use Rattle.flow.proofs.Counting.{hits-append, hits-split, every_append, every_map, every_drop, every_take, every_in, ascends_drop, ascends_push, hits_other, hits_past, has_inside, found, hits_filter, every_filter, every_both, over_same, over_one, over_at, over_none, changed_same, changed_other, changed_at_same, changed_at_gauge, changed_at_worker, changed_all, changed_at_all}
+use Rattle.flow.proofs.Counting.{hits-append, hits-split, every_append, every_map, every_drop, every_take, every_in, ascends_drop, ascends_push, hits_other, hits_past, has_inside, found, hits_filter, every_filter, every_both, over_same, over_one, over_at, over_none, changed_same, changed_other, changed_at_same, changed_at_gauge, changed_at_worker, changed_all, changed_at_all, between_parts, has_between, between_one, nothing_between}
 
 module _ (block workers : ℕ) where
   -- a block stays one where nothing is stored and no less is read
@@ -76,12 +76,6 @@ module _ (block workers : ℕ) where
       (λ u w. subst (Every (IsDealt block workers (h i).start (s.fed i) u)) (sym (changed_at_gauge s.rings g v ring i u q))
       ((h i).rings u w))
 
-  two_runs : (a b c i : ℕ) → a ≤ b → b ≤ c → between a b i + between b c i ≡ between a c i
-  two_runs a b c i h k = grind (arith, nat_tests)
-
-  has_between : (g i : ℕ) (n : Name) → n.gauge ≡ g → has g i n ≡ between n.from n.to i
-  has_between g i n h = grind (arith, nat_tests)
-
   -- one block more is fed
   fed_once : (s : Flow) (g i v : ℕ) (m : Name) → Meets block workers s → v < workers → m.gauge ≡ g → m.from ≡ s.read g → m.from ≤ m.to →
       over workers
@@ -99,7 +93,7 @@ module _ (block workers : ℕ) where
       let was : over workers k + hits g i s.placed ≡ between (s.stored g) (s.read g) i = h.once g i in
       let more : has g i m ≡ between m.from m.to i = has_between g i m a in
       let both_ways : between (s.stored g) m.from i + between m.from m.to i ≡ between (s.stored g) m.to i =
-      two_runs (s.stored g) m.from m.to i (omega (arith, h.stored g, b)) c in
+      between_parts (s.stored g) m.from m.to i (omega (arith, h.stored g, b)) c in
       let at : between (s.stored g) (s.read g) i ≡ between (s.stored g) m.from i = ap (λ r. between (s.stored g) r i) (sym b) in
       omega (arith, one, new, was, more, both_ways, at)
 
@@ -346,9 +340,6 @@ module _ (block workers : ℕ) where
   between_none : (a b x : ℕ) → x < a → between a b x ≡ 0
   between_none a b x h = grind (arith, nat_tests)
 
-  between_one : (a b x : ℕ) → a ≤ x → x < b → between a b x ≡ 1
-  between_one a b x h k = grind (arith, nat_tests)
-
   between_later : (a e b x : ℕ) → a ≤ e → e ≤ x → between a b x ≡ between e b x
   between_later a e b x h k = grind (arith, nat_tests)
 
@@ -443,9 +434,6 @@ module _ (block workers : ℕ) where
         line = λ i. line_kept s t i (h.line i) (changed_all (λ j r. s.stored j ≤ r) s.stored g e
             (λ j. omega arith) (omega (arith, later)) i) refl refl refl (h.line i).rings;
       }
-
-  nothing_between : (a x : ℕ) → between a a x ≡ 0
-  nothing_between a x = grind (arith, nat_tests)
 
   pub stop : (s : Flow) (more : ℕ → List ℤ) → Meets block workers s → Meets block workers (after block workers s (Stop more))
   stop s more h = record {

@@ -9,6 +9,7 @@
 use Rattle.std.specs.Prelude.{◌≡◌, ◌+◌, ◌%◌, ◌<◌, ◌≤◌, ◌&&◌, ℕ, ℤ, List, [], ◌∷◌, ◌++◌, length, take, drop, min, cond, not, eqb, leb, ltb, Bool}
 use Rattle.std.specs.List.{filter}
 use Rattle.segment_rules.specs.declared.name.Name.{Name}
+use Rattle.flow.specs.declared.TheConstants.{BLOCKS_PER_WINDOW}
 
 pub record Flow : Type 0 where
   -- of each gauge the samples of its recording, how many of them are read and stored, and how many blocks this run fed
@@ -74,7 +75,7 @@ module _ (block workers : ℕ) where
   next s g = named g (s.read g) (min (s.read g + block) (length (s.samples g)))
 
   abbrev pub worker_of_next : Flow → ℕ → ℕ
-  worker_of_next s g = (s.fed g % 16) % workers
+  worker_of_next s g = (s.fed g % BLOCKS_PER_WINDOW) % workers
 
   abbrev pub Allowed : Flow → Event → Type 0
   Allowed s (Feed g) = s.read g < length (s.samples g)

@@ -9,6 +9,7 @@ use Rattle.std.specs.Prelude.{◌≡◌, ◌≢◌, ◌⊎◌, ◌+◌, ◌*◌,
 use Rattle.segment_rules.specs.declared.name.Name.{Name}
 use Rattle.flow.specs.Flow.{Flow, Event, Allowed, after, run, AllAllowed, IsStart, hits}
 use Rattle.flow.specs.Flow.Event.{Commit}
+use Rattle.flow.specs.declared.TheConstants.{BLOCKS_PER_WINDOW}
 
 pub data Every (P : Name → Type 0) : List Name → Type 0 where
   none : Every P []
@@ -46,7 +47,7 @@ pub record IsDealt (block workers start blocks_fed v : ℕ) (n : Name) : Type 0 
   pub number : ℕ
   pub from : n.from ≡ start + number * block
   pub before : number < blocks_fed
-  pub worker : (number % 16) % workers ≡ v
+  pub worker : (number % BLOCKS_PER_WINDOW) % workers ≡ v
 
 -- where the run of a gauge began, how far its blocks lead, and which of them lie in which ring
 pub record IsLine (block workers : ℕ) (s : Flow) (g : ℕ) : Type 0 where

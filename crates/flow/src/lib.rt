@@ -7,3 +7,6 @@
 #![tactic(auto)]
 
 pub mod laws;
+
+/// The blocks that a round reads of a gauge at most: its window.
+pub const BLOCKS_PER_WINDOW: usize = 16;

@@ -27,7 +27,7 @@ fn is_cycle(a: u16, b: u16, c: u16, d: u16) -> bool
 /// Whether a level goes on in the direction from a point to the last one. Each of the three differs
 /// from the next, so that two comparisons tell it.
 #[inline(always)]
-fn goes_on(before: u16, last: u16, level: u16) -> bool
+fn lies_between(before: u16, last: u16, level: u16) -> bool
     requires direction { before ≢ last }
     requires change { last ≢ level }
     ensures { IsTrue result ↔ IsBetween before last level }
@@ -50,7 +50,7 @@ fn extended(levels: &[u16], len: usize, level: u16) -> usize
     if len == 0 {
         return 1;
     }
-    if len >= 2 && goes_on(levels[len - 2], levels[len - 1], level) {
+    if len >= 2 && lies_between(levels[len - 2], levels[len - 1], level) {
         return len;
     }
     len + 1

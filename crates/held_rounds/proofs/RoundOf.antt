@@ -20,8 +20,9 @@ use Rattle.held_samples.specs.Told.{round_lines, held_after, held_lines}
 use Rattle.held_samples.specs.Fronts.{StandsIn, AreFronts, FrontsEnd, FrontsStand}
 use Rattle.site_lanes.specs.Lanes.{AreLanes, AreReady, AreHeldTo, IsWhole}
 use Rattle.held_samples.proofs.Going.{round_both}
-use Rattle.site_lanes.proofs.AfterRound.{more_or_not, stood_more}
+use Rattle.site_lanes.proofs.AfterRound.{stood_more}
 use Rattle.site_lanes.proofs.AllLanes.{all_reached}
+use Rattle.lane_ends.proofs.Giving.{more_or_not}
 
 pub any_of : {A : Type 0} (xs : List A) (g : ℕ) → g < length xs → A
 any_of [] g lt = absurd (omega (arith, lt))

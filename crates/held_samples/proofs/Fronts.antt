@@ -10,8 +10,7 @@ use Rattle.segment.specs.Standing.{PartsStand}
 use Rattle.segment.proofs.PartsStanding.{parts_stand}
 use Rattle.segment_store.specs.Holds.{gain_at, StandsIn as BodyStandsIn}
 use Rattle.site_config.specs.declared.config.Config.{Config}
-use Rattle.site_config.specs.declared.config.Gauge.{Gauge}
-use Rattle.site_config.specs.Valid.{IsConfig, name_of, no_gauge}
+use Rattle.site_config.specs.Valid.{IsConfig, name_of}
 use Rattle.recorded.specs.Recorded.{Recorded}
 use Rattle.held_samples.specs.Going.{AreNames}
 use Rattle.held_samples.specs.Fronts.{IsHeldTo, StandsIn}
@@ -20,11 +19,6 @@ pub any_default : {A : Type 0} (xs : List A) (i : ℕ) (a b : A) → i < length 
 any_default [] i a b lt = absurd (omega (arith, lt))
 any_default (x ∷ xs) zero a b lt = refl
 any_default (x ∷ xs) (suc i) a b lt = any_default xs i a b (omega (arith, lt))
-
-pub name_is : (conf : Config) (g : ℕ) (gauges : List Gauge) (here : Gauge) (name : List ℕ) → g < length conf.gauges → gauges ≡ conf.gauges →
-    name ≡ (slice_index_or gauges g here).name → name_of conf g ≡ name
-name_is conf g gauges here name lt same is = ap (λ (x : Gauge). x.name) (any_default conf.gauges g no_gauge here lt)
-    ∙ ap (λ (l : List Gauge). (slice_index_or l g here).name) (sym same) ∙ sym is
 
 pub are_names : (conf : Config) → IsConfig conf → AreNames (name_of conf) (length conf.gauges)
 are_names conf is = record { letters = is.names; differ = is.differ }

@@ -1,23 +1,15 @@
 -- A held line tells its gauge and its number back, and no fault line is one.
-use Rattle.std.proofs.Common.{◌≡◌, ◌≤◌, ◌<◌, ◌^◌, ℕ, List, [], ◌∷◌, ◌++◌, Bool, true, false, get_or, refl, sym, ◌∙◌, ap, subst, arith}
-use Rattle.std.specs.Prelude.{◌&&◌, nat_le, length}
+use Rattle.std.proofs.Common.{◌≡◌, ◌≤◌, ◌<◌, ◌^◌, ℕ, List, [], ◌∷◌, ◌++◌, true, get_or, refl, sym, ◌∙◌, ap, subst, arith}
+use Rattle.std.specs.Prelude.{nat_le, length}
 use Rattle.std.specs.List.{list_all}
 use Rattle.std.specs.Fmt.{decimal}
 use Rattle.site_config.specs.Fields.{is_in_limits, is_name, is_name_byte}
 use Rattle.site_config.specs.declared.limits.TheConstants.{MAX_NAME_BYTES}
 use Rattle.recorded.specs.Recorded.{Recorded}
 use Rattle.held_samples.specs.Told.{held_line, IsBelow}
-use Rattle.std.proofs.lemmas.Bool.Decides.{nat_tests}
 use Rattle.std.proofs.lemmas.Fmt.{decimal_injective}
+use Rattle.std.proofs.lemmas.Bool.{and_parts, leb-true}
 use Rattle.held_samples.specs.Going.{AreNames}
-
-and_first : (a b : Bool) → (a && b) ≡ true → a ≡ true
-and_first true b is = refl
-and_first false b is = is
-
-and_second : (a b : Bool) → (a && b) ≡ true → b ≡ true
-and_second true b is = is
-and_second false b is = absurd cc
 
 space_no_letter : is_name_byte 32 ≡ true → ⊥
 space_no_letter is = cc
@@ -35,12 +27,12 @@ same_front : (a b m n : List ℕ) → list_all is_name_byte a ≡ true → list_
     (a ≡ b) × (m ≡ n)
 same_front [] [] m n la lb is = (refl, ap rest is)
 same_front [] (y ∷ b) m n la lb is = absurd (space_no_letter (subst (λ (c : ℕ). is_name_byte c ≡ true) (sym (ap first is))
-    (and_first (is_name_byte y) (list_all is_name_byte b) lb)))
+    (and_parts (is_name_byte y) (list_all is_name_byte b) lb).0))
 same_front (x ∷ a) [] m n la lb is = absurd (space_no_letter (subst (λ (c : ℕ). is_name_byte c ≡ true) (ap first is)
-    (and_first (is_name_byte x) (list_all is_name_byte a) la)))
+    (and_parts (is_name_byte x) (list_all is_name_byte a) la).0))
 same_front (x ∷ a) (y ∷ b) m n la lb is =
-    let inner = same_front a b m n (and_second (is_name_byte x) (list_all is_name_byte a) la)
-    (and_second (is_name_byte y) (list_all is_name_byte b) lb) (ap rest is) in
+    let inner = same_front a b m n (and_parts (is_name_byte x) (list_all is_name_byte a) la).1
+    (and_parts (is_name_byte y) (list_all is_name_byte b) lb).1 (ap rest is) in
     (ap (λ (c : ℕ). c ∷ a) (ap first is) ∙ ap (λ (l : List ℕ). y ∷ l) inner.0, inner.1)
 
 abbrev pub last : ℕ → List ℕ → List ℕ
@@ -68,15 +60,12 @@ line_tells a b n m la lb nl ml is =
     (both.0, decimal_injective n m nl ml (sym (but_last 10 (decimal n)) ∙ ap all_but_last both.1 ∙ but_last 10 (decimal m)))
 
 has_letters : (name : List ℕ) → is_name name ≡ true → list_all is_name_byte name ≡ true
-has_letters name is = and_second (is_in_limits 1 MAX_NAME_BYTES (length name)) (list_all is_name_byte name) is
+has_letters name is = (and_parts (is_in_limits 1 MAX_NAME_BYTES (length name)) (list_all is_name_byte name) is).1
 
 pub is_short : (name : List ℕ) → is_name name ≡ true → length name ≤ MAX_NAME_BYTES
 is_short name is =
-    let within = and_first (is_in_limits 1 MAX_NAME_BYTES (length name)) (list_all is_name_byte name) is in
-    is_le (length name) MAX_NAME_BYTES (and_second (nat_le 1 (length name)) (nat_le (length name) MAX_NAME_BYTES) within)
-  where
-    is_le : (m n : ℕ) → nat_le m n ≡ true → m ≤ n
-    is_le m n e = grind (arith, nat_tests)
+    let within = (and_parts (is_in_limits 1 MAX_NAME_BYTES (length name)) (list_all is_name_byte name) is).0 in
+    leb-true (length name) MAX_NAME_BYTES (and_parts (nat_le 1 (length name)) (nat_le (length name) MAX_NAME_BYTES) within).1
 
 -- a held line of a number that is held
 pub held_below : (r : Recorded) → AreNames r.names r.gauges → (held : List ℕ) (g n : ℕ) → g < r.gauges → n < 2 ^ 64 → n ≤ get_or held g 0 →

@@ -18,6 +18,7 @@ pub struct HeldLine {
 }
 
 impl HeldLine {
+    /// An empty line. This takes all memory that a line will need.
     pub fn new(alloc: Global) -> Result<HeldLine, OutOfMemory> {
         Ok(HeldLine {
             line: LineRoom::new(alloc, MAX_LINE_BYTES)?,

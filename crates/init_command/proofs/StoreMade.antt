@@ -1,5 +1,5 @@
 -- What is there after a store was made or was refused, and what is answered.
-use Rattle.std.proofs.Common.{◌≡◌, ◌≤◌, ◌⊎◌, inl, inr, ℕ, List, [], ◌∷◌, ◌++◌, length, refl, sym, subst, arith}
+use Rattle.std.proofs.Common.{◌≡◌, ◌⊎◌, inl, inr, ℕ, List, [], ◌∷◌, ◌++◌, length, refl, sym, subst, arith}
 use Rattle.std.specs.Prelude.{Option, Some, Result, Ok, Err}
 use Rattle.outside.specs.Fault.{Rose}
 use Rattle.outside.specs.Site.{Files}
@@ -16,6 +16,7 @@ use Rattle.status.specs.declared.status.StoreFault.TheVariants as store
 use Rattle.status.specs.declared.status.Status.{Status}
 use Rattle.status.specs.declared.status.Status.TheVariants.{Done, Usage, Config as BadConfig, Store, Recording, Torn, ReadFault, WriteFault, DiskFault, OutOfMemory, TooLong, Differs}
 use Rattle.config_reading.specs.Reading.{IsRefusal}
+use Rattle.config_reading.proofs.Refusing.{by_refusal}
 use Rattle.fault_lines.specs.FaultLine.{fault_line, name_for, name_by}
 use Rattle.fault_lines.specs.Telling.{EndsIn}
 use Rattle.init_command.specs.Heads.{HasHeadIn, HasFaultIn, AreHeads, AreSound}
@@ -28,9 +29,6 @@ pub begun_now : (start now : ℕ) (past since : MomentsSince) (told told2 : Line
     → Since start past now since (InInit told bytes) → ((c : Image) → leaves c → since start told2 c) → (c : Image) → leaves c →
     IsBegunAs bytes c
 begun_now start now past since told told2 bytes leaves run counts c has = (run.each told2 c (counts c has)).1
-
-pub rose_before : (a b c : ℕ) → a ≤ b → Rose b c → Rose a c
-rose_before a b c first rose = omega (arith, first, rose)
 
 -- no gauge is named in what making the store is answered with
 pub no_name : (c : Config) (s : Status) → IsMaking s → name_for c s ≡ []
@@ -49,18 +47,7 @@ no_name c (Differs g what held found) is = absurd is
 
 -- nor in what a refused configuration is answered with
 refused_name : (c : Config) (s : Status) → IsRefusal s → name_for c s ≡ []
-refused_name c (BadConfig fault) is = refl
-refused_name c ReadFault is = refl
-refused_name c OutOfMemory is = refl
-refused_name c Done is = absurd is
-refused_name c Usage is = absurd is
-refused_name c (Store fault) is = absurd is
-refused_name c (Recording g fault) is = absurd is
-refused_name c (Torn g bytes) is = absurd is
-refused_name c WriteFault is = absurd is
-refused_name c DiskFault is = absurd is
-refused_name c (TooLong g) is = absurd is
-refused_name c (Differs g what held found) is = absurd is
+refused_name c = by_refusal (λ (s : Status). name_for c s ≡ []) (λ fault. refl) refl refl
 
 pub refused_line : (read : Result Config ConfigFault) (s : Status) (told told2 : Lines) → IsRefusal s → told2 ≡ told ++ fault_line s [] ∷ []
     → EndsIn (fault_line s (name_by read s)) told2

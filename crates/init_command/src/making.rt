@@ -8,6 +8,7 @@ ghost use Rattle.segment_store.specs.Quiet.{IsQuiet};
 ghost use Rattle.status.specs.declared.status.Status.TheVariants.{Done, DiskFault};
 ghost use Rattle.init_command.specs.Init.{init_line};
 ghost use Rattle.init_command.specs.Making.{InStore, MakesBy, IsMaking, WhereUnmade, init_status as init_status_of};
+ghost use Rattle.calibration.specs.declared.limits.TheConstants.{MAX_GAUGES};
 
 use line_room::LineRoom;
 use segment_store::{InitFault, init};
@@ -18,7 +19,7 @@ use store_head::StoreHead;
 
 /// Makes the store, and tells it.
 pub(crate) fn make_store<K: Station>(alloc: Global, head: &StoreHead, station: &mut K) -> Status
-    requires few { length head.now.setup.gains ≤ 32 }
+    requires few { length head.now.setup.gains ≤ MAX_GAUGES }
     requires heads { length head.now.heads ≡ length head.now.setup.gains }
     ensures made { K.tells → result ≡ Done →
         (K.seen station.new ≡ empty_store (see_head Two head.now))
@@ -58,7 +59,7 @@ pub(crate) fn make_store<K: Station>(alloc: Global, head: &StoreHead, station: &
 }
 
 fn line_of(alloc: Global, gauges: usize) -> Result<LineRoom, AllocError>
-    requires few { gauges ≤ 32 }
+    requires few { gauges ≤ MAX_GAUGES }
     ensures { IfOk result (λ line. line.bytes ≡ init_line gauges) }
 {
     let mut line = LineRoom::new(alloc, 16)?;

@@ -1,5 +1,5 @@
 -- How the reading of a lane goes on and ends.
-use Rattle.std.proofs.Common.{◌≡◌, ◌≢◌, ◌≤◌, ◌<◌, ℕ, ◌+◌, ◌-◌, ◌*◌, List, length, drop, refl, ap, ◌∙◌, subst, arith, length-drop}
+use Rattle.std.proofs.Common.{◌≡◌, ◌≢◌, ◌≤◌, ◌<◌, ℕ, ◌+◌, ◌-◌, ◌*◌, List, length, drop, refl, ap, ◌∙◌, subst, arith, length-drop, ◌⊎◌, inl, inr}
 use Rattle.std.proofs.lemmas.List.{drop-drop}
 use Rattle.std.proofs.lemmas.Bool.Decides.{nat_tests}
 use Rattle.std.specs.Prelude.{min}
@@ -9,7 +9,7 @@ use Rattle.recording.specs.Samples.{samples, torn_bytes}
 use Rattle.recording.specs.Filling.{end_of, Takes}
 use Rattle.recording.proofs.SampleLists.{length-samples, samples-drop, torn_bytes-drop}
 use Rattle.lane_ends.specs.declared.end.End.{End}
-use Rattle.lane_ends.specs.declared.end.End.TheVariants.{More, ReadFault}
+use Rattle.lane_ends.specs.declared.end.End.TheVariants.{More, ReadFault, Ended, Torn, TooLong}
 use Rattle.lane_ends.specs.Ends.{end_past_limit, lane_end, Gives}
 
 not_failed : Full ≢ Failed
@@ -91,3 +91,11 @@ gives_none most before =
       left =
           λ q. refl;
     }
+
+-- a lane may go on or has ended
+pub more_or_not : (e : End) → (e ≡ More) ⊎ (e ≢ More)
+more_or_not More = inl refl
+more_or_not Ended = inr (λ e. absurd cc)
+more_or_not (Torn b) = inr (λ e. absurd cc)
+more_or_not ReadFault = inr (λ e. absurd cc)
+more_or_not TooLong = inr (λ e. absurd cc)

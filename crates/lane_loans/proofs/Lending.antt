@@ -18,6 +18,3 @@ pool_changed p q r n s e = record {
       ∙ s.block;
   grid = ap (λ (v : PoolValue). v.grid) e ∙ s.grid;
 }
-
-pub same_pools : (p q r : PoolValue) → SamePool p q → SamePool q r → SamePool p r
-same_pools p q r h k = record { units = k.units ∙ h.units; block = k.block ∙ h.block; grid = k.grid ∙ h.grid }

@@ -1,6 +1,7 @@
 -- What a lane lends to its reader.
 use Rattle.std.specs.Prelude.{◌≡◌, ◌≤◌, ◌<◌, ℕ, List, map, slice_index_or, vec_len, vec_capacity, None, Some}
 use Rattle.recording.specs.declared.TheConstants.{MAX_SAMPLES}
+use Rattle.flow.specs.declared.TheConstants.{BLOCKS_PER_WINDOW}
 use Rattle.block_pool.specs.Units.{PoolValue}
 use Rattle.block_workers.specs.declared.jobs.Reader.{Reader}
 use Rattle.lane_loans.specs.declared.lane.Lane.{Lane}
@@ -23,7 +24,7 @@ module _ {C : Type 0} where
   -- a reader with no units, room for a round's units of the pool, and rings
   pub record CanLend (p : PoolValue) (r : Reader C) : Type 0 where
     pub blanks : vec_len r.desk.blanks ≡ 0
-    pub room : 16 ≤ vec_capacity r.desk.blanks
+    pub room : BLOCKS_PER_WINDOW ≤ vec_capacity r.desk.blanks
     pub size : (r.desk.block ≡ p.block) × (0 < p.block)
     pub kind : r.desk.grid ≡ p.grid
     pub feeders : 0 < vec_len r.desk.feeders
@@ -39,7 +40,7 @@ module _ {C : Type 0} where
     pub block : new.desk.block ≡ old.desk.block
     pub grid : new.desk.grid ≡ old.desk.grid
     pub feeders : new.desk.feeders ≡ old.desk.feeders
-    pub blanks : vec_len new.desk.blanks ≡ 16
+    pub blanks : vec_len new.desk.blanks ≡ BLOCKS_PER_WINDOW
     pub room : vec_capacity new.desk.blanks ≡ vec_capacity old.desk.blanks
 
   pub record Returned (old new : Reader C) (lane back : Lane C) : Type 0 where

@@ -6,25 +6,27 @@ ghost use Rattle.board.specs.Board.{IsBegun};
 ghost use Rattle.deposits.specs.Deposited.{SamePool};
 ghost use Rattle.block_workers.specs.Jobs.{CanRead};
 ghost use Rattle.recording.specs.declared.TheConstants.{MAX_SAMPLES};
+ghost use Rattle.flow.specs.declared.TheConstants.{BLOCKS_PER_WINDOW};
+ghost use Rattle.calibration.specs.declared.limits.TheConstants.{MAX_GAUGES};
 ghost use Rattle.lane_loans.specs.Lent.{CanRound, at_of, CanLend, Lent, Returned, blanks_at};
 
 use crate::Lane;
 use crate::units::{give_units, lend_units};
 use block_pool::Pool;
 use block_workers::Reader;
-use board::Board;
+use board::{Board, MAX_GAUGES};
 use outside::Source;
 
 /// Begins the board's windows where the lanes stand.
 pub fn begin_windows<C: Source>(board: &mut Board, lanes: &[Lane<C>])
-    requires all { (length lanes.now ≡ length board.old.rows) × (length lanes.now ≤ 32) }
+    requires all { (length lanes.now ≡ length board.old.rows) × (length lanes.now ≤ MAX_GAUGES) }
     requires limit { (g : ℕ) (d : _) → g < length lanes.now
         → (slice_index_or lanes.now g d).at ≤ MAX_SAMPLES }
     ensures plan { (board.new.grid ≡ board.old.grid) × (board.new.block ≡ board.old.block)
         × (length board.new.rows ≡ length board.old.rows) }
     ensures begun { IsBegun board.new (at_of lanes.now) }
 {
-    let mut starts = [0u64; 32];
+    let mut starts = [0u64; MAX_GAUGES as usize];
     for g in 0..lanes.len() {
         starts[g] = lanes[g].at;
     }
@@ -35,10 +37,11 @@ pub fn begin_windows<C: Source>(board: &mut Board, lanes: &[Lane<C>])
 fn lend_lane<C: Source>(reader: &mut Reader<C>, lane: &mut Lane<C>, pool: &mut Pool)
     requires lane { CanRound reader.old.desk.gauge lane.old }
     requires reader { CanLend pool.old reader.old }
-    requires enough { 16 ≤ pool.old.inside }
+    requires enough { BLOCKS_PER_WINDOW ≤ pool.old.inside }
     ensures lent { Lent reader.old reader.new lane.old lane.new }
     ensures ready { CanRead reader.new }
-    ensures pool { SamePool pool.old pool.new × (pool.new.inside + 16 ≡ pool.old.inside) }
+    ensures pool { SamePool pool.old pool.new
+        × (pool.new.inside + BLOCKS_PER_WINDOW ≡ pool.old.inside) }
 {
     reader.src = lane.src.take();
     reader.desk.gain = lane.gain;
@@ -54,7 +57,7 @@ pub fn lend_lanes<C: Source>(readers: &mut [Reader<C>], lanes: &mut [Lane<C>], p
         → CanRound (slice_index_or readers.old g d).desk.gauge (slice_index_or lanes.old g e) }
     requires readers { (g : ℕ) (d : _) → g < length readers.old
         → CanLend pool.old (slice_index_or readers.old g d) }
-    requires enough { pool.old.inside ≡ 16 * length readers.old }
+    requires enough { pool.old.inside ≡ BLOCKS_PER_WINDOW * length readers.old }
     ensures long { (length readers.new ≡ length readers.old)
         × (length lanes.new ≡ length lanes.old) }
     ensures lent { (g : ℕ) (d : _) (e : _) → g < length readers.old

@@ -2,21 +2,23 @@ ghost use Rattle.std.specs.Prelude.{◌≡◌, ◌+◌, ◌≤◌, [], vec_len, 
 ghost use Rattle.std.specs.List.{All};
 ghost use Rattle.block_pool.specs.Units.{IsBlank};
 ghost use Rattle.deposits.specs.Deposited.{SamePool};
+ghost use Rattle.flow.specs.declared.TheConstants.{BLOCKS_PER_WINDOW};
 
 use block_pool::{Blank, Pool};
+use flow::BLOCKS_PER_WINDOW;
 
 // Lends a round's units to a lane.
 pub(crate) fn lend_units(pool: &mut Pool, blanks: &mut Vec<Blank>)
     requires none { vec_len blanks.old ≡ 0 }
-    requires room { 16 ≤ vec_capacity blanks.old }
-    requires enough { 16 ≤ pool.old.inside }
+    requires room { BLOCKS_PER_WINDOW ≤ vec_capacity blanks.old }
+    requires enough { BLOCKS_PER_WINDOW ≤ pool.old.inside }
     ensures pool { SamePool pool.old pool.new }
-    ensures inside { pool.new.inside + 16 ≡ pool.old.inside }
-    ensures blanks { (vec_len blanks.new ≡ 16)
+    ensures inside { pool.new.inside + BLOCKS_PER_WINDOW ≡ pool.old.inside }
+    ensures blanks { (vec_len blanks.new ≡ BLOCKS_PER_WINDOW)
         × (vec_capacity blanks.new ≡ vec_capacity blanks.old) }
     ensures fit { All (IsBlank pool.old.block pool.old.grid) blanks.new.items }
 {
-    for _ in 0..16usize {
+    for _ in 0..BLOCKS_PER_WINDOW {
         let Some(unit) = pool.lend() else {
             unreachable!()
         };

@@ -5,16 +5,20 @@
 --   take-append-part, take-append-taken   the front of a buffer that was filled in two steps
 --   reverse-take_next                a front read from its end
 --   longer                           a list with an item more is another list
---   length-rewritten                 a buffer whose front was written
+--   length-rewritten                 a buffer whose front was written; all_written: one that a slice wrote over
+--   length-append-le, length-cond-le, length-decimal_word   how long a text is at most
 --   get_or-behind, get_or-zeros      places; positive_within: what is past the end is 0
---   All-reverse, All-of_reverse     what holds of each item
+--   All-reverse, All-of_reverse, each_more     what holds of each item
 --   below_positive, below_at, below_set_third   lists of numbers below a bound
-use Rattle.std.proofs.Common.{◌≡◌, ◌≢◌, ℕ, zero, suc, ◌+◌, ◌-◌, ◌<◌, ◌≤◌, ◌⊎◌, inl, inr, List, [], ◌∷◌, ◌++◌, length, take, drop, set, get_or, reverse, refl, sym, ap, ◌∙◌, subst, arith, append_assoc, take-append-drop, length-append, length-set, get_or-take, get_or-set_same, get_or-set_other, length-take-le}
+use Rattle.std.proofs.Common.{◌≡◌, ◌≢◌, ℕ, zero, suc, ◌+◌, ◌-◌, ◌<◌, ◌≤◌, ◌⊎◌, inl, inr, List, [], ◌∷◌, ◌++◌, length, take, drop, set, get_or, reverse, refl, sym, ap, ◌∙◌, subst, arith, append_assoc, take-append-drop, length-append, length-set, get_or-take, get_or-set_same, get_or-set_other, length-take-le, Bool, true, false, cond, ◌^◌, slice_index_or}
 use Rattle.std.specs.Prelude.{All, replicate}
 use Rattle.std.proofs.lemmas.Bool.{cases_lt, cases_eq}
-use Rattle.std.proofs.lemmas.List.{take_more, take_more_set, take_at, drop-drop, take-append-le, reverse-append, reverse-reverse, get_or-replicate, get_or_past, length-replicate}
+use Rattle.std.proofs.lemmas.List.{take_more, take_more_set, take_at, drop-drop, take-append-le, reverse-append, reverse-reverse, get_or-replicate, get_or_past, length-replicate, take_all}
 use Rattle.std.proofs.lemmas.List.Elements.{All-head, All-tail, All-push}
-use Rattle.std.proofs.Math.Seq.{take-append-add}
+use Rattle.std.proofs.Math.Seq.{take-append-add, get_or-append_seam}
+use Rattle.std.proofs.Math.ListN.{get_or-append}
+use Rattle.std.specs.Fmt.{decimal}
+use Rattle.std.proofs.lemmas.Fmt.{length-decimal-le}
 
 pub take_next : (s : List ℕ) (i j : ℕ) → j ≡ i + 1 → i < length s → take j s ≡ take i s ++ get_or s i 0 ∷ []
 take_next s i j e h = ap (λ n. take n s) e ∙ take_more s i 0 h
@@ -148,3 +152,34 @@ All-reverse P (x ∷ l) a =
 
 pub All-of_reverse : {X : Type 0} (P : X → Type 0) (l : List X) → All P (reverse l) → All P l
 All-of_reverse P l a = subst (All P) (reverse-reverse l) (All-reverse P (reverse l) a)
+
+-- a buffer that a slice wrote over
+pub all_written : {A : Type 0} → (old new : List A) (n : ℕ) → n ≡ length old → length new ≡ length old →
+    take n (new ++ drop (length new) old) ≡ new
+all_written old new n e l =
+    let few : n ≤ length new = omega (arith, e, l) in
+    take-append-le n new (drop (length new) old) few ∙ take_all n new (omega (arith, e, l))
+
+-- what holds of each item by its place, where one has come at the end
+pub each_more : {A : Type 0} (P : ℕ → A → Type 0) (xs ys : List A) (x : A) (k : ℕ) → ys ≡ xs ++ x ∷ [] → k ≡ length xs
+    → ((g : ℕ) (d : A) → g < length xs → P g (slice_index_or xs g d)) → P k x → (g : ℕ) (d : A) → g < length ys →
+    P g (slice_index_or ys g d)
+each_more {A} P xs ys x k is long all here g d lt =
+    subst (λ (l : List A). P g (slice_index_or l g d)) (sym is) (elim (cases_lt g (length xs)) [
+      | inl within ↦ subst (P g) (sym (get_or-append xs (x ∷ []) d g within)) (all g d within)
+      | inr past ↦
+          let at : g ≡ length xs = omega (arith, past, lt, ap length is, length-append xs (x ∷ [])) in
+          subst (λ (n : ℕ). P n (slice_index_or (xs ++ x ∷ []) n d)) (sym at)
+          (subst (P (length xs)) (sym (get_or-append_seam xs x [] d)) (subst (λ (n : ℕ). P n x) long here))
+    ])
+
+-- how long a text of parts is at most
+pub length-append-le : (a b : List ℕ) (m n : ℕ) → length a ≤ m → length b ≤ n → length (a ++ b) ≤ m + n
+length-append-le a b m n x y = omega (arith, length-append a b, x, y)
+
+pub length-cond-le : (b : Bool) (x y : List ℕ) (n : ℕ) → length x ≤ n → length y ≤ n → length (cond b x y) ≤ n
+length-cond-le true x y n p q = p
+length-cond-le false x y n p q = q
+
+pub length-decimal_word : (n : ℕ) → n < 2 ^ 64 → length (decimal n) ≤ 20
+length-decimal_word n small = length-decimal-le 20 n (omega arith) (omega arith) (omega (arith, small))

@@ -5,6 +5,7 @@
 --   wholes_grow                       what a multiple of a part adds to the wholes
 --   one_factor                        one number fits an equation with a power
 --   first_bits                        the first bits of a number of 64 bits
+--   few_cases                         none, one or more
 --   same_or_not                       two pairs are the same or not
 --   round_up                          the test whether something rounds up by one
 use Rattle.std.proofs.Common.{◌≡◌, ◌≢◌, ℕ, ◌+◌, ◌-◌, ◌*◌, ◌/◌, ◌%◌, ◌^◌, ◌<◌, ◌≤◌, ◌⊎◌, inl, inr, ap, nat_lt, arith}
@@ -93,3 +94,7 @@ same_or_not a b c d = same_by (cases_eq a c) (cases_eq b d)
 -- a rest rounds up by one, and no rest by none
 pub round_up : (rest : ℕ) → ((rest ≡ 0) × (bool_byte (nat_lt 0 rest) ≡ 0)) ⊎ ((0 < rest) × (bool_byte (nat_lt 0 rest) ≡ 1))
 round_up rest = grind (arith, nat_tests)
+
+-- none, one or more
+pub few_cases : (n : ℕ) → (n ≡ 0) ⊎ ((n ≡ 1) ⊎ (2 ≤ n))
+few_cases n = grind arith

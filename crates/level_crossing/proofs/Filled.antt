@@ -4,9 +4,10 @@ use Rattle.std.specs.Prelude.{All}
 use Rattle.std.proofs.lemmas.List.Elements.{All-head, All-tail}
 use Rattle.turning_points.specs.Points.{points}
 use Rattle.turning_points.specs.EndPoints.{last_point}
-use Rattle.level_crossing.specs.Crossings.{crossings, first_of, is_some, IsCrossings, Crosses}
+use Rattle.level_crossing.specs.Crossings.{crossings, first_of, has_level, IsCrossings, Crosses}
 use Rattle.level_crossing.proofs.OfPoints.{crossings_few, crosses_points}
 use Rattle.turning_points.specs.declared.ends.TheConstants.{MAX_POINTS}
+use Rattle.calibration.specs.declared.grid.TheConstants.{MIN_CLASSES, MAX_CLASSES}
 
 first_below : (k : ℕ) (p : List ℕ) → 1 ≤ k → All (λ x. x < k) p → first_of p < k
 first_below k [] o a = omega arith
@@ -19,7 +20,7 @@ last_below k (x ∷ y ∷ p) o a = last_below k (y ∷ p) o (All-tail (λ y. y <
 
 -- the parts that a value has after the points p
 pub record Parts (k r : ℕ) (p : List ℕ) (some : Bool) (first last : ℕ) (b s : List ℕ) : Type 0 where
-  pub is_some_of : some ≡ is_some p
+  pub is_some_of : some ≡ has_level p
   pub is_first : first ≡ first_of p
   pub is_last : last ≡ last_point p
   pub begins : length b ≡ k + 1
@@ -28,7 +29,7 @@ pub record Parts (k r : ℕ) (p : List ℕ) (some : Bool) (first last : ℕ) (b 
   pub enough : (i : ℕ) → sum (take (i + 1) s) ≤ sum (take i b)
 
 pub filled_rules : {k r : ℕ} {p : List ℕ} {some : Bool} {first last : ℕ} {b s : List ℕ} → Parts k r p some first last b s →
-    (2 ≤ k) × (k ≤ 1024) → (1 ≤ r) × (r < k) → All (λ x. x < k) p → length p ≤ MAX_POINTS →
+    (MIN_CLASSES ≤ k) × (k ≤ MAX_CLASSES) → (1 ≤ r) × (r < k) → All (λ x. x < k) p → length p ≤ MAX_POINTS →
     IsCrossings (record { classes = k; reference = r; some = some; first = first; last = last; begins = b; stops = s })
 filled_rules {k} {r} {p} g c d a f = record {
   classes = c;

@@ -8,22 +8,13 @@ use Rattle.tally.specs.declared.cells.Bin.{Bin}
 use Rattle.turning_points.specs.EndPoints.{EndPoints}
 use Rattle.tables.specs.Tables.{filled}
 use Rattle.tables.specs.Bins.{count_at}
-use Rattle.tables.proofs.Counting.{sum_cons}
 use Rattle.tables.proofs.Filled.{placed, none_before, filled_at, table_at, table_long}
 use Rattle.lemmas.proofs.Lists.{get_or-zeros}
 use Rattle.calibration.specs.declared.grid.TheConstants.{MAX_CLASSES}
 use Rattle.level_crossing.specs.Crossings.{IsCrossings, count_at as crossing_count}
 use Rattle.level_crossing.specs.Loading.{CanLoad, loaded_of}
+use Rattle.level_crossing.proofs.PushJoin.{sum_take_more, at_more}
 use Rattle.turning_points.specs.declared.ends.TheConstants.{MAX_POINTS}
-
-pub sum_take_more : (t : List ℕ) (i : ℕ) → sum (take (suc i) t) ≡ sum (take i t) + get_or t i 0
-sum_take_more [] zero = refl
-sum_take_more [] (suc i) = refl
-sum_take_more (x ∷ t) zero = omega (arith, sum_cons x [])
-sum_take_more (x ∷ t) (suc i) = omega (arith, sum_cons x (take (suc i) t), sum_cons x (take i t), sum_take_more t i)
-
-at_more : (t : List ℕ) (i : ℕ) → sum (take (i + 1) t) ≡ sum (take i t) + get_or t i 0
-at_more t i = let e : i + 1 ≡ suc i = omega arith in ap (λ k. sum (take k t)) e ∙ sum_take_more t i
 
 -- the second table is the first one, one place further on
 shifted : (b s : List ℕ) → get_or s 0 0 ≡ 0 → ((i : ℕ) → get_or s (suc i) 0 ≡ get_or b i 0) → (i : ℕ) →

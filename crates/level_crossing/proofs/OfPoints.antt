@@ -6,7 +6,7 @@ use Rattle.std.proofs.lemmas.Bool.Decides.{nat_tests}
 use Rattle.turning_points.specs.Points.{points, IsBetween}
 use Rattle.turning_points.specs.EndPoints.{last_point}
 use Rattle.turning_points.proofs.Zigzag.{Added, first, equal, second, turn, between, is_added, points_cons, zig_points}
-use Rattle.level_crossing.specs.Crossings.{step_crossings, crossings, first_of, is_some, CrossingsValue, Crosses}
+use Rattle.level_crossing.specs.Crossings.{step_crossings, crossings, first_of, has_level, CrossingsValue, Crosses}
 
 -- the step from x to the first level of p
 abbrev step : ℕ → ℕ → ℕ → List ℕ → ℕ
@@ -49,7 +49,7 @@ last_points (x ∷ []) = refl
 last_points (x ∷ y ∷ h) = ap last_point (points_cons x (y ∷ h)) ∙ last_added (is_added x (points (y ∷ h)) (zig_points (y ∷ h)))
     (omega arith) ∙ last_points (y ∷ h)
 
-some_points : (h : List ℕ) → is_some (points h) ≡ is_some h
+some_points : (h : List ℕ) → has_level (points h) ≡ has_level h
 some_points [] = refl
 some_points (x ∷ h) = refl
 
@@ -68,7 +68,7 @@ crosses_points v p h e c =
     }
 
 -- no boundary is crossed at each level
-few_added : (r l x y : ℕ) → step_crossings r l x y ≤ 1
+pub few_added : (r l x y : ℕ) → step_crossings r l x y ≤ 1
 few_added r l x y = grind (arith, nat_tests)
 
 pub crossings_few : (r l : ℕ) (h : List ℕ) → crossings r l h ≤ length h - 1

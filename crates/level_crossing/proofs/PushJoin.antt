@@ -5,7 +5,7 @@ use Rattle.std.proofs.lemmas.Bool.Decides.{nat_tests}
 use Rattle.turning_points.specs.EndPoints.{last_point}
 use Rattle.tables.specs.Tables.{raise, added as both}
 use Rattle.level_crossing.specs.Halves.{below_at}
-use Rattle.level_crossing.specs.Crossings.{step_crossings, crossings, first_of, is_some, CrossingsValue, count_at, IsCrossings, Crosses, low, high, begin_step, stop_step, level_of, append_of, between, no_crossings}
+use Rattle.level_crossing.specs.Crossings.{step_crossings, crossings, first_of, has_level, CrossingsValue, count_at, IsCrossings, Crosses, low, high, begin_step, stop_step, level_of, append_of, between, no_crossings}
 use Rattle.tables.proofs.Counting.{sum_cons, length_added, added_at}
 use Rattle.turning_points.specs.declared.ends.TheConstants.{MAX_POINTS}
 
@@ -159,7 +159,7 @@ count_both k b s c t l g h =
 
 -- a concatenation crosses what its parts cross, and what the step between them crosses
 pub crossings_append : (r l : ℕ) (u v : List ℕ) →
-    crossings r l (u ++ v) ≡ crossings r l u + crossings r l v + between (is_some u && is_some v) r l (last_point u) (first_of v)
+    crossings r l (u ++ v) ≡ crossings r l u + crossings r l v + between (has_level u && has_level v) r l (last_point u) (first_of v)
 crossings_append r l [] v = omega arith
 crossings_append r l (x ∷ []) [] = omega arith
 crossings_append r l (x ∷ []) (y ∷ v) = omega arith
@@ -196,11 +196,11 @@ level_rules x v i h f =
       few = λ l. omega (arith, s.count l, f l);
     }
 
-first_push : (h : List ℕ) (x : ℕ) → first_of (h ++ (x ∷ [])) ≡ cond (is_some h) (first_of h) x
+first_push : (h : List ℕ) (x : ℕ) → first_of (h ++ (x ∷ [])) ≡ cond (has_level h) (first_of h) x
 first_push [] x = refl
 first_push (y ∷ h) x = refl
 
-some_push : (h : List ℕ) (x : ℕ) → is_some (h ++ (x ∷ [])) ≡ true
+some_push : (h : List ℕ) (x : ℕ) → has_level (h ++ (x ∷ [])) ≡ true
 some_push [] x = refl
 some_push (y ∷ h) x = refl
 
@@ -225,29 +225,29 @@ level_crosses x v h i p g =
     let s = stepped v.classes v.reference v.last x v.begins v.stops i.reference.0 i.last p (sound_of v i) v.some in
     record {
       some = sym (some_push h x);
-      first = cond_first v.some (is_some h) v.first x (first_of h) g.some g.first ∙ sym (first_push h x);
+      first = cond_first v.some (has_level h) v.first x (first_of h) g.some g.first ∙ sym (first_push h x);
       last = sym (last_push h x);
       counts = λ l a b. omega (
         arith,
         s.count l,
         g.counts l a b,
         crossings_append v.reference l h (x ∷ []),
-        between_same v.some (is_some h && true) v.reference l v.last x (last_point h) (g.some ∙ sym (and_true (is_some h))) g.last,
+        between_same v.some (has_level h && true) v.reference l v.last x (last_point h) (g.some ∙ sym (and_true (has_level h))) g.last,
       );
     }
 
-last_append : (u v : List ℕ) → last_point (u ++ v) ≡ cond (is_some v) (last_point v) (last_point u)
+last_append : (u v : List ℕ) → last_point (u ++ v) ≡ cond (has_level v) (last_point v) (last_point u)
 last_append [] [] = refl
 last_append [] (y ∷ v) = refl
 last_append (x ∷ []) [] = refl
 last_append (x ∷ []) (y ∷ v) = refl
 last_append (x ∷ y ∷ u) v = last_append (y ∷ u) v
 
-first_append : (u v : List ℕ) → first_of (u ++ v) ≡ cond (is_some u) (first_of u) (first_of v)
+first_append : (u v : List ℕ) → first_of (u ++ v) ≡ cond (has_level u) (first_of u) (first_of v)
 first_append [] v = refl
 first_append (x ∷ u) v = refl
 
-some_append : (u v : List ℕ) → is_some (u ++ v) ≡ (is_some u || is_some v)
+some_append : (u v : List ℕ) → has_level (u ++ v) ≡ (has_level u || has_level v)
 some_append [] v = refl
 some_append (x ∷ u) v = refl
 
@@ -294,9 +294,9 @@ module _ (v w : CrossingsValue) (i : IsCrossings v) (j : IsCrossings w) (k : v.c
 
   pub append_crosses : v.reference ≡ w.reference → (g h : List ℕ) → Crosses v g → Crosses w h → Crosses (append_of v w) (g ++ h)
   append_crosses e g h a b = record {
-    some = or_same v.some w.some (is_some g) (is_some h) a.some b.some ∙ sym (some_append g h);
-    first = cond_same v.some (is_some g) v.first w.first (first_of g) (first_of h) a.some a.first b.first ∙ sym (first_append g h);
-    last = cond_same w.some (is_some h) w.last v.last (last_point h) (last_point g) b.some b.last a.last ∙ sym (last_append g h);
+    some = or_same v.some w.some (has_level g) (has_level h) a.some b.some ∙ sym (some_append g h);
+    first = cond_same v.some (has_level g) v.first w.first (first_of g) (first_of h) a.some a.first b.first ∙ sym (first_append g h);
+    last = cond_same w.some (has_level h) w.last v.last (last_point h) (last_point g) b.some b.last a.last ∙ sym (last_append g h);
     counts = λ l p q. omega (
       arith,
       append_count l,
@@ -304,8 +304,8 @@ module _ (v w : CrossingsValue) (i : IsCrossings v) (j : IsCrossings w) (k : v.c
       b.counts l p (subst (λ n. l < n) k q),
       ap (λ r. crossings r l h) e,
       crossings_append v.reference l g h,
-      between_to (v.some && w.some) (is_some g && is_some h) v.reference l v.last w.first
-          (last_point g) (first_of h) (and_same v.some w.some (is_some g) (is_some h) a.some b.some) a.last b.first,
+      between_to (v.some && w.some) (has_level g && has_level h) v.reference l v.last w.first
+          (last_point g) (first_of h) (and_same v.some w.some (has_level g) (has_level h) a.some b.some) a.last b.first,
     );
   }
 

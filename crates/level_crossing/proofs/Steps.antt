@@ -4,7 +4,7 @@ use Rattle.std.specs.Prelude.{All}
 use Rattle.std.proofs.lemmas.List.Elements.{All-head, All-tail}
 use Rattle.std.proofs.lemmas.Bool.Decides.{nat_tests}
 use mir.Val.{bool_byte}
-use Rattle.turning_points.proofs.Zigzag.{Turn, IsZigzag, inner, ends_differ}
+use Rattle.turning_points.proofs.Zigzag.{Turn, IsZigzag, ends_differ, turn_at}
 use Rattle.tables.specs.Tables.{raise, is_at}
 use Rattle.tables.proofs.Counting.{raise_at, sum_cons}
 use Rattle.level_crossing.specs.Crossings.{step_crossings, crossings}
@@ -31,13 +31,6 @@ crossings_next r l p i j e h =
       ap (λ k. crossings r l (take k p)) b,
       ap (λ k. step_crossings r l (get_or p i 0) (get_or p k 0)) a,
     )
-
-turn_at : (p : List ℕ) (i : ℕ) → IsZigzag p → i + 2 < length p → Turn (get_or p i 0) (get_or p (suc i) 0) (get_or p (suc (suc i)) 0)
-turn_at [] i z h = absurd (omega arith)
-turn_at (x ∷ []) i z h = absurd (omega arith)
-turn_at (x ∷ y ∷ []) i z h = absurd (omega arith)
-turn_at (x ∷ y ∷ w ∷ l) zero (inner t g) h = t
-turn_at (x ∷ y ∷ w ∷ l) (suc i) (inner t g) h = turn_at (y ∷ w ∷ l) i g (omega arith)
 
 turn_here : (p : List ℕ) (i : ℕ) → IsZigzag p → 1 ≤ i → i + 1 < length p → Turn (get_or p (i - 1) 0) (get_or p i 0) (get_or p (i + 1) 0)
 turn_here p i z o h =

@@ -1,12 +1,12 @@
 -- Level crossings (ASTM E1049-85, 5.1): how often a history crosses a boundary in the counted direction, upwards from
 -- the reference on and downwards below it. Boundary l lies below level l.
---   step_crossings   1 where the step from x to y crosses boundary l
---   crossings        how often a history does
---   CrossingsValue   what contracts see of a `Crossings`: its first and last level, and the counts as differences of
---                    two sums
---   count_at         the count of a boundary
---   IsCrossings      what holds of every `Crossings`
---   Crosses          a value stands for a history
+--   step_crossings  1 where the step from x to y crosses boundary l
+--   crossings       how often a history does
+--   CrossingsValue  what contracts see of a `Crossings`: its first and last level, and the counts as differences of
+--                   two sums
+--   count_at        the count of a boundary
+--   IsCrossings     what holds of every `Crossings`
+--   Crosses         a value stands for a history
 --   level_of, append_of   a value after one level more, and two values one after the other
 use Rattle.std.specs.Prelude.{◌≡◌, ℕ, ◌+◌, ◌-◌, ◌<◌, ◌≤◌, Bool, true, false, ◌&&◌, ◌||◌, nat_lt, nat_le, if◌then◌else◌, List, [], ◌∷◌, length, take, sum, replicate, max, min}
 use Rattle.turning_points.specs.Points.{points}
@@ -28,9 +28,9 @@ abbrev pub first_of : List ℕ → ℕ
 first_of [] = 0
 first_of (x ∷ h) = x
 
-abbrev pub is_some : List ℕ → Bool
-is_some [] = false
-is_some (x ∷ h) = true
+abbrev pub has_level : List ℕ → Bool
+has_level [] = false
+has_level (x ∷ h) = true
 
 pub record CrossingsValue : Type 0 where
   pub classes : ℕ
@@ -68,7 +68,7 @@ pub record IsCrossings (v : CrossingsValue) : Type 0 where
   pub few : (i : ℕ) → sum (take (i + 1) v.begins) ≤ MAX_POINTS + sum (take (i + 1) v.stops)
 
 pub record Crosses (v : CrossingsValue) (h : List ℕ) : Type 0 where
-  pub some : v.some ≡ is_some h
+  pub some : v.some ≡ has_level h
   pub first : v.first ≡ first_of h
   pub last : v.last ≡ last_point h
   pub counts : (l : ℕ) → 1 ≤ l → l < v.classes → count_at v l ≡ crossings v.reference l h

@@ -5,7 +5,7 @@ ghost use Rattle.tables.specs.Bins.{count_at as count_of_bins};
 ghost use Rattle.turning_points.specs.Ends.{end_points};
 ghost use Rattle.turning_points.specs.EndPoints.{last_point};
 ghost use Rattle.level_crossing.specs.Loading.{CanLoad, HasEnds, loaded_of};
-ghost use Rattle.level_crossing.specs.Crossings.{Crosses, IsCrossings, append_of, begin_step, between, count_at, crossings, first_of, high, is_some, level_of, low, no_crossings, stop_step};
+ghost use Rattle.level_crossing.specs.Crossings.{Crosses, IsCrossings, append_of, begin_step, between, count_at, crossings, first_of, high, has_level, level_of, low, no_crossings, stop_step};
 ghost use Rattle.turning_points.specs.declared.ends.TheConstants.{MAX_POINTS};
 
 use crate::points::{fill, first_level, has_some, last_level};
@@ -266,7 +266,7 @@ impl Crossings {
         requires few { length list.now ≤ MAX_POINTS }
         ensures grid { (self.new.classes ≡ self.old.classes)
             × (self.new.reference ≡ self.old.reference) }
-        ensures some { self.new.some ≡ is_some list.now }
+        ensures some { self.new.some ≡ has_level list.now }
         ensures first { self.new.first ≡ first_of list.now }
         ensures last { self.new.last ≡ last_point list.now }
         ensures counts { (l : ℕ) → count_at self.new l ≡ crossings self.old.reference l list.now }

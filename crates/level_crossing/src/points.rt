@@ -2,7 +2,7 @@ ghost use Rattle.std.specs.Prelude.{◌≡◌, ℕ, ◌+◌, ◌-◌, ◌*◌, �
 ghost use Rattle.turning_points.specs.Points.{points};
 ghost use Rattle.turning_points.specs.EndPoints.{last_point};
 ghost use Rattle.tables.specs.Tables.{raise};
-ghost use Rattle.level_crossing.specs.Crossings.{crossings, first_of, is_some};
+ghost use Rattle.level_crossing.specs.Crossings.{crossings, first_of, has_level};
 ghost use Rattle.level_crossing.specs.Halves.{IsOpen, IsSettled};
 ghost use Rattle.turning_points.specs.declared.ends.TheConstants.{MAX_POINTS};
 
@@ -143,7 +143,7 @@ pub fn fill(begins: &mut Vec<u64>, stops: &mut Vec<u64>, reference: usize, list:
 }
 
 pub fn has_some(list: &[u16]) -> bool
-    ensures { result ≡ is_some list.now }
+    ensures { result ≡ has_level list.now }
 {
     !list.is_empty()
 }

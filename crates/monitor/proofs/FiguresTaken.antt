@@ -1,14 +1,13 @@
 -- Figures of samples, and of further ones behind them.
-use Rattle.std.proofs.Common.{◌≡◌, ℕ, ℤ, ◌+◌, ◌<◌, slice_index, List, [], ◌∷◌, ◌++◌, length, refl, sym, ◌∙◌, ap, subst, length-append, arith}
+use Rattle.std.proofs.Common.{◌≡◌, ℕ, ℤ, ◌<◌, slice_index, List, [], ◌∷◌, ◌++◌, length, sym, ◌∙◌, ap, subst}
 use Rattle.std.specs.Prelude.{All}
 use Rattle.std.proofs.Math.Seq.{drop-append_seam}
 use Rattle.std.proofs.lemmas.List.Elements.{All-head, All-drop}
 use Rattle.calibration.specs.Gain.{GainValue}
 use Rattle.calibration.specs.Grid.{GridValue}
 use Rattle.calibration.specs.History.{history, missing_count, refused_count}
-use Rattle.calibration.proofs.History.{history-append, missing_count-append, refused_count-append}
+use Rattle.calibration.proofs.History.{history-append}
 use Rattle.calibration.proofs.HistoryBelow.{history_below}
-use Rattle.calibration.proofs.Places.{counts_add}
 use Rattle.turning_points.specs.Points.{points}
 use Rattle.turning_points.specs.Turned.{HasGiven}
 use Rattle.turning_points.specs.declared.turner.Recent.{Recent}
@@ -19,31 +18,13 @@ use Rattle.three_point.specs.Run.{run, half_units}
 use Rattle.report.specs.Counts.{counts_of, sum_of}
 use Rattle.monitor.specs.Figures.{AreFigures, HoldHalfUnits}
 use Rattle.report.specs.declared.counts.SampleCounts.{SampleCounts}
+use Rattle.report.proofs.Counted.{counts, counts_of-append, kinds_are}
 use Rattle.monitor.specs.declared.figures.Figures.{Figures}
 
-abbrev pub counts : ℕ → ℕ → ℕ → ℕ → SampleCounts
-counts s u m r = record { samples = s; used = u; missing = m; refused = r }
-
-same_counts : (s s' u u' m m' r r' : ℕ) → s ≡ s' → u ≡ u' → m ≡ m' → r ≡ r' → counts s u m r ≡ counts s' u' m' r'
-same_counts s s' u u' m m' r r' a b c d = rw (a, b, c, d) refl
-
 module _ (grid : GridValue) (gain : GainValue) where
-  counts_of-append : (u v : List ℤ) → counts_of grid gain (u ++ v) ≡ sum_of (counts_of grid gain u) (counts_of grid gain v)
-  counts_of-append u v = same_counts _ _ _ _ _ _ _ _
-      (length-append u v)
-      (ap (λ (l : List ℕ). length l) (history-append grid gain u v) ∙ length-append (history grid gain u) (history grid gain v))
-      (missing_count-append grid gain u v)
-      (refused_count-append grid gain u v)
-
   -- A piece of samples: how many are of each kind, and its levels.
   module _ (raws : List ℤ) (used missing refused : ℕ) (u : used ≡ length (history grid gain raws))
       (m : missing ≡ missing_count grid gain raws) (r : refused ≡ refused_count grid gain raws) where
-    pub all_kinds : used + missing + refused ≡ length raws
-    all_kinds = omega (arith, counts_add gain grid raws, u, m, r)
-
-    kinds_are : counts (length raws) used missing refused ≡ counts_of grid gain raws
-    kinds_are = same_counts _ _ _ _ _ _ _ _ refl u m r
-
     module _ (old : Figures) (w : List ℤ) (piece more : List ℕ) (turner : Recent) (levels : piece ≡ history grid gain raws)
         (turned : (h given : List ℕ) → HasGiven h given old.turner → HasGiven (h ++ piece) (given ++ more) turner) where
       turned_more : (are : AreFigures grid gain old w) → HasGiven (history grid gain (w ++ raws)) (are.decided ++ more) turner
@@ -64,7 +45,8 @@ module _ (grid : GridValue) (gain : GainValue) where
           → new.run.classes ≡ old.run.classes → AreFigures grid gain old w → AreFigures grid gain new (w ++ raws)
       figures_more new t sum counted classes are = record {
         counts = sum ∙ ap (λ (c : SampleCounts). sum_of c (counts (length raws) used missing refused)) are.counts
-            ∙ ap (λ (c : SampleCounts). sum_of (counts_of grid gain w) c) kinds_are ∙ sym (counts_of-append w raws);
+            ∙ ap (λ (c : SampleCounts). sum_of (counts_of grid gain w) c) (kinds_are grid gain raws used missing refused u m r) ∙ sym
+            (counts_of-append grid gain w raws);
         decided = are.decided ++ more;
         turned = subst (λ (k : Recent). HasGiven (history grid gain (w ++ raws)) (are.decided ++ more) k) (sym t) (turned_more are);
         counted = counted are.decided are.counted;

@@ -1,11 +1,11 @@
 -- The figures of a body, one piece after the other, and what the body is at its end.
-use Rattle.std.proofs.Common.{◌≡◌, ℕ, ℤ, ◌+◌, ◌<◌, ◌≤◌, List, ◌++◌, length, take, sym, ◌∙◌, ap, subst, append_assoc, length-append, arith}
+use Rattle.std.proofs.Common.{◌≡◌, ℕ, ℤ, ◌+◌, ◌<◌, ◌≤◌, List, ◌++◌, length, take, sym, ◌∙◌, ap, subst, length-append, arith}
 use Rattle.recording.specs.declared.TheConstants.{MAX_SAMPLES}
 use Rattle.recording.specs.Samples.{samples}
 use Rattle.recording.specs.Filling.{SameFirst, Takes}
 use Rattle.recording.specs.declared.ends.FillEnd.{FillEnd}
 use Rattle.recording.specs.declared.ends.FillEnd.TheVariants.{More, Ended, Torn}
-use Rattle.recording.proofs.Reading.{Splits, splits_more, last_ended, last_torn, read_at_most}
+use Rattle.recording.proofs.Reading.{Splits, splits_next, last_ended, last_torn, read_at_most}
 use Rattle.calibration.specs.Gain.{GainValue}
 use Rattle.calibration.specs.Grid.{GridValue}
 use Rattle.file_tasks.specs.FileState.{Sound, TornEnd, TooManySamples, body_state}
@@ -31,9 +31,7 @@ module _ (grid : GridValue) (gain : GainValue) (r : Figures) (w : List ℤ) (bod
   as_ended e is = subst (λ (x : FillEnd). Takes room before n x after) is t
 
   pub more_read : end ≡ More → Splits body (w ++ take n buf) after
-  more_read is =
-      let piece = splits_more room n buf before after same (as_ended More is) in
-      (split.0 ∙ ap (λ (l : List ℤ). w ++ l) piece.0 ∙ sym (append_assoc w (take n buf) (samples after)), piece.1 ∙ split.1)
+  more_read is = splits_next room n buf body before after w split same (as_ended More is)
 
   whole : take n buf ≡ samples before → w ++ take n buf ≡ samples body
   whole is = ap (λ (l : List ℤ). w ++ l) is ∙ sym split.0

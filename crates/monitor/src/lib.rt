@@ -1,11 +1,14 @@
 //! The commands of the program, over a site of recordings and a sink for texts.
 //!
 //! `monitor` reads the words of the command line, and calls the command that they name. Its
-//! contract is the theorem of the program, `specs/Run.antt`: what is printed is the three-point
-//! count of ASTM E1049-85, 5.4.4, over the whole level history of the file, each answer has its
-//! cause in what the file is (`specs/FileState.antt`, `specs/Answer.antt`), the named file alone is
-//! asked for, and all sources are back at the site. What `table` prints of a file is
-//! `specs/Printed.antt`, over the crate `report`'s text of a table.
+//! contract is the theorem of the program, a clause for each command: what a run did, by what is
+//! shown before it and after it (`specs/Shown.antt`), as in `specs/CountRun.antt`. `table` and
+//! `column` are tasks over one file, of which `crates/file_tasks/specs/Run.antt` speaks.
+//!
+//! What `table` prints of a file is `specs/Printed.antt`: the text of the three-point count of ASTM
+//! E1049-85, 5.4.4, over its whole level history. Each answer has its cause in what the file is
+//! (`crates/file_tasks/specs/FileState.antt` and `crates/file_tasks/specs/Answer.antt`), the named
+//! file alone is asked for, and all sources are back at the site.
 //!
 //! A recording is read in pieces of 64 KiB. The levels of a piece are put into a buffer, its points
 //! are found in their place and read by the run, which hands over the half units as it counts them:

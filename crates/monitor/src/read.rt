@@ -6,7 +6,6 @@ ghost use Rattle.file_tasks.specs.Answer.{MayGive};
 ghost use Rattle.monitor.specs.Printed.{table_grid, table_gain};
 ghost use Rattle.recording.specs.declared.TheConstants.{MAX_SAMPLES};
 ghost use Rattle.monitor.specs.Figures.{AreFigures};
-ghost use Rattle.monitor.specs.declared.read.TheConstants.{PIECE};
 ghost use Rattle.file_tasks.specs.declared.refusal.Refusal.TheVariants.{ReadFault};
 
 use crate::figures::Figures;
@@ -14,29 +13,8 @@ use crate::grid::{CLASSES, table_classifier};
 use file_tasks::Refusal;
 use outside::Source;
 use recording::{FillEnd, MAX_SAMPLES, fill, read_head};
-use std::alloc::{AllocError, Global};
-
-// Samples that are read at once: 64 KiB. Larger pieces read no faster.
-const PIECE: usize = 16384;
-
-/// Room for the samples of a piece and for their levels.
-#[derive(Drop)]
-struct Piece {
-    raws: Vec<i32>,
-    levels: Vec<u16>,
-}
-
-impl Piece {
-    fn new(alloc: Global) -> Result<Piece, AllocError>
-        ensures raws { IfOk result (λ piece. length piece.raws.items ≡ PIECE) }
-        ensures levels { IfOk result (λ piece. length piece.levels.items ≡ PIECE) }
-    {
-        Ok(Piece {
-            raws: vec![in alloc; 0; PIECE]?,
-            levels: vec![in alloc; 0; PIECE]?,
-        })
-    }
-}
+use recount::Piece;
+use std::alloc::Global;
 
 /// Reads a recording to its end, piece by piece, and counts its samples in the classes of `table`.
 pub fn read_recording<S: Source>(alloc: Global, src: &mut S) -> Result<Figures, Refusal>

@@ -1,3 +1,4 @@
 pub mod Asked
+pub mod Faults
 mod Calls
 mod Files

@@ -37,7 +37,7 @@ pub use gate::{Gate, OpenGate};
 pub use hold_gate::HoldGate;
 pub use map_site::MapSite;
 pub use sink::Sink;
-pub use site::Site;
+pub use site::{MAX_SOURCES_OUT, Site};
 pub use source::Source;
 pub use std::alloc::AllocError as OutOfMemory;
 pub use steady_source::SteadySource;

@@ -3,7 +3,6 @@
 --   file_is            the name of a gauge's file
 --   asks_file          it was asked for
 --   asks_more          and so was that of one gauge more
---   asks_then_none     and then nothing
 --   stops_behind       it was the last
 --   first_names        the first so many
 --   none_is_first, first_then_none, first_read
@@ -11,6 +10,7 @@ use Rattle.std.proofs.Common.{◌≡◌, ◌<◌, ◌≤◌, ◌+◌, ℕ, List,
 use Rattle.std.proofs.lemmas.List.{get_or_default, length-map, map_more, take-map}
 use Rattle.std.specs.Prelude.{Result, Ok}
 use Rattle.outside.specs.Site.{Asked, Asks, AsksNothing}
+use Rattle.outside.proofs.Asked.{asks_no_more}
 use Rattle.site_config.specs.Valid.{file_of, no_gauge}
 use Rattle.site_config.specs.declared.config.Config.{Config}
 use Rattle.site_config.specs.declared.config.Gauge.{Gauge}
@@ -19,9 +19,6 @@ use Rattle.recorded.specs.Asked.{file_names, names_in, AsksFirst}
 
 pub asks_none : (a : Asked) → Asks a a []
 asks_none a = λ names has. subst a (sym (append-nil names)) has
-
-pub asks_then_none : (a b d : Asked) (more : List (List ℕ)) → Asks a b more → AsksNothing b d → Asks a d more
-asks_then_none a b d more asks none = λ names has. none (names ++ more) (asks names has)
 
 next_name : (c : Config) (g : ℕ) → g < length c.gauges → take (g + 1) (file_names c) ≡ take g (file_names c) ++ file_of c g ∷ []
 next_name c g lt =
@@ -52,10 +49,10 @@ module _ (c : Config) (g : ℕ) (a b : Asked) (asks : Asks a b (take g (file_nam
   first_names le = (g, omega (arith, le, length-map c.gauges (λ (gauge : Gauge). gauge.file)), asks)
 
 pub none_is_first : (a b : Asked) (names : List (List ℕ)) → AsksNothing a b → AsksFirst a b names
-none_is_first a b names none = (0, omega arith, asks_then_none a a b [] (asks_none a) none)
+none_is_first a b names none = (0, omega arith, asks_no_more a a b [] (asks_none a) none)
 
 pub first_then_none : (a b d : Asked) (names : List (List ℕ)) → AsksFirst a b names → AsksNothing b d → AsksFirst a d names
-first_then_none a b d names first none = (first.0, first.1, asks_then_none a b d (take first.0 names) first.2 none)
+first_then_none a b d names first none = (first.0, first.1, asks_no_more a b d (take first.0 names) first.2 none)
 
 -- of the configuration that was read
 pub first_read : (read : Result Config ConfigFault) (c : Config) (a b : Asked) → read ≡ Ok c → AsksFirst a b (file_names c) →

@@ -2,10 +2,11 @@
 --   Splits          samples that were read, and those of what is left
 --   ReadsLast       all samples were read, and so many bytes stand behind them
 --   splits_more     of a fill that was full
+--   splits_next     the same behind samples that were read before
 --   last_ended      of one that found the end after a whole sample
 --   last_torn       of one that found it after a part of one
 --   read_at_most    no fill reads more samples than there are
-use Rattle.std.proofs.Common.{◌≡◌, ℤ, ℕ, ◌*◌, ◌<◌, ◌≤◌, min, nat_le, ◌==◌, if◌then◌else◌, Bool, true, false, List, ◌++◌, length, take, drop, refl, sym, ◌∙◌, ap, subst, take-append-drop, length-take, arith}
+use Rattle.std.proofs.Common.{◌≡◌, ℤ, ℕ, ◌*◌, ◌<◌, ◌≤◌, min, nat_le, ◌==◌, if◌then◌else◌, Bool, true, false, List, ◌++◌, length, take, drop, refl, sym, ◌∙◌, ap, subst, take-append-drop, length-take, arith, append_assoc}
 use Rattle.std.proofs.lemmas.Bool.Decides.{nat_tests}
 use Rattle.std.proofs.lemmas.List.{take_all}
 use Rattle.recording.specs.Samples.{samples, torn_bytes}
@@ -76,3 +77,10 @@ module _ (room n : ℕ) (buf : List ℤ) (before after : List ℕ) (same : SameF
       let three = is_torn _ _ _ bytes (taken.ends (λ fault. cc)) in
       let some : (torn_bytes before == 0) ≡ false = three.1 in
       (record { all = reads_all (taken.count (λ fault. cc)) three.0; torn = sym three.2 }, grind (arith, nat_tests, some, three.2))
+
+-- the body was split after the samples w, and a piece was read that did not end it
+pub splits_next : (room n : ℕ) (buf : List ℤ) (body before after : List ℕ) (w : List ℤ) → Splits body w before →
+    SameFirst n buf (samples before) → Takes room before n More after → Splits body (w ++ take n buf) after
+splits_next room n buf body before after w split same taken =
+    let piece = splits_more room n buf before after same taken in
+    (split.0 ∙ ap (λ (l : List ℤ). w ++ l) piece.0 ∙ sym (append_assoc w (take n buf) (samples after)), piece.1 ∙ split.1)

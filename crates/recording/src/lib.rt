@@ -29,3 +29,7 @@ pub use writing::write_samples;
 
 /// The most samples of a recording.
 pub const MAX_SAMPLES: u64 = (1 << 40) - 1;
+
+/// The samples that a recording is read by, where it is read to its end: 64 KiB. Larger pieces
+/// read no faster.
+pub const PIECE: usize = 16384;

@@ -1,20 +1,18 @@
 -- What a running count has come to, with further samples behind and at the end.
---   all_kinds      the kinds of a piece of samples are all of it
 --   points_below   the points that a piece decides are classes of the grid
 --   counted_more   a piece more
 --   last_below     so is the last point of a history
 --   all_points     with the last point, where there is one, all points were read
 --   recount_of     what was found when all was read
-use Rattle.std.proofs.Common.{◌≡◌, ◌≤◌, ℕ, ℤ, ◌+◌, ◌<◌, List, [], ◌∷◌, ◌++◌, length, refl, sym, ◌∙◌, ap, subst, length-append, arith}
+use Rattle.std.proofs.Common.{◌≡◌, ◌≤◌, ℕ, ℤ, ◌+◌, ◌<◌, List, [], ◌∷◌, ◌++◌, length, sym, ◌∙◌, ap, subst, arith}
 use Rattle.std.specs.Prelude.{All}
 use Rattle.std.proofs.Math.Seq.{drop-append_seam}
 use Rattle.std.proofs.lemmas.List.Elements.{All-head, All-drop}
 use Rattle.calibration.specs.Gain.{GainValue}
 use Rattle.calibration.specs.Grid.{GridValue}
 use Rattle.calibration.specs.History.{history, missing_count, refused_count}
-use Rattle.calibration.proofs.History.{history-append, missing_count-append, refused_count-append}
+use Rattle.calibration.proofs.History.{history-append}
 use Rattle.calibration.proofs.HistoryBelow.{history_below}
-use Rattle.calibration.proofs.Places.{counts_add}
 use Rattle.turning_points.specs.Points.{points}
 use Rattle.turning_points.specs.Turned.{HasGiven}
 use Rattle.turning_points.specs.declared.turner.Recent.{Recent}
@@ -24,33 +22,15 @@ use Rattle.three_point.specs.Live.{HasCounted}
 use Rattle.three_point.specs.Run.{CountedRange, run}
 use Rattle.report.specs.Counts.{counts_of, sum_of}
 use Rattle.report.specs.declared.counts.SampleCounts.{SampleCounts}
+use Rattle.report.proofs.Counted.{counts, counts_of-append, kinds_are}
 use Rattle.recount.specs.Counted.{HasCountedPairs, HasCountedSamples, HoldsPairs, IsRecount}
 use Rattle.tally.specs.Counts.{Counts}
 use Rattle.recount.specs.declared.running.RunningCount.{RunningCount}
 
-abbrev pub counts : ℕ → ℕ → ℕ → ℕ → SampleCounts
-counts s u m r = record { samples = s; used = u; missing = m; refused = r }
-
-same_counts : (s s' u u' m m' r r' : ℕ) → s ≡ s' → u ≡ u' → m ≡ m' → r ≡ r' → counts s u m r ≡ counts s' u' m' r'
-same_counts s s' u u' m m' r r' a b c d = rw (a, b, c, d) refl
-
 module _ (grid : GridValue) (gain : GainValue) where
-  counts_of-append : (u v : List ℤ) → counts_of grid gain (u ++ v) ≡ sum_of (counts_of grid gain u) (counts_of grid gain v)
-  counts_of-append u v = same_counts _ _ _ _ _ _ _ _
-      (length-append u v)
-      (ap (λ (l : List ℕ). length l) (history-append grid gain u v) ∙ length-append (history grid gain u) (history grid gain v))
-      (missing_count-append grid gain u v)
-      (refused_count-append grid gain u v)
-
   -- A piece of samples: how many are of each kind, and its levels.
   module _ (raws : List ℤ) (used missing refused : ℕ) (u : used ≡ length (history grid gain raws))
       (m : missing ≡ missing_count grid gain raws) (r : refused ≡ refused_count grid gain raws) where
-    pub all_kinds : used + missing + refused ≡ length raws
-    all_kinds = omega (arith, counts_add gain grid raws, u, m, r)
-
-    kinds_are : counts (length raws) used missing refused ≡ counts_of grid gain raws
-    kinds_are = same_counts _ _ _ _ _ _ _ _ refl u m r
-
     module _ {C : Type 0} (classes room : C → ℕ) (holds : C → List CountedRange → Type 0) (start : ℕ)
         (old : RunningCount C) (w : List ℤ) (piece more : List ℕ) (turner : Recent) (levels : piece ≡ history grid gain raws)
         (turned : (h given : List ℕ) → HasGiven h given old.turner → HasGiven (h ++ piece) (given ++ more) turner) where
@@ -77,7 +57,8 @@ module _ (grid : GridValue) (gain : GainValue) where
           (w ++ raws)
       counted_more new t sum counted same_classes same few rooms are = record {
         counts = sum ∙ ap (λ (c : SampleCounts). sum_of c (counts (length raws) used missing refused)) are.counts ∙ ap
-            (λ (c : SampleCounts). sum_of (counts_of grid gain w) c) kinds_are ∙ sym (counts_of-append w raws);
+            (λ (c : SampleCounts). sum_of (counts_of grid gain w) c) (kinds_are grid gain raws used missing refused u m r) ∙ sym
+            (counts_of-append grid gain w raws);
         decided = are.decided ++ more;
         turned = subst (λ (k : Recent). HasGiven (history grid gain (w ++ raws)) (are.decided ++ more) k) (sym t) (turned_more are);
         counted = counted are.decided are.counted;

@@ -1,21 +1,18 @@
 ghost use Rattle.std.specs.Prelude.{◌≡◌, ◌≢◌, ◌≤◌, ◌<◌, ℕ, ℤ, List, [], IfOk, OnOk, Err, length, take};
 ghost use Rattle.outside.specs.Fault.{Rose};
 ghost use Rattle.recording.specs.Samples.{samples as samples_of};
-ghost use Rattle.recording.specs.declared.TheConstants.{MAX_SAMPLES};
+ghost use Rattle.recording.specs.declared.TheConstants.{MAX_SAMPLES, PIECE};
 ghost use Rattle.recount.specs.Counted.{IsRecount, HasCountedPairs};
-ghost use Rattle.recount.specs.declared.count.TheConstants.{PIECE};
 ghost use Rattle.recount.specs.declared.count.RecountFault.TheVariants.{Fewer, OutOfMemory, ReadFault};
 
+use crate::piece::Piece;
 use crate::running::RunningCount;
 use calibration::{Classifier, Gain, Grid};
 use outside::Source;
-use recording::{FillEnd, fill};
+use recording::{FillEnd, PIECE, fill};
 use report::SampleCounts;
 use residue_join::PairCounter;
 use std::alloc::{AllocError, Global};
-
-// Samples that are read at once: 64 KiB.
-const PIECE: usize = 16384;
 
 /// What was found of a recording's samples: how many are of each kind, and the half units of each
 /// pair of levels.
@@ -40,25 +37,6 @@ impl From<AllocError> for RecountFault {
 
     fn from(_: AllocError) -> RecountFault {
         RecountFault::OutOfMemory
-    }
-}
-
-/// Room for the samples of a piece and for their levels.
-#[derive(Drop)]
-struct Piece {
-    raws: Vec<i32>,
-    levels: Vec<u16>,
-}
-
-impl Piece {
-    fn new(alloc: Global) -> Result<Piece, AllocError>
-        ensures raws { IfOk result (λ piece. length piece.raws.items ≡ PIECE) }
-        ensures levels { IfOk result (λ piece. length piece.levels.items ≡ PIECE) }
-    {
-        Ok(Piece {
-            raws: vec![in alloc; 0; PIECE]?,
-            levels: vec![in alloc; 0; PIECE]?,
-        })
     }
 }
 

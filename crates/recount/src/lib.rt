@@ -14,10 +14,12 @@
 
 mod compare;
 mod count;
+mod piece;
 mod running;
 #[cfg(test)]
 mod tests;
 
 pub use compare::{Difference, What, first_difference};
 pub use count::{Recount, RecountFault, count_again};
+pub use piece::Piece;
 pub use running::RunningCount;

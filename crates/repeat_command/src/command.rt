@@ -9,7 +9,7 @@ ghost use Rattle.fault_lines.specs.FaultLine.{fault_line};
 ghost use Rattle.fault_lines.specs.Telling.{TellsAtMost};
 ghost use Rattle.status.specs.declared.status.Status.TheVariants.{Done, ReadFault, WriteFault, DiskFault, OutOfMemory};
 ghost use Rattle.report_command.specs.Printing.{IsPrinting, held_of};
-ghost use Rattle.report_command.specs.Answers.{IsSound, ReadsAs, ReportAnswers, AnswersOver, IsReporting};
+ghost use Rattle.report_command.specs.Answers.{IsSound, ReadsAs, ReportAnswers, MayAnswerOver, IsReporting};
 ghost use Rattle.repeat_command.specs.Printing.{Prints};
 
 use crate::printing::print_held;
@@ -95,7 +95,7 @@ fn repeat_by<K: Station, O: Sink>(
         (K.clock station.new) (K.moments station.new) (K.told station.old) (K.told station.new)
         (K.seen station.old) (K.seen station.new) (K.leaves station.old) (K.leaves station.new) }
     ensures later { K.faults station.old ≤ K.faults station.new }
-    ensures answer { K.tells → AnswersOver conf.now (K.seen station.old) result }
+    ensures answer { K.tells → MayAnswerOver conf.now (K.seen station.old) result }
     ensures complete { K.tells → ReadsAs conf.now.setup (K.seen station.old) →
         (Rose (K.faults station.old) (K.faults station.new) → ⊥) →
         (Rose (O.faults out.old) (O.faults out.new) → ⊥) →

@@ -10,6 +10,7 @@ ghost use Rattle.segment.specs.Segment.{Stands};
 ghost use Rattle.site_config.specs.Valid.{IsConfig};
 ghost use Rattle.status.specs.declared.status.Status.TheVariants.{WriteFault};
 ghost use Rattle.repeat_command.specs.Printing.{AllHeldStand, Prints, repeat_texts};
+ghost use Rattle.calibration.specs.declared.limits.TheConstants.{MAX_NAME_BYTES};
 
 use outside::{Failed, Sink};
 use repeating::Repeating;
@@ -77,7 +78,7 @@ fn print_repeat<O: Sink>(
     page: &mut Page,
     out: &mut O,
 ) -> Result<(), Failed>
-    requires name { length name.now ≤ 32 }
+    requires name { length name.now ≤ MAX_NAME_BYTES }
     requires grid { count.old.grid ≡ seg.now.grid }
     requires classes { seg.now.grid.classes ≤ page.old.classes }
     ensures ok { O.tells → (gain : GainValue) (w : List ℤ) → Stands seg.now gain w →

@@ -1,10 +1,13 @@
 -- A residue put behind itself has itself for its residue.
-use Rattle.std.proofs.Common.{◌≡◌, ℕ, ◌<◌, ◌⊎◌, inl, inr, List, [], ◌∷◌, ◌++◌, refl, sym, ap, ◌∙◌, subst, arith, append_assoc, append-nil}
+use Rattle.std.proofs.Common.{◌≡◌, ℕ, ◌<◌, ◌⊎◌, inl, inr, List, [], ◌∷◌, ◌++◌, refl, sym, ap, ◌∙◌, subst, arith, append_assoc, append-nil, ◌≤◌, suc}
 use Rattle.std.proofs.lemmas.Bool.Decides.{nat_tests}
+use Rattle.std.proofs.lemmas.List.Elements.{All-append}
+use Rattle.std.specs.Prelude.{All}
 use Rattle.turning_points.specs.Pairs.{Pair, pair}
 use Rattle.turning_points.specs.Points.{points}
 use Rattle.turning_points.proofs.Zigzag.{IsZigzag, zig_points}
 use Rattle.turning_points.proofs.Over.{own, points_inside}
+use Rattle.turning_points.proofs.Levels.{All-points}
 use Rattle.four_point.proofs.Drops.{Drops, here}
 use Rattle.four_point.proofs.Chain.{Chain, done, more}
 use Rattle.four_point.proofs.HasNoCycle.{HasNoCycle}
@@ -12,7 +15,8 @@ use Rattle.four_point.proofs.Reach.{reach, zig_chain, chain_append}
 use Rattle.four_point.proofs.Inside.{chain_inside}
 use Rattle.repeating.proofs.Ending.{EndsIn, ends_here, ends_on, ends_points, ends_after, ends_chain}
 use Rattle.repeating.proofs.Cut.{chain_first}
-use Rattle.repeating.proofs.Widest.{Spans, rises, falls, widest, straight_up, straight_down, within_chain, within_points, within_joined, within_left, within_right}
+use Rattle.repeating.proofs.Widest.{Spans, rises, falls, widest, straight_up, straight_down}
+use Rattle.repeating.proofs.Below.{All-chain, All-front, All-behind}
 
 record Straight (f e : ℕ) (w : List ℕ) : Type 0 where
   pairs : List Pair
@@ -25,7 +29,8 @@ straight f e w n (rises p i) =
     let r = reach (points (f ∷ w)) g in
     let k = chain_first r.by in
     let c = subst (λ z. Chain (points (f ∷ w)) r.pairs z) k.1 r.by in
-    let t = straight_down e f k.0 p (zig_chain g c) (subst HasNoCycle k.1 r.no_cycle) (within_chain c (within_points i))
+    let t = straight_down e f k.0 p (zig_chain g c) (subst HasNoCycle k.1 r.no_cycle)
+    (All-chain (λ z. (e ≤ z) × (z < suc f)) c (All-points (λ z. (e ≤ z) × (z < suc f)) (f ∷ w) i))
     (ends_chain c (ends_points n)) in
     record { pairs = r.pairs; by = subst (λ z. Chain (points (f ∷ w)) r.pairs (f ∷ z)) t c }
 straight f e w n (falls p i) =
@@ -33,7 +38,8 @@ straight f e w n (falls p i) =
     let r = reach (points (f ∷ w)) g in
     let k = chain_first r.by in
     let c = subst (λ z. Chain (points (f ∷ w)) r.pairs z) k.1 r.by in
-    let t = straight_up f e k.0 p (zig_chain g c) (subst HasNoCycle k.1 r.no_cycle) (within_chain c (within_points i))
+    let t = straight_up f e k.0 p (zig_chain g c) (subst HasNoCycle k.1 r.no_cycle)
+    (All-chain (λ z. (f ≤ z) × (z < suc e)) c (All-points (λ z. (f ≤ z) × (z < suc e)) (f ∷ w) i))
     (ends_chain c (ends_points n)) in
     record { pairs = r.pairs; by = subst (λ z. Chain (points (f ∷ w)) r.pairs (f ∷ z)) t c }
 
@@ -50,9 +56,12 @@ differ : {e f : ℕ} {l : List ℕ} → Spans e f l → (e < f) ⊎ (f < e)
 differ (rises p w) = inl p
 differ (falls p w) = inr p
 
+around : (P : ℕ → Type 0) (p q : List ℕ) → All P (p ++ q) → All P (q ++ p)
+around P p q a = All-append P q p (All-behind P p q a) (All-front P p q a)
+
 spans_around : {e f : ℕ} (p q : List ℕ) → Spans e f (p ++ q) → Spans e f (q ++ p)
-spans_around p q (rises h w) = rises h (within_joined q (within_right p q w) (within_left p q w))
-spans_around p q (falls h w) = falls h (within_joined q (within_right p q w) (within_left p q w))
+spans_around {e} {f} p q (rises h w) = rises h (around (λ z. (e ≤ z) × (z < suc f)) p q w)
+spans_around {e} {f} p q (falls h w) = falls h (around (λ z. (f ≤ z) × (z < suc e)) p q w)
 
 chain_moved : {l k m n : List ℕ} {xs : List Pair} → k ≡ l → m ≡ n → Chain l xs m → Chain k xs n
 chain_moved {l} {k} {m} {n} {xs} e f c = subst (λ z. Chain z xs n) (sym e) (subst (λ z. Chain l xs z) f c)

@@ -2,18 +2,20 @@
 use Rattle.std.proofs.Common.{◌≡◌, ℕ, suc, ◌+◌, ◌*◌, ◌<◌, ◌≤◌, ◌⊎◌, inl, inr, List, [], ◌∷◌, refl, sym, ap, ◌∙◌, subst, arith}
 use Rattle.std.proofs.lemmas.Bool.{cases_lt}
 use Rattle.std.proofs.lemmas.Bool.Decides.{nat_tests}
+use Rattle.std.specs.Prelude.{All}
+use Rattle.std.proofs.lemmas.List.Elements.{All-nil, All-cons, All-head, All-tail}
 use Rattle.turning_points.specs.Pairs.{pair, range}
 use Rattle.turning_points.proofs.Zigzag.{Turn, IsZigzag, zig_tail}
 use Rattle.three_point.specs.Run.{live_after, ranges_left, run, same, half_units_of_pair}
 use Rattle.three_point.proofs.Steps.{live_after_half, ranges_counted_half, live_after_less, ranges_counted_less, live_after_cycle, ranges_counted_cycle}
+use Rattle.three_point.proofs.Bounds.{All-live_after}
 use Rattle.four_point.specs.Reduction.{count_in}
 use Rattle.four_point.proofs.Histories.{count_in-append}
 use Rattle.residue_join.proofs.Live.{Live, lone, live_tail, half_units_counted, Onto, alone, turns, onto_deeper}
-use Rattle.residue_join.proofs.OneDeletion.{Fits, onto_one, read, run_step, onto_of}
+use Rattle.residue_join.proofs.OneDeletion.{Fits, onto_one, read, run_step, onto_of, pair_swap}
 use Rattle.repeating.specs.Repeating.{live_after_cycles, cycles_closed, cycle_run}
-use Rattle.repeating.proofs.Below.{IsBelow, below_none, below, below_live_after}
 use Rattle.repeating.proofs.Ending.{EndsIn, ends_here, ends_on}
-use Rattle.repeating.proofs.Cut.{before_greatest, zig_from_fits, tail_is, pair_swap}
+use Rattle.repeating.proofs.Cut.{before_greatest, zig_from_fits, tail_is}
 
 live_after_cycles_less : (z y x : ℕ) (v : List ℕ) → range y z < range x y → live_after_cycles z (y ∷ x ∷ v) ≡ z ∷ y ∷ x ∷ v
 live_after_cycles_less z y x v h = grind (arith, nat_tests)
@@ -86,15 +88,20 @@ module _ (lo hi : ℕ) where
   closing_more m z a x w v e h k t (inl s) c = closing_less m z a x (w ∷ v) e (omega arith) s
   closing_more m z a x w v e h k t (inr s) c = closing_cycle m z a x w v s c
 
-  closing : (m z a : ℕ) (v : List ℕ) → EndsIn m (a ∷ v) → Live (a ∷ v) → IsBelow (suc m) (a ∷ v) → z ≤ m → Onto a z v → Closing m z (a ∷ v)
+  closing : (m z a : ℕ) (v : List ℕ) → EndsIn m (a ∷ v) → Live (a ∷ v) → All (λ y. y < suc m) (a ∷ v) → z ≤ m → Onto a z v → Closing m z
+      (a ∷ v)
   closing m z a [] (ends_here e) l b h (alone n) = still (omega arith) refl (ends_on (ends_here e)) refl
   closing m z a [] (ends_on e) l b h n = elim e [ ]
-  closing m z a (x ∷ []) (ends_on (ends_here e)) l (below i b) h (turns t) = closing_two m z a x e (omega arith) t h
+  closing m z a (x ∷ []) (ends_on (ends_here e)) l b h (turns t) =
+      let i : a < suc m = All-head (λ y. y < suc m) a (x ∷ []) b in closing_two m z a x e (omega arith) t h
       (cases_lt (range a z) (range x a))
   closing m z a (x ∷ []) (ends_on (ends_on e)) l b h n = elim e [ ]
-  closing m z a (x ∷ w ∷ v) (ends_on (ends_on e)) l (below i (below j b)) h (turns t) =
+  closing m z a (x ∷ w ∷ v) (ends_on (ends_on e)) l b h (turns t) =
+      let i : a < suc m = All-head (λ y. y < suc m) a (x ∷ w ∷ v) b in
+      let c = All-tail (λ y. y < suc m) a (x ∷ w ∷ v) b in
+      let j : x < suc m = All-head (λ y. y < suc m) x (w ∷ v) c in
       closing_more m z a x w v (ends_on (ends_on e)) (omega arith) (omega arith) t (cases_lt (range a z) (range x a))
-      (closing m z w v e (live_tail (live_tail l)) b h (onto_deeper t l))
+      (closing m z w v e (live_tail (live_tail l)) (All-tail (λ y. y < suc m) x (w ∷ v) c) h (onto_deeper t l))
 
   closed_step : (z : ℕ) (v l : List ℕ) → count_in lo hi (cycle_run v (z ∷ l)) ≡ count_in lo hi (cycles_closed z v) + count_in lo hi
       (cycle_run (live_after_cycles z v) l)
@@ -108,7 +115,7 @@ module _ (lo hi : ℕ) where
 
   go_shut : (m z a : ℕ) (v l : List ℕ) → z ≡ m → live_after z v ≡ z ∷ a ∷ [] → live_after_cycles z v ≡ z ∷ [] → a < m →
       half_units_counted lo hi z v + same lo hi (pair a m) ≡ 2 * count_in lo hi (cycles_closed z v) → IsZigzag (a ∷ z ∷ l) →
-      IsBelow (suc m) (m ∷ l) → half_units_of_pair lo hi (run (m ∷ []) l) ≡ 2 * count_in lo hi (cycle_run (m ∷ []) l) →
+      All (λ y. y < suc m) (m ∷ l) → half_units_of_pair lo hi (run (m ∷ []) l) ≡ 2 * count_in lo hi (cycle_run (m ∷ []) l) →
       half_units_of_pair lo hi (run v (z ∷ l)) ≡ 2 * count_in lo hi (cycle_run v (z ∷ l))
   go_shut m z a v l e f g h i w b k =
       let p = before_greatest lo hi a m l (subst (λ n. IsZigzag (a ∷ n ∷ l)) e w) b h in
@@ -136,34 +143,41 @@ module _ (lo hi : ℕ) where
   reads_to_of (ends_on e) = reads_to e
 
   -- both counts read on, where the oldest live point is the greatest level m and the last level is m
-  goes_by : (m z a : ℕ) (v l : List ℕ) → Live (a ∷ v) → Fits (a ∷ v) (z ∷ l) → IsBelow (suc m) (a ∷ v) → IsBelow (suc m) (z ∷ l) →
+  goes_by : (m z a : ℕ) (v l : List ℕ) → Live (a ∷ v) → Fits (a ∷ v) (z ∷ l) → All (λ y. y < suc m) (a ∷ v) → All (λ y. y < suc m) (z ∷ l) →
       ReadsTo m (a ∷ v) (z ∷ l) → Closing m z (a ∷ v) →
-      ((w : List ℕ) → Live w → EndsIn m w → Fits w l → IsBelow (suc m) w → IsBelow (suc m) l → ReadsTo m w l →
+      ((w : List ℕ) → Live w → EndsIn m w → Fits w l → All (λ y. y < suc m) w → All (λ y. y < suc m) l → ReadsTo m w l →
       half_units_of_pair lo hi (run w l) ≡ 2 * count_in lo hi (cycle_run w l)) →
       half_units_of_pair lo hi (run (a ∷ v) (z ∷ l)) ≡ 2 * count_in lo hi (cycle_run (a ∷ v) (z ∷ l))
-  goes_by m z a v l k f b (below i c) d (still h e n g) next =
+  goes_by m z a v l k f b s d (still h e n g) next =
+      let i = All-head (λ y. y < suc m) z l s in
+      let c = All-tail (λ y. y < suc m) z l s in
       let w = read k f in
       let o = sym w.is ∙ e in
-      let t = next (live_after_cycles z (a ∷ v)) (subst Live o w.live) n (subst (λ s. Fits s l) o w.fits)
-      (subst (IsBelow (suc m)) e (below_live_after (suc m) z (a ∷ v) i b)) c (reads_to (later_ends h d)) in
+      let t = next (live_after_cycles z (a ∷ v)) (subst Live o w.live) n (subst (λ r. Fits r l) o w.fits)
+      (subst (All (λ y. y < suc m)) e (All-live_after (λ y. y < suc m) z (a ∷ v) i b)) c (reads_to (later_ends h d)) in
       go_still z (a ∷ v) l e g t
-  goes_by m z a v l k f b (below i c) d (shut y h e n p g) next =
+  goes_by m z a v l k f b s d (shut y h e n p g) next =
+      let c = All-tail (λ y. y < suc m) z l s in
       let w = read k f in
       let o = tail_is (sym w.is ∙ e) in
       let u : IsZigzag (y ∷ z ∷ l) = zig_from_fits (subst (λ s. Fits (z ∷ s) l) o w.fits) in
-      let t = next (m ∷ []) lone (ends_here refl) (fits_alone (subst (λ s. IsZigzag (y ∷ s ∷ l)) h u)) (below (omega arith) below_none) c
+      let t = next (m ∷ []) lone (ends_here refl) (fits_alone (subst (λ s. IsZigzag (y ∷ s ∷ l)) h u))
+      (All-cons (λ y. y < suc m) m [] (omega arith) (All-nil (λ y. y < suc m))) c
       (next_reads_to d) in
-      go_shut m z y (a ∷ v) l h e n p g u (below (omega arith) c) t
+      go_shut m z y (a ∷ v) l h e n p g u (All-cons (λ y. y < suc m) m l (omega arith) c) t
 
-  goes : (m : ℕ) (v l : List ℕ) → Live v → EndsIn m v → Fits v l → IsBelow (suc m) v → IsBelow (suc m) l → ReadsTo m v l →
+  goes : (m : ℕ) (v l : List ℕ) → Live v → EndsIn m v → Fits v l → All (λ y. y < suc m) v → All (λ y. y < suc m) l → ReadsTo m v l →
       half_units_of_pair lo hi (run v l) ≡ 2 * count_in lo hi (cycle_run v l)
   goes m v [] k e f b c (all_read p q) = ap (λ s. half_units_of_pair lo hi (ranges_left s)) p
   goes m v [] k e f b c (reads_to p) = elim p [ ]
   goes m [] (z ∷ l) k e f b c d = elim e [ ]
-  goes m (a ∷ v) (z ∷ l) k e f b (below i c) d = goes_by m z a v l k f b (below i c) d (closing m z a v e k b (omega arith) (onto_of f))
+  goes m (a ∷ v) (z ∷ l) k e f b c d =
+      let i : z < suc m = All-head (λ y. y < suc m) z l c in
+      goes_by m z a v l k f b c d (closing m z a v e k b (omega arith) (onto_of f))
       (λ w k' e' f' b' c' d'. goes m w l k' e' f' b' c' d')
 
   -- a list of points that begins and ends in its greatest level
-  pub closed_half : (m : ℕ) (l : List ℕ) → IsZigzag (m ∷ l) → IsBelow (suc m) l → EndsIn m (m ∷ l) →
+  pub closed_half : (m : ℕ) (l : List ℕ) → IsZigzag (m ∷ l) → All (λ y. y < suc m) l → EndsIn m (m ∷ l) →
       half_units_of_pair lo hi (run [] (m ∷ l)) ≡ 2 * count_in lo hi (cycle_run [] (m ∷ l))
-  closed_half m l g b e = goes m (m ∷ []) l lone (ends_here refl) (onto_one g) (below (omega arith) below_none) b (reads_to_of e)
+  closed_half m l g b e = goes m (m ∷ []) l lone (ends_here refl) (onto_one g)
+      (All-cons (λ y. y < suc m) m [] (omega arith) (All-nil (λ y. y < suc m))) b (reads_to_of e)

@@ -2,23 +2,27 @@
 use Rattle.std.proofs.Common.{◌≡◌, ◌≢◌, ℕ, suc, ◌+◌, ◌*◌, ◌<◌, ◌≤◌, ◌⊎◌, inl, inr, List, [], ◌∷◌, ◌++◌, refl, sym, ap, ◌∙◌, subst, arith, append_assoc, max, Bool, true, false, ◌==◌, if◌then◌else◌}
 use Rattle.std.proofs.lemmas.Bool.{cases_lt}
 use Rattle.std.proofs.lemmas.Bool.Decides.{nat_tests}
+use Rattle.std.specs.Prelude.{All}
+use Rattle.std.proofs.lemmas.List.Elements.{All-nil, All-cons, All-tail, All-append}
 use Rattle.turning_points.specs.Points.{points, turns as turns_of, changes}
 use Rattle.turning_points.proofs.Zigzag.{zig_points}
+use Rattle.turning_points.proofs.Levels.{All-points}
 use Rattle.three_point.specs.Run.{three_point}
 use Rattle.four_point.specs.Reduction.{count_in}
 use Rattle.repeating.specs.Repeating.{greatest, from_first, before_first, cycle_run, repeating_cycles, AddsItsCycles}
-use Rattle.repeating.proofs.Below.{IsBelow, below_none, below, below_tail, below_raised, below_joined, below_left, below_right, below_points}
 use Rattle.repeating.proofs.Ending.{EndsIn, ends_points, ends_behind}
 use Rattle.repeating.proofs.CutHistory.{cut_history}
 use Rattle.repeating.proofs.Halves.{closed_half}
+use Rattle.repeating.proofs.Below.{All-front, All-behind}
 
 data Has (m : ℕ) : List ℕ → Type 0 where
   here : {x : ℕ} {h : List ℕ} → x ≡ m → Has m (x ∷ h)
   there : {x : ℕ} {h : List ℕ} → Has m h → Has m (x ∷ h)
 
-below_greatest : (h : List ℕ) → IsBelow (suc (greatest h)) h
-below_greatest [] = below_none
-below_greatest (x ∷ h) = below (omega arith) (below_raised (omega arith) (below_greatest h))
+below_greatest : (h : List ℕ) → All (λ y. y < suc (greatest h)) h
+below_greatest [] = All-nil (λ y. y < suc (greatest []))
+below_greatest (x ∷ h) =
+    All-cons (λ y. y < suc (greatest (x ∷ h))) x h (omega arith) (λ i d lt. let p = below_greatest h i d lt in omega (arith, p))
 
 has_pick : (x : ℕ) (h : List ℕ) → Has (greatest h) h → ((x < greatest h) ⊎ (greatest h ≤ x)) → Has (greatest (x ∷ h)) (x ∷ h)
 has_pick x h k (inl p) = let e : max x (greatest h) ≡ greatest h = omega arith in there (subst (λ n. Has n h) (sym e) k)
@@ -54,22 +58,26 @@ split m (x ∷ h) k =
     let s = split_step m x h (x == m) refl (λ n. split m h (split_has k n)) in
     record { u = s.0; v = s.1; is = s.2; left = s.3; right = s.4 }
 
-module _ (lo hi m : ℕ) (u v : List ℕ) (b : IsBelow (suc m) u) (c : IsBelow (suc m) v) where
+module _ (lo hi m : ℕ) (u v : List ℕ) (b : All (λ y. y < suc m) u) (c : All (λ y. y < suc m) v) where
   abbrev round : List ℕ
   round = m ∷ (v ++ (u ++ (m ∷ [])))
 
   closed_round : three_point round lo hi ≡ 2 * count_in lo hi (cycle_run [] (points round))
   closed_round =
       let t = turns_of m (changes m (v ++ (u ++ (m ∷ [])))) in
-      let d = below_joined v (u ++ (m ∷ [])) c (below_joined u (m ∷ []) b (below (omega arith) below_none)) in
+      let d = All-append (λ y. y < suc m) v (u ++ (m ∷ [])) c
+      (All-append (λ y. y < suc m) u (m ∷ []) b (All-cons (λ y. y < suc m) m [] (omega arith) (All-nil (λ y. y < suc m)))) in
       let e : EndsIn m round = subst (EndsIn m) (append_assoc (m ∷ v) u (m ∷ [])) (ends_behind ((m ∷ v) ++ u)) in
-      closed_half lo hi m t (zig_points round) (below_tail (below_points round (below (omega arith) d))) (ends_points e)
+      closed_half lo hi m t (zig_points round) (All-tail (λ y. y < suc m) m t (All-points (λ y. y < suc m) round
+      (All-cons (λ y. y < suc m) m (v ++ (u ++ (m ∷ []))) (omega arith) d))) (ends_points e)
 
   twice : three_point ((u ++ (m ∷ v)) ++ (u ++ (m ∷ v))) lo hi ≡ three_point (u ++ (m ∷ v)) lo hi + three_point round lo hi
   twice =
-      let d = below_joined v (u ++ (m ∷ v)) c (below_joined u (m ∷ v) b (below (omega arith) c)) in
+      let d = All-append (λ y. y < suc m) v (u ++ (m ∷ v)) c
+      (All-append (λ y. y < suc m) u (m ∷ v) b (All-cons (λ y. y < suc m) m v (omega arith) c)) in
       let p = cut_history lo hi m u (v ++ (u ++ (m ∷ v))) b d in
-      let q = cut_history lo hi m (m ∷ (v ++ u)) v (below (omega arith) (below_joined v u c b)) c in
+      let q = cut_history lo hi m (m ∷ (v ++ u)) v (All-cons (λ y. y < suc m) m (v ++ u) (omega arith)
+      (All-append (λ y. y < suc m) v u c b)) c in
       let r = cut_history lo hi m u v b c in
       let e = ap (λ l. three_point l lo hi) (append_assoc u (m ∷ v) (u ++ (m ∷ v))) in
       let f = ap (λ l. three_point (m ∷ l) lo hi) (append_assoc v u (m ∷ v)) in
@@ -81,9 +89,9 @@ by_split : (x : ℕ) (k : List ℕ) (lo hi : ℕ) → Split (greatest (x ∷ k))
 by_split x k lo hi s =
     let h = x ∷ k in
     let m = greatest h in
-    let b = subst (IsBelow (suc m)) s.is (below_greatest h) in
-    let c = below_left s.u (m ∷ s.v) b in
-    let d = below_tail (below_right s.u (m ∷ s.v) b) in
+    let b = subst (All (λ y. y < suc m)) s.is (below_greatest h) in
+    let c = All-front (λ y. y < suc m) s.u (m ∷ s.v) b in
+    let d = All-tail (λ y. y < suc m) m s.v (All-behind (λ y. y < suc m) s.u (m ∷ s.v) b) in
     let e = twice lo hi m s.u s.v c d in
     let f = closed_round lo hi m s.u s.v c d in
     let g = ap (λ l. three_point (l ++ l) lo hi) s.is in

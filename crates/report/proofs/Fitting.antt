@@ -8,7 +8,9 @@ use Rattle.report.specs.Lines.{count_line, pair_line, lines_from, range_lines}
 use Rattle.report.specs.Texts.{samples_line, table_text, row_lines, matrix, crossings, peaks, valleys, ranges, gauge_line, gauge_text}
 use Rattle.report.specs.Page.{PageValue, Fits, room_for}
 use Rattle.std.proofs.lemmas.Nat.{mul-le}
-use Rattle.report.proofs.Lengths.{appended, number-short, count_line-short, pair_line-short, lines_from-short, range_lines-short, rows-short}
+use Rattle.report.proofs.Lengths.{number-short, count_line-short, pair_line-short, lines_from-short, range_lines-short, rows-short}
+use Rattle.lemmas.proofs.Lists.{length-append-le as appended}
+use Rattle.calibration.specs.declared.grid.TheConstants.{MAX_CLASSES}
 
 samples_line-short : (n : SampleCounts) → AreFewCounts n → length (samples_line n) ≤ 85
 samples_line-short n few =
@@ -39,7 +41,7 @@ table_text-short grid n halves is few small =
     appended (samples_line n ++ codes "rainflow\n") (range_lines grid.w2 halves (grid.classes - 1)) 94 ((grid.classes - 1) * 32) head
     (range_lines-short grid.w2 halves (grid.classes - 1) (span grid is) small)
 
-row-short : (f : Figures) (classes lo : ℕ) → classes ≤ 1024 → AreFew f → lo < classes →
+row-short : (f : Figures) (classes lo : ℕ) → classes ≤ MAX_CLASSES → AreFew f → lo < classes →
     length (row_lines f.pairs classes lo) ≤ (classes - 1 - lo) * 26
 row-short f classes lo most few below = lines_from-short (λ hi. pair_line lo hi (f.pairs lo hi)) (lo + 1) (classes - 1 - lo) 26
     (λ hi h. pair_line-short lo hi (f.pairs lo hi) (omega arith) (omega arith) (few.pairs lo hi))
@@ -50,7 +52,7 @@ matrix-short grid f is few = appended (codes "matrix\n") (lines_from (row_lines 
     (rows-short (row_lines f.pairs grid.classes) 0 grid.classes grid.classes (omega arith)
     (λ lo below. row-short f grid.classes lo (omega (arith, is.classes_to)) few below))
 
-counts-short : (counts : ℕ → ℕ) (key n : ℕ) → key + n ≤ 1024 → ((l : ℕ) → counts l ≤ 2 ^ 41) →
+counts-short : (counts : ℕ → ℕ) (key n : ℕ) → key + n ≤ MAX_CLASSES → ((l : ℕ) → counts l ≤ 2 ^ 41) →
     length (lines_from (λ l. count_line l (counts l)) key n) ≤ n * 19
 counts-short counts key n most few =
     lines_from-short (λ l. count_line l (counts l)) key n 19 (λ l below. count_line-short l (counts l) (omega arith) (few l))
@@ -61,7 +63,7 @@ unfolding gauge_text
 gauge_text-short grid name f is few short =
     let k : ℕ = grid.classes in
     let lower : 2 ≤ k = is.classes_from in
-    let most : k ≤ 1024 = omega (arith, is.classes_to) in
+    let most : k ≤ MAX_CLASSES = omega (arith, is.classes_to) in
     let p : ℕ = k - 1 in
     let less : p ≤ k = omega arith in
     let crossed = lines_from (λ l. count_line l (f.crossings l)) 1 p in

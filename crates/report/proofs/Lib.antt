@@ -1,8 +1,9 @@
 mod Lengths
 mod Fitting
-mod Written
+pub mod Written
 mod Billionths
 mod DetailFits
+pub mod Counted
 pub mod SameCounts
 pub mod SegmentFigures
 pub mod Repeats

@@ -10,9 +10,10 @@ use Rattle.tally.specs.Counts.{count_of, total_of}
 use Rattle.report.specs.Page.{PageValue, Fits, room_for}
 use Rattle.report.specs.Repeat.{cycle_lines, doubled_at, repeat_line, repeat_text}
 use Rattle.report.proofs.Fitting.{fits_empty, span}
-use Rattle.report.proofs.Lengths.{appended, range_lines-short}
+use Rattle.report.proofs.Lengths.{range_lines-short}
 use Rattle.report.proofs.SameCounts.{range_lines-same}
 use Rattle.report.proofs.SegmentFigures.{counts_at_range}
+use Rattle.lemmas.proofs.Lists.{length-append-le as appended}
 
 pub few_cycles : (cells : List Cell) (classes : ℕ) → 2 * total_of cells ≤ 2 ^ 41 → (k : ℕ) → doubled_at (count_of cells) classes k ≤ 2 ^ 41
 few_cycles cells classes few k = omega (arith, counts_at_range cells k (classes - k), few)

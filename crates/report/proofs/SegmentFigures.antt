@@ -1,7 +1,7 @@
 -- The figures of a segment: how great they are, and that they are those of the samples that it stands for.
 --   few_figures    no number that is printed passes the greatest
 --   figures_stand  where the segment stands for samples, its figures are theirs wherever a number is printed
-use Rattle.std.proofs.Common.{◌≡◌, ℕ, ℤ, zero, suc, ◌+◌, ◌-◌, ◌*◌, ◌^◌, ◌<◌, ◌≤◌, ◌==◌, ◌&&◌, if◌then◌else◌, ◌⊎◌, inl, inr, min, max, Bool, true, false, List, [], ◌∷◌, length, refl, ap, ◌∙◌, arith}
+use Rattle.std.proofs.Common.{◌≡◌, ℕ, ℤ, zero, suc, ◌+◌, ◌-◌, ◌^◌, ◌<◌, ◌≤◌, ◌==◌, ◌&&◌, if◌then◌else◌, ◌⊎◌, inl, inr, min, max, Bool, true, false, List, [], ◌∷◌, length, ap, ◌∙◌, arith}
 use Rattle.std.specs.Prelude.{nat_lt, nat_le, slice_index}
 use Rattle.std.proofs.lemmas.Bool.{cases_lt}
 use Rattle.std.proofs.lemmas.Bool.Decides.{nat_tests}
@@ -12,19 +12,19 @@ use Rattle.calibration.specs.History.{history}
 use Rattle.turning_points.specs.Pairs.{Pair, is_pair}
 use Rattle.three_point.specs.Run.{half_units_at_range, half_units_of_pair}
 use Rattle.three_point.specs.Sums.{sum_at_range}
-use Rattle.three_point.proofs.Sums.{sum_at_range-added}
+use Rattle.three_point.proofs.Sums.{sum_at_range-added, sum_at_range-le, sum_at_range-zero, sum_at_range-doubled}
 use Rattle.tally.specs.declared.cells.Cell.{Cell}
 use Rattle.tally.specs.Counts.{count_of, pair_of, total_of}
 use Rattle.residue_join.specs.HalfUnits.{neighbours}
 use Rattle.turning_points.specs.Points.{points}
 use Rattle.level_crossing.specs.Crossings.{crossings}
-use Rattle.report.specs.declared.counts.SampleCounts.{SampleCounts}
 use Rattle.simple_counts.specs.Simple.{SimpleValue, peaks_at, valleys_at, open_at}
 use Rattle.simple_counts.proofs.Readers.{peak_counts, range_counts, valley_counts}
 use Rattle.segment.specs.Segment.{SegmentValue, IsSegment, Stands}
 use Rattle.segment.specs.Figures.{halves_of}
 use Rattle.segment.proofs.HalfUnits.{count_few, halves_stand, range_parts, range_stands}
 use Rattle.report.specs.Figures.{Agree, AreFew, figures, figures_of}
+use Rattle.report.proofs.Counted.{same_counts}
 
 -- one pair is counted at one lower level
 one_lower : (n k h : ℕ) (x : Pair) → (if nat_lt x.lo n then h else 0) + (if is_pair n (n + k) x then h else 0) ≤
@@ -39,23 +39,15 @@ one_pair : (k n h : ℕ) (x : Pair) → sum_at_range (λ lo hi. if is_pair lo hi
 one_pair k zero h x = omega arith
 one_pair k (suc n) h x = omega (arith, one_pair k n h x, one_lower n k h x)
 
-sums_up : (f g : ℕ → ℕ → ℕ) (k n : ℕ) → ((lo hi : ℕ) → f lo hi ≤ g lo hi) → sum_at_range f k n ≤ sum_at_range g k n
-sums_up f g k zero h = omega arith
-sums_up f g k (suc n) h = omega (arith, sums_up f g k n h, h n (n + k))
-
-picked : (b : Bool) (n m : ℕ) → (if b then n else m) ≤ (if b then n else 0) + m
+pub picked : (b : Bool) (n m : ℕ) → (if b then n else m) ≤ (if b then n else 0) + m
 picked true n m = omega arith
 picked false n m = omega arith
 
-none_at_range : (k n : ℕ) → sum_at_range (λ lo hi. 0) k n ≡ 0
-none_at_range k zero = refl
-none_at_range k (suc n) = omega (arith, none_at_range k n)
-
 pub counts_at_range : (cells : List Cell) (k n : ℕ) → sum_at_range (count_of cells) k n ≤ total_of cells
-counts_at_range [] k n = omega (arith, none_at_range k n)
+counts_at_range [] k n = omega (arith, sum_at_range-zero k n)
 counts_at_range (c ∷ cells) k n = omega (
   arith,
-  sums_up (count_of (c ∷ cells)) (λ lo hi. (if is_pair lo hi (pair_of c) then c.n else 0) + count_of cells lo hi) k n
+  sum_at_range-le (count_of (c ∷ cells)) (λ lo hi. (if is_pair lo hi (pair_of c) then c.n else 0) + count_of cells lo hi) k n
       (λ lo hi. picked (is_pair lo hi (pair_of c)) c.n (count_of cells lo hi)),
   sum_at_range-added (λ lo hi. if is_pair lo hi (pair_of c) then c.n else 0) (count_of cells) k n,
   one_pair k n c.n (pair_of c),
@@ -63,10 +55,6 @@ counts_at_range (c ∷ cells) k n = omega (
   counts_at_range cells k n,
   sum_by-cons (λ (d : Cell). d.n) c cells,
 )
-
-doubled_at_range : (f : ℕ → ℕ → ℕ) (k n : ℕ) → sum_at_range (λ lo hi. 2 * f lo hi) k n ≡ 2 * sum_at_range f k n
-doubled_at_range f k zero = refl
-doubled_at_range f k (suc n) = omega (arith, doubled_at_range f k n)
 
 -- a residue has fewer neighbours than levels
 ranges_few : (k : ℕ) (l : List ℕ) → half_units_at_range k (neighbours l) ≤ length l
@@ -82,7 +70,7 @@ pairs_few lo hi (x ∷ y ∷ l) = omega (arith, pairs_few lo hi (y ∷ l), at_mo
 open_few : (v : SimpleValue) (k : ℕ) → open_at k v.ends ≤ 1
 open_few v k = grind (arith, nat_tests)
 
-valley_few : (b : Bool) (n : ℕ) → (if b then 0 else n) ≤ n
+pub valley_few : (b : Bool) (n : ℕ) → (if b then 0 else n) ≤ n
 valley_few true n = omega arith
 valley_few false n = omega arith
 
@@ -95,7 +83,7 @@ module _ (v : SegmentValue) (i : IsSegment v) where
   by_range k (inr inside) = omega (
     arith,
     range_parts v k i.residue.within inside,
-    doubled_at_range (count_of v.tally.cells) k (v.grid.classes - k),
+    sum_at_range-doubled (count_of v.tally.cells) k (v.grid.classes - k),
     counts_at_range v.tally.cells k (v.grid.classes - k),
     ranges_few k v.reducer.residue,
     i.balance,
@@ -145,18 +133,13 @@ module _ (v : SegmentValue) (i : IsSegment v) where
       }
 
 module _ (v : SegmentValue) (gain : GainValue) (w : List ℤ) (s : Stands v gain w) (i : IsSegment v) where
-  counts_same : (a b c d a' b' c' d' : ℕ) → a ≡ a' → b ≡ b' → c ≡ c' → d ≡ d' →
-      ◌≡◌ {A = SampleCounts} (record { samples = a; used = b; missing = c; refused = d })
-      (record { samples = a'; used = b'; missing = c'; refused = d' })
-  counts_same a b c d a' b' c' d' e f g h = rw (e, f, g, h) refl
-
   pub figures_stand : Agree v.grid (figures_of v) (figures v.grid gain w)
   figures_stand =
       let h = history v.grid gain w in
       let t = s.history in
       let o = i.over in
       record {
-        samples = counts_same _ _ _ _ _ _ _ _ (omega (arith, s.span)) t.used s.missing s.refused;
+        samples = same_counts _ _ _ _ _ _ _ _ (omega (arith, s.span)) t.used s.missing s.refused;
         half_units = λ k from to. range_stands v gain w k t to;
         pairs = λ lo hi from to. halves_stand v h t lo hi;
         crossings = λ l from to. t.crossings.counts l from (omega (arith, o.crossings.0)) ∙ ap (λ r. crossings r l h) o.crossings.1;

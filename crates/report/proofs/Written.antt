@@ -58,6 +58,9 @@ lines_from-first line key end h = let n : end - key ≡ suc (end - (key + 1)) = 
 pub lines_from-none : (line : ℕ → List ℕ) (key end : ℕ) → end ≤ key → lines_from line key (end - key) ≡ []
 lines_from-none line key end h = let n : end - key ≡ zero = omega arith in ap (λ m. lines_from line key m) n
 
+pub range_line-same : (a b c d e f : ℕ) → a ≡ d → b ≡ e → c ≡ f → range_line (a * b) c ≡ range_line (d * e) f
+range_line-same a b c d e f p q r = rw (p, q, r) refl
+
 pub range_lines-first : (width : ℕ) (counts : ℕ → ℕ) (k : ℕ) → 1 ≤ k →
     range_lines width counts k ≡ range_line (k * width) (counts k) ++ range_lines width counts (k - 1)
 range_lines-first width counts zero h = absurd (omega arith)

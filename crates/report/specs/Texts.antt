@@ -10,6 +10,7 @@ use Rattle.exact_frac.specs.declared.frac.Frac.{Frac}
 use Rattle.report.specs.Figures.{Figures}
 use Rattle.report.specs.declared.counts.SampleCounts.{SampleCounts}
 use Rattle.report.specs.Lines.{count_line, pair_line, lines_from, range_lines}
+use Rattle.exact_frac.specs.declared.frac.TheConstants.{BILLION}
 
 abbrev pub samples_line : SampleCounts → List ℕ
 samples_line n = codes "samples " ++ decimal n.samples ++ codes " used " ++ decimal n.used ++ codes " missing " ++
@@ -46,18 +47,18 @@ gauge_text grid name f = gauge_line name ++ table_text grid f.samples f.half_uni
 
 -- the least number of billionths that is not below a fraction
 abbrev pub billionths : Frac → ℕ
-billionths f = (parts f * 1000000000 + (f.den - 1)) / f.den
+billionths f = (parts f * BILLION + (f.den - 1)) / f.den
 
 -- wholes and billionths, with nine decimals: those that stand behind the 1 of one billion more
 abbrev pub nine_decimals : ℕ → ℕ → List ℕ
-nine_decimals wholes rest = decimal wholes ++ codes "." ++ drop 1 (decimal (1000000000 + rest))
+nine_decimals wholes rest = decimal wholes ++ codes "." ++ drop 1 (decimal (BILLION + rest))
 
 -- the damage exactly, and rounded up
 abbrev pub exactly : Frac → List ℕ
 exactly f = decimal f.whole ++ codes " " ++ decimal f.num ++ codes "/" ++ decimal f.den
 
 abbrev pub rounded_up : Frac → List ℕ
-rounded_up f = nine_decimals (billionths f / 1000000000) (billionths f % 1000000000)
+rounded_up f = nine_decimals (billionths f / BILLION) (billionths f % BILLION)
 
 abbrev pub detail_names : List ℕ → List ℕ → List ℕ
 detail_names name gauge = codes "detail " ++ name ++ codes " " ++ gauge ++ codes " "

@@ -1,15 +1,17 @@
 ghost use Rattle.std.specs.Prelude.{◌≡◌, ◌≤◌, ◌<◌, ◌+◌, ◌-◌, ◌*◌, ◌^◌, ℕ, List, length};
 ghost use Rattle.report.specs.Page.{Fits, with_text, room_for};
 ghost use Rattle.report.specs.Texts as spec;
+ghost use Rattle.calibration.specs.declared.limits.TheConstants.{MAX_NAME_BYTES};
+ghost use Rattle.exact_frac.specs.declared.frac.TheConstants.{BILLION};
 
 use crate::Page;
-use exact_frac::Frac;
+use exact_frac::{BILLION, Frac};
 use itoa::Buffer;
 
 /// Makes the page the text of a detail: its damage as a fraction, and as decimals rounded up.
 pub fn detail_text(page: &mut Page, name: &str, gauge: &str, damage: &Frac)
-    requires name { length name.now ≤ 32 }
-    requires gauge { length gauge.now ≤ 32 }
+    requires name { length name.now ≤ MAX_NAME_BYTES }
+    requires gauge { length gauge.now ≤ MAX_NAME_BYTES }
     requires whole { damage.now.whole < 2 ^ 64 - 1 }
     ensures { page.new ≡ record page.old {
       bytes = spec.detail_text name.now gauge.now damage.now;
@@ -64,7 +66,7 @@ fn push_rounded_up(page: &mut Page, damage: &Frac)
 }
 
 fn push_decimals(page: &mut Page, wholes: u64, billionths: u32)
-    requires billionths { billionths < 1000000000 }
+    requires billionths { billionths < BILLION }
     requires room { Fits page.old (spec.nine_decimals wholes billionths) }
     ensures { page.new ≡ with_text page.old (spec.nine_decimals wholes billionths) }
 {
@@ -72,6 +74,6 @@ fn push_decimals(page: &mut Page, wholes: u64, billionths: u32)
     page.push(b".");
     // The nine digits stand behind the 1 of one billion more.
     let mut buffer = Buffer::new();
-    let digits = buffer.format(1_000_000_000 + billionths);
+    let digits = buffer.format(BILLION as u32 + billionths);
     page.push(&digits.as_bytes()[1..]);
 }

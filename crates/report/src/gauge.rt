@@ -5,6 +5,7 @@ ghost use Rattle.report.specs.Lines.{lines_from, pair_line};
 ghost use Rattle.report.specs.Page.{Fits, with_text, room_for};
 ghost use Rattle.report.specs.Texts as spec;
 ghost use Rattle.report.specs.Figures.{figures, figures_of};
+ghost use Rattle.calibration.specs.declared.limits.TheConstants.{MAX_NAME_BYTES};
 
 use crate::Page;
 use crate::lines::{push_count_line, push_pair_line, push_range_line};
@@ -17,7 +18,7 @@ const PLACES: usize = MAX_CLASSES as usize;
 /// Makes the page the text of a gauge: its table, then the sections `matrix` (half units by pair of
 /// levels), `crossings`, `peaks`, `valleys` and `ranges`, each with its heading.
 pub fn gauge_text(page: &mut Page, name: &str, seg: &Segment)
-    requires name { length name.now ≤ 32 }
+    requires name { length name.now ≤ MAX_NAME_BYTES }
     requires classes { seg.now.grid.classes ≤ page.old.classes }
     ensures text { page.new ≡ record page.old {
       bytes = spec.gauge_text seg.now.grid name.now (figures_of seg.now);

@@ -2,6 +2,7 @@ ghost use Rattle.std.specs.Prelude.{◌≡◌, ◌≤◌, ◌<◌, length};
 ghost use Rattle.tally.specs.Counts.{count_of};
 ghost use Rattle.report.specs.Page.{Fits, with_text};
 ghost use Rattle.report.specs.Repeat as spec;
+ghost use Rattle.calibration.specs.declared.limits.TheConstants.{MAX_NAME_BYTES};
 
 use crate::Page;
 use crate::lines::push_range_line;
@@ -10,7 +11,7 @@ use repeating::Repeating;
 /// Makes the page the text of a gauge whose history repeats (5.4.5): a line for each range that has
 /// a cycle, the greatest first.
 pub fn repeat_text(page: &mut Page, name: &str, rep: &Repeating)
-    requires name { length name.now ≤ 32 }
+    requires name { length name.now ≤ MAX_NAME_BYTES }
     requires classes { rep.now.grid.classes ≤ page.old.classes }
     ensures { page.new ≡ record page.old {
       bytes = spec.repeat_text rep.now.grid name.now (count_of rep.now.tally.cells);

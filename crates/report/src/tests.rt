@@ -1,4 +1,5 @@
 ghost use Rattle.std.specs.Prelude.{◌≡◌, ◌≤◌, length};
+ghost use Rattle.calibration.specs.declared.limits.TheConstants.{MAX_NAME_BYTES};
 
 use super::*;
 use calibration::{Classifier, Gain, Grid};
@@ -154,7 +155,7 @@ fn check_repeat(
     raws: &[i32],
     expected: &str,
 ) -> Result<(), Fail>
-    requires name { length name.now ≤ 32 }
+    requires name { length name.now ≤ MAX_NAME_BYTES }
     requires raws { length raws.now ≤ 9 }
 {
     let grid = Grid::new(16, 2, -8000, 8)?;

@@ -14,10 +14,11 @@ use Rattle.report.specs.Figures.{Figures}
 use Rattle.site_config.specs.declared.config.Config.{Config}
 use Rattle.site_config.specs.declared.fault.ConfigFault.{ConfigFault}
 use Rattle.config_reading.specs.Reading.{MeansAs, IsRefusal}
+use Rattle.config_reading.proofs.Refusing.{by_refusal}
 use Rattle.status.specs.declared.status.Status.{Status}
 use Rattle.status.specs.declared.status.Status.TheVariants.{Done, Usage, Config as BadConfig, Store as BadStore, Recording, Torn, ReadFault, WriteFault, DiskFault, OutOfMemory, TooLong, Differs}
 use Rattle.report_command.specs.Printing.{Prints, IsPrinting}
-use Rattle.report_command.specs.Answers.{store_status, AnswersOver, ReadsAs, ReportAnswers, IsSound}
+use Rattle.report_command.specs.Answers.{store_status, MayAnswerOver, ReadsAs, ReportAnswers, IsSound}
 
 -- of an answer of printing
 pub by_printing : (P : Status → Type 0) → P Done → P WriteFault → (s : Status) → IsPrinting s → P s
@@ -34,22 +35,6 @@ by_printing P d w OutOfMemory is = absurd is
 by_printing P d w (TooLong g) is = absurd is
 by_printing P d w (Differs g x y z) is = absurd is
 
--- of a configuration that is refused
-pub by_refusal : (P : Status → Type 0) → ((f : ConfigFault) → P (BadConfig f)) → P ReadFault → P OutOfMemory → (s : Status) →
-    IsRefusal s → P s
-by_refusal P c r m (BadConfig f) is = c f
-by_refusal P c r m ReadFault is = r
-by_refusal P c r m OutOfMemory is = m
-by_refusal P c r m Done is = absurd is
-by_refusal P c r m Usage is = absurd is
-by_refusal P c r m (BadStore f) is = absurd is
-by_refusal P c r m (Recording g f) is = absurd is
-by_refusal P c r m (Torn g b) is = absurd is
-by_refusal P c r m WriteFault is = absurd is
-by_refusal P c r m DiskFault is = absurd is
-by_refusal P c r m (TooLong g) is = absurd is
-by_refusal P c r m (Differs g x y z) is = absurd is
-
 pub refused_prints : (f : ResumeFault) (c : Config) (figures : ℕ → Figures) (old : List ℕ) → Prints (store_status f) c figures old old
 refused_prints fault.NotAStore c figures old = refl
 refused_prints (fault.Version v) c figures old = refl
@@ -63,7 +48,7 @@ unread_prints s is c figures old = by_refusal (λ (x : Status). Prints x c figur
 
 pub refused_answer : {X : Type 0} (c : Config) (image : Image) (see : X → ℕ × List ℕ) (f : ResumeFault) →
     Resumes {X = X} c.setup image see (Err f)
-    → AnswersOver c image (store_status f)
+    → MayAnswerOver c image (store_status f)
 refused_answer c image see fault.NotAStore h = (fault.NotAStore, refl, h)
 refused_answer c image see (fault.Version v) h = (fault.Version v, refl, h)
 refused_answer c image see (fault.Differs field kept found) h = (fault.Differs field kept found, refl, h)
@@ -81,8 +66,8 @@ reads_as setup s seen old leaves of_setup there same = record {
   reads = subst (Reads s.head there.0 (ends_of s.held)) same there.1.reads;
 }
 
-pub printed_answer : (c : Config) (image : Image) (s : Status) → IsPrinting s → ReadsAs c.setup image → AnswersOver c image s
-printed_answer c image s is reads = by_printing (AnswersOver c image) reads reads s is
+pub printed_answer : (c : Config) (image : Image) (s : Status) → IsPrinting s → ReadsAs c.setup image → MayAnswerOver c image s
+printed_answer c image s is reads = by_printing (MayAnswerOver c image) reads reads s is
 
 -- over a store that reads, nothing but a fault of the disk and want of memory is refused
 pub refused_complete : (X : Type 0) (f : ResumeFault) (before between now : ℕ) → IsUnharmed {X = X} (Err f) →
@@ -131,7 +116,7 @@ printing_other =
     by_printing (λ s. (s ≢ ReadFault) × (s ≢ DiskFault)) ((λ is. absurd cc), (λ is. absurd cc)) ((λ is. absurd cc), (λ is. absurd cc))
 
 -- an answer over a configuration that was read
-pub over_config : (conf : Result Config ConfigFault) (c : Config) (image : Image) → conf ≡ Ok c → (s : Status) → AnswersOver c image s →
+pub over_config : (conf : Result Config ConfigFault) (c : Config) (image : Image) → conf ≡ Ok c → (s : Status) → MayAnswerOver c image s →
     ReportAnswers conf image s
 over_config conf c image is Done a = (c, is, a)
 over_config conf c image is WriteFault a = (c, is, a)

@@ -2,13 +2,14 @@
 --   agrees_held    those of the samples that the bodies stand for
 --   kept_figures   those that the bodies keep, wherever they keep some
 --   agrees_kept    they are the segments'
-use Rattle.std.proofs.Common.{◌≡◌, ◌<◌, ℕ, ℤ, zero, suc, ◌+◌, ◌-◌, List, [], ◌∷◌, length, take, get_or, refl, sym, ap, subst, ◌∙◌, arith}
+use Rattle.std.proofs.Common.{◌≡◌, ◌<◌, ℕ, ℤ, zero, suc, ◌-◌, List, [], ◌∷◌, length, take, get_or, refl, sym, ap, subst, ◌∙◌, arith}
 use Rattle.std.specs.Prelude.{sum_by}
 use Rattle.station.specs.Station.{Image}
 use Rattle.calibration.specs.Gain.{GainValue}
 use Rattle.calibration.specs.Grid.{GridValue}
 use Rattle.calibration.specs.declared.setup.Setup.{Setup}
 use Rattle.three_point.specs.Sums.{sum_at_range}
+use Rattle.three_point.proofs.Sums.{sum_at_range-same}
 use Rattle.level_crossing.specs.Crossings.{count_at}
 use Rattle.simple_counts.specs.Simple.{peak_count, range_count, valley_count}
 use Rattle.segment_rules.specs.Parts.{PartsValue}
@@ -22,8 +23,8 @@ use Rattle.segment_store.proofs.HeldKeep.{held_keep}
 use Rattle.segment_store.proofs.HeldStand.{held_stand}
 use Rattle.segment_store.proofs.Holding.{held_is}
 use Rattle.report.specs.Figures.{Agree, Figures, figures, figures_of}
-use Rattle.report.specs.declared.counts.SampleCounts.{SampleCounts}
 use Rattle.report.proofs.SegmentFigures.{figures_stand}
+use Rattle.report.proofs.Counted.{same_counts}
 use Rattle.site_config.specs.declared.config.Config.{Config}
 use Rattle.site_report.specs.Report.{Agrees}
 use Rattle.status.specs.declared.status.Status.{Status}
@@ -73,20 +74,11 @@ pub are_kept : (c : Config) (held : List SegmentValue) (bodies : List PartsValue
 are_kept c held bodies g =
     record { samples = refl; used = refl; missing = refl; refused = refl; pairs = λ lo hi. refl; half_units = λ k. refl }
 
-same_sums : (f g : ℕ → ℕ → ℕ) (k n : ℕ) → ((lo hi : ℕ) → f lo hi ≡ g lo hi) → sum_at_range f k n ≡ sum_at_range g k n
-same_sums f g k zero e = refl
-same_sums f g k (suc n) e = omega (arith, same_sums f g k n e, e n (n + k))
-
-counts_same : (a b c d a' b' c' d' : ℕ) → a ≡ a' → b ≡ b' → c ≡ c' → d ≡ d'
-    → ◌≡◌ {A = SampleCounts} (record { samples = a; used = b; missing = c; refused = d })
-    (record { samples = a'; used = b'; missing = c'; refused = d' })
-counts_same a b c d a' b' c' d' e f g h = rw (e, f, g, h) refl
-
 agree_by : (grid : GridValue) (v u : SegmentValue) (bodies : List PartsValue) → v ≡ u → v.grid ≡ grid → v.from ≡ 0 → Keeps v bodies
     → Agree grid (figures_of v) (kept_by grid.classes u bodies)
 agree_by grid v u bodies same over from k = record {
-  samples = counts_same _ _ _ _ _ _ _ _ (omega (arith, from, k.last)) k.used k.missing k.refused;
-  half_units = λ j one to. ap (λ (x : GridValue). sum_at_range (halves_of v) j (x.classes - j)) over ∙ same_sums (halves_of v)
+  samples = same_counts _ _ _ _ _ _ _ _ (omega (arith, from, k.last)) k.used k.missing k.refused;
+  half_units = λ j one to. ap (λ (x : GridValue). sum_at_range (halves_of v) j (x.classes - j)) over ∙ sum_at_range-same (halves_of v)
       (kept_halves bodies) j (grid.classes - j) k.halves;
   pairs = λ lo hi lt to. k.halves lo hi;
   crossings = λ l one to. ap (λ (x : SegmentValue). count_at x.crossings l) same;

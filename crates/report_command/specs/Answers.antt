@@ -1,10 +1,10 @@
 -- Which answer `report` has. Each has its cause in the configuration and the store; a fault of the outside has a clause
 -- of its own, and want of memory none.
---   store_status    the answer for a store that is not resumed
---   AnswersOver     over what a read of the store gives
---   ReportAnswers   by the configuration
---   IsSound         the configuration is sound, and the store is one of its setup
---   IsReporting     the answers that can come at all
+--   store_status   the answer for a store that is not resumed
+--   MayAnswerOver  over what a read of the store gives
+--   ReportAnswers  by the configuration
+--   IsSound        the configuration is sound, and the store is one of its setup
+--   IsReporting    the answers that can come at all
 use Rattle.std.specs.Prelude.{◌≡◌, ℕ, List, Result, Ok, Err}
 use Rattle.station.specs.Station.{Image}
 use Rattle.calibration.specs.declared.setup.Setup.{Setup}
@@ -40,19 +40,20 @@ pub record ReadsAs (setup : Setup) (image : Image) : Type 0 where
   pub of_setup : head.setup ≡ setup
   pub reads : Reads head bodies ends image
 
-abbrev pub AnswersOver : Config → Image → Status → Type 0
-AnswersOver c image (BadStore fault) = (f : ResumeFault) × (store_status f ≡ BadStore fault) × IsRefused c.setup image f
-AnswersOver c image Done = ReadsAs c.setup image
-AnswersOver c image WriteFault = ReadsAs c.setup image
-AnswersOver c image DiskFault = Unit {0}
-AnswersOver c image OutOfMemory = Unit {0}
-AnswersOver c image status = ⊥
+abbrev pub MayAnswerOver : Config → Image → Status → Type 0
+MayAnswerOver c image (BadStore fault) =
+    (f : ResumeFault) × (store_status f ≡ BadStore fault) × IsRefused c.setup image f
+MayAnswerOver c image Done = ReadsAs c.setup image
+MayAnswerOver c image WriteFault = ReadsAs c.setup image
+MayAnswerOver c image DiskFault = Unit {0}
+MayAnswerOver c image OutOfMemory = Unit {0}
+MayAnswerOver c image status = ⊥
 
 abbrev pub ReportAnswers : Result Config ConfigFault → Image → Status → Type 0
 ReportAnswers conf image (BadConfig fault) = conf ≡ Err fault
 ReportAnswers conf image ReadFault = Unit {0}
 ReportAnswers conf image OutOfMemory = Unit {0}
-ReportAnswers conf image status = (c : Config) × (conf ≡ Ok c) × AnswersOver c image status
+ReportAnswers conf image status = (c : Config) × (conf ≡ Ok c) × MayAnswerOver c image status
 
 abbrev pub IsSound : Result Config ConfigFault → Image → Type 0
 IsSound conf image = (c : Config) × (conf ≡ Ok c) × ReadsAs c.setup image

@@ -5,10 +5,12 @@ use Rattle.std.specs.List.{filter}
 use Rattle.std.proofs.lemmas.Bool.{cases_eq, cases_lt, eq-eqb, ne_eqb}
 use Rattle.std.proofs.lemmas.List.{append-nil}
 use Rattle.std.proofs.Math.Nat.{mul-div_cancel}
+use Rattle.std.proofs.Math.Bool.{and-false}
 use Rattle.calibration.specs.Grid.{GridValue}
 use Rattle.segment_rules.specs.declared.name.Name.{Name}
 use Rattle.flow.specs.Kept.{Every}
 use Rattle.flow.specs.Kept.Every.{none as no_name, both as name_and}
+use Rattle.flow.proofs.Counting.{every_map, every_append}
 use Rattle.block_pool.specs.Units.{FilledValue, CountedValue}
 use Rattle.deposits.specs.Deposited.{Each, unit_names}
 use Rattle.deposits.specs.Deposited.Each.{none as no_unit, both}
@@ -84,10 +86,6 @@ turn_filter t (suc n) g f l o = elim (cases_eq g n) [
     turn_none t (suc n) f o = filter_both t (in_turn n f) (f n)
         ∙ ap (λ m. m ++ filter t (f n)) (turn_none t n f (λ h m. o h (omega arith))) ∙ o n (omega arith)
 
-every_map : {P Q : Name → Type 0} → (l : List Name) → ((x : Name) → P x → Q x) → Every P l → Every Q l
-every_map [] f no_name = no_name
-every_map (x ∷ l) f (name_and p d) = name_and (f x p) (every_map l f d)
-
 module _ (block : ℕ) (kind : GridValue) (n workers : ℕ) (at to : ℕ → ℕ) (desk : ℕ → Desk) (given : ℕ → List FilledValue) (lists : ℕ
     → List CountedValue) (units : List CountedValue) (h : AreTaken block kind n workers at to desk given lists units)
     (r : RoundOfFlow) (starts : (g : ℕ) → g < n → r.at g ≡ at g) (ends : (g : ℕ) → g < n → length (r.samples g) ≡ to g) where
@@ -106,16 +104,12 @@ module _ (block : ℕ) (kind : GridValue) (n workers : ℕ) (at to : ℕ → ℕ
   passes g v x i = ap (λ b. b && eqb (worker_of block workers r x) v) (eq-eqb x.gauge g i.gauge)
       ∙ eq-eqb (worker_of block workers r x) v i.worker
 
-  and_false : (b : Bool) → (b && false) ≡ false
-  and_false true = refl
-  and_false false = refl
-
   fails_gauge : (g v k u : ℕ) (x : Name) → k ≢ g → IsOf block workers r k u x → test g v x ≡ false
   fails_gauge g v k u x o i = ap (λ b. b && eqb (worker_of block workers r x) v) (ne_eqb x.gauge g (λ q. o (sym i.gauge ∙ q)))
 
   fails_worker : (g v k u : ℕ) (x : Name) → u ≢ v → IsOf block workers r k u x → test g v x ≡ false
   fails_worker g v k u x o i = ap (λ b. eqb x.gauge g && b) (ne_eqb (worker_of block workers r x) v (λ q. o (sym i.worker ∙ q)))
-      ∙ and_false (eqb x.gauge g)
+      ∙ and-false (eqb x.gauge g)
 
   -- of the names that were dealt to a worker, those of a gauge
   of_worker : (g v : ℕ) → g < n → v < workers → filter (test g v) (unit_names (lists v)) ≡ names_of (dealt workers v 0 (given g))
@@ -132,13 +126,9 @@ module _ (block : ℕ) (kind : GridValue) (n workers : ℕ) (at to : ℕ → ℕ
       ap (filter (test g v)) (list_names block kind n workers at to desk given lists units h u m)
       ∙ filter_none (test g v) (in_turn n (λ k. names_of (dealt workers u 0 (given k)))) (turn_every (test g v) n u)
     where
-      both_lists : {P : Name → Type 0} → (k l : List Name) → Every P k → Every P l → Every P (k ++ l)
-      both_lists [] l no_name d = d
-      both_lists (x ∷ k) l (name_and p c) d = name_and p (both_lists k l c d)
-
       turn_some : (j : ℕ) → j ≤ n → Every (λ x. test g v x ≡ false) (in_turn j (λ k. names_of (dealt workers u 0 (given k))))
       turn_some zero q = no_name
-      turn_some (suc j) q = both_lists (in_turn j (λ k. names_of (dealt workers u 0 (given k)))) (names_of (dealt workers u 0 (given j)))
+      turn_some (suc j) q = every_append (in_turn j (λ k. names_of (dealt workers u 0 (given k)))) (names_of (dealt workers u 0 (given j)))
           (turn_some j (omega (arith, q)))
           (every_map (names_of (dealt workers u 0 (given j))) (λ x i. fails_worker g v j u x o i) (ring_names j u (omega (arith, q))))
 

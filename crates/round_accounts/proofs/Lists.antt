@@ -4,13 +4,13 @@ use Rattle.std.proofs.lemmas.Bool.{cases_lt}
 use Rattle.segment_rules.specs.declared.name.Name.{Name}
 use Rattle.flow.specs.Flow.{hits}
 use Rattle.flow.specs.Kept.{over}
-use Rattle.flow.proofs.Counting.{over_same, over_none, hits-append}
+use Rattle.flow.proofs.Counting.{over_same, over_none, hits-append, over_sum}
 use Rattle.block_pool.specs.Units.{FilledValue}
 use Rattle.arrivals.specs.Arrivals.{names_of}
 use Rattle.deposits.specs.Deposited.{Each}
 use Rattle.deposits.specs.Deposited.Each.{none, both}
 use Rattle.block_workers.specs.Dealing.{dealt}
-use Rattle.block_workers.proofs.Accounts.{over_sum, one_worker}
+use Rattle.block_workers.proofs.Accounts.{one_worker}
 
 pub over_swap : (n m : ℕ) (f : ℕ → ℕ → ℕ) → over n (λ v. over m (λ h. f v h)) ≡ over m (λ h. over n (λ v. f v h))
 over_swap zero m f = sym (over_none m (λ h. 0) (λ h l. refl))

@@ -1,5 +1,5 @@
 -- What a round does to a reader and to a worker, from lending to settling.
-use Rattle.std.proofs.Common.{rules, ◌≡◌, ◌≢◌, ◌⊎◌, inl, inr, ◌≤◌, ◌<◌, ◌+◌, ◌*◌, ◌-◌, ℕ, zero, suc, List, [], ◌∷◌, ◌++◌, length, take, get_or, vec_len, vec_capacity, refl, sym, ap, ◌∙◌, subst, arith, append_assoc, Some}
+use Rattle.std.proofs.Common.{rules, ◌≡◌, ◌≢◌, inl, inr, ◌≤◌, ◌<◌, ◌+◌, ◌*◌, ◌-◌, ℕ, zero, suc, List, [], ◌∷◌, ◌++◌, length, take, get_or, vec_len, vec_capacity, refl, sym, ap, ◌∙◌, subst, arith, append_assoc, Some}
 use Rattle.recording.specs.declared.TheConstants.{MAX_SAMPLES}
 use Rattle.std.specs.List.{All}
 use Rattle.std.specs.declared.vec.Vec.{Vec}
@@ -8,9 +8,9 @@ use Rattle.calibration.specs.Grid.{GridValue}
 use Rattle.std.proofs.lemmas.List.{append-nil, get_or_default}
 use Rattle.outside.specs.Fault.{Rose}
 use Rattle.recording.specs.Samples.{samples}
-use Rattle.lane_ends.specs.declared.end.End.{End}
-use Rattle.lane_ends.specs.declared.end.End.TheVariants.{More, Ended, Torn, ReadFault, TooLong}
+use Rattle.lane_ends.specs.declared.end.End.TheVariants.{More, ReadFault}
 use Rattle.lane_ends.specs.Ends.{Gives}
+use Rattle.lane_ends.proofs.Giving.{more_or_not}
 use Rattle.gauge_ring.specs.declared.taker.Taker.{Taker}
 use Rattle.gauge_ring.specs.declared.feeder.Feeder.{Feeder}
 use Rattle.gauge_ring.specs.Ends.{fed, taken, AreOneRing, IsSameFeeder, IsSameTaker}
@@ -34,23 +34,8 @@ use Rattle.lane_loans.specs.Lent.{Lent}
 use Rattle.round_accounts.proofs.Lists.{in_turn}
 use Rattle.lane_loans.proofs.Walking.{some_of}
 
-abbrev number_of : End → ℕ
-number_of More = 0
-number_of Ended = 1
-number_of (Torn b) = 1
-number_of ReadFault = 1
-number_of TooLong = 1
-
 still_return : (f f' : Feeder Back) (t t' : Taker Back) → AreOneRing f t → IsSameFeeder f f' → IsSameTaker t t' → AreOneRing f' t'
 still_return f f' t t' h a b = search (rules, h, a, b)
-
--- a lane may go on or has ended
-pub may_go : (e : End) → (e ≡ More) ⊎ (e ≢ More)
-may_go More = inl refl
-may_go Ended = inr (λ q. let n : 1 ≡ 0 = ap number_of q in absurd (omega (arith, n)))
-may_go (Torn b) = inr (λ q. let n : 1 ≡ 0 = ap number_of q in absurd (omega (arith, n)))
-may_go ReadFault = inr (λ q. let n : 1 ≡ 0 = ap number_of q in absurd (omega (arith, n)))
-may_go TooLong = inr (λ q. let n : 1 ≡ 0 = ap number_of q in absurd (omega (arith, n)))
 
 fit_as : (b c : ℕ) (g k : GridValue) (xs : List BlankValue) → b ≡ c → g ≡ k → All (IsBlank b g) xs → All (IsBlank c k) xs
 fit_as b c g k xs e f h = subst (λ x. All (IsBlank c x) xs) f (subst (λ x. All (IsBlank x g) xs) e h)
@@ -95,7 +80,7 @@ module _ {C : Type 0} where
 
   pub job_keeps : (tells : Type 0) (left : C → List ℕ) (faults : C → ℕ) (workers : ℕ) (r1 r2 : Reader C)
       → vec_len r1.desk.feeders ≡ workers → ReadJob tells left faults r1 r2 → JobKeeps workers r1 r2
-  job_keeps tells left faults workers r1 r2 wide job = elim (may_go r1.desk.end) [
+  job_keeps tells left faults workers r1 r2 wide job = elim (more_or_not r1.desk.end) [
     | inl q ↦ (let rd = (job.read q).0 in record { same = rd.same; ends = λ v d m. rd.ends v d (omega (arith, m, wide)) })
     | inr o ↦ (let nr = (job.ended o).0 in record { same = nr.same; ends = λ v d m. nr.ends v d (omega (arith, m, wide)) })
   ]
@@ -209,7 +194,7 @@ module _ {C : Type 0} where
   lane_ran tells left faults workers r0 r1 r2 r3 l0 l1 wide room limit lent can job same =
       let here : vec_len r1.desk.feeders ≡ workers = ap (λ (fs : Vec (Feeder Item) Global). vec_len fs) lent.feeders ∙ wide in
       let keeps = job_keeps tells left faults workers r1 r2 here job in
-      elim (may_go r1.desk.end) [
+      elim (more_or_not r1.desk.end) [
         | inl q ↦ ran_on tells left faults workers r0 r1 r2 r3 l0 l1 wide room lent job same keeps (sym lent.end ∙ q) (job.read q).0
             (job.read q).1
         | inr o ↦ ran_over tells left faults workers r0 r1 r2 r3 l0 l1 wide room limit lent can job same keeps (λ q. o (lent.end ∙ q))

@@ -1,19 +1,19 @@
 -- A round, from its beginning to its end: everything rests again, and the lanes' fronts stand on the board.
-use Rattle.std.proofs.Common.{Option, Some, None, rules, ◌≡◌, ◌⊎◌, inl, inr, ◌≤◌, ◌<◌, ◌+◌, ◌*◌, ◌-◌, ℕ, zero, suc, List, [], ◌∷◌, ◌++◌, length, map, take, get_or, vec_len, refl, sym, ap, ◌∙◌, subst, arith, append_assoc, drop, length-append, mul-le-mul_right}
+use Rattle.std.proofs.Common.{rules, ◌≡◌, ◌⊎◌, inl, inr, ◌≤◌, ◌<◌, ◌+◌, ◌*◌, ◌-◌, ℕ, zero, suc, List, [], ◌∷◌, ◌++◌, length, map, take, get_or, vec_len, refl, sym, ap, ◌∙◌, subst, arith, append_assoc, drop, length-append, mul-le-mul_right}
 use Rattle.recording.specs.declared.TheConstants.{MAX_SAMPLES}
 use Rattle.std.specs.List.{All}
 use Rattle.std.specs.declared.vec.Vec.{Vec}
 use Rattle.std.specs.declared.alloc.Global.{Global}
 use Rattle.std.proofs.lemmas.Bool.{cases_lt}
 use Rattle.std.proofs.lemmas.Bool.Decides.{nat_tests}
-use Rattle.std.proofs.lemmas.List.{append_cancel_left, get_or_default, take_all}
+use Rattle.std.proofs.lemmas.List.{append_cancel_left, get_or_default, take_all, length-replicate}
 use Rattle.gauge_ring.specs.declared.taker.Taker.{Taker}
 use Rattle.gauge_ring.specs.declared.feeder.Feeder.{Feeder}
 use Rattle.gauge_ring.specs.Ends.{fed, taken, IsSameFeeder, IsSameTaker, AreOneRing}
 use Rattle.segment_rules.specs.declared.name.Name.{Name}
 use Rattle.flow.specs.Flow.{hits}
 use Rattle.flow.specs.Kept.{over, between}
-use Rattle.flow.proofs.Counting.{over_same, hits_other, every_map}
+use Rattle.flow.proofs.Counting.{over_same, over_sum, hits_other, every_map}
 use Rattle.block_pool.specs.Units.{FilledValue, CountedValue, PoolValue, IsBlank}
 use Rattle.board.specs.Board.{BoardValue, IsBegun, IsBlockOf, start_of, IsFront, Carries}
 use Rattle.board.proofs.Counts.{over_most}
@@ -30,7 +30,7 @@ use Rattle.block_workers.specs.Dealing.{round_of, dealt}
 use Rattle.block_workers.specs.Reading.{AreBlocks, samples_of}
 use Rattle.block_workers.specs.Working.{AreCounts, returned}
 use Rattle.block_workers.specs.Jobs.{CanRead, ReadJob, SameRead, WorkJob, SameWork, Fifo}
-use Rattle.block_workers.proofs.Accounts.{even, over_sum, blocks_ascend}
+use Rattle.block_workers.proofs.Accounts.{even, blocks_ascend}
 use Rattle.collector.specs.declared.collecting.Return.{Return}
 use Rattle.collector.specs.Collecting.{Collected}
 use Rattle.collector.specs.Settling.{SameFeeding, Opened, BackFifo}
@@ -44,6 +44,7 @@ use Rattle.round_accounts.proofs.Lists.{in_turn, turn_same, choose, chosen}
 use Rattle.round_accounts.proofs.Taken.{AreTaken, taken_long, taken_once, taken_fit, taken_kind, taken_known, each_map, taken_stand, blocks_reach}
 use Rattle.round_making.proofs.Ran.{LaneRan, lane_ran, WorkerRan, worker_ran}
 use Rattle.std.specs.Prelude.{ℤ, pos, replicate, slice_range}
+use Rattle.std.proofs.lemmas.Option.{same_Some}
 use Rattle.recording.specs.Samples.{samples}
 use Rattle.lane_ends.specs.Ends.{Gives}
 use Rattle.calibration.specs.Gain.{GainValue}
@@ -116,10 +117,6 @@ drop_replicate : (k : ℕ) (x : ℤ) (l : List ℤ) → drop k (replicate k x ++
 drop_replicate zero x l = refl
 drop_replicate (suc k) x l = drop_replicate k x l
 
-replicate_long : (k : ℕ) (x : ℤ) → length (replicate k x) ≡ k
-replicate_long zero x = refl
-replicate_long (suc k) x = let e = replicate_long k x in omega (arith, e)
-
 beyond : {A : Type 0} → (f : A → ℕ) (xs : List A) (g z : ℕ) → length xs ≤ g → get_or (map f xs) g z ≡ z
 beyond f [] g z h = refl
 beyond f (x ∷ xs) zero z h = absurd (omega (arith, h))
@@ -128,10 +125,6 @@ beyond f (x ∷ xs) (suc g) z h = beyond f xs g z (omega (arith, h))
 still_back : (f f' : Feeder Back) (t u t' : Taker Back) → AreOneRing f t → IsSameFeeder f f' → IsSameTaker t u → IsSameTaker u t'
     → AreOneRing f' t'
 still_back f f' t u t' h a b c = search (rules, h, a, b, c)
-
-abbrev from_some : {A : Type 0} → A → Option A → A
-from_some d None = d
-from_some d (Some x) = x
 
 -- what is seen of a ring
 ring_value : (ws : List Worker) (v g : ℕ) (w : Worker) (d : Taker Item) → v < length ws → g < vec_len (get_or ws v w).takers
@@ -516,7 +509,7 @@ module _ {C : Type 0} (tells : Type 0) (left : C → List ℕ) (faults : C → �
     flow = flow_of ls0 ls2
 
     end_at : (g : ℕ) → g < n → length (flow.samples g) ≡ to g
-    end_at g m = replicate_long (at_of ls2 g) (pos 0) ∙ map_at (λ (x : Lane C). x.at) ls2 g 0 l (omega (arith, m, lanes3))
+    end_at g m = length-replicate (at_of ls2 g) (pos 0) ∙ map_at (λ (x : Lane C). x.at) ls2 g 0 l (omega (arith, m, lanes3))
         ∙ (back_at g m).at
 
     ring_done : (g v : ℕ) → g < n → v < workers → RingDone p0.block workers flow (value_of p0 b0 rs0 ws0) (value_of p3 b2 rs4 ws3) g v
@@ -543,7 +536,7 @@ module _ {C : Type 0} (tells : Type 0) (left : C → List ℕ) (faults : C → �
         (omega (arith, u, e, f), omega (arith, reach, size, most, e, f))
     flow_by g (inr b) =
         let e : at_of ls0 g ≡ 0 = beyond (λ (x : Lane C). x.at) ls0 g 0 (omega (arith, b, s.long)) in
-        let f : length (flow.samples g) ≡ 0 = replicate_long (at_of ls2 g) (pos 0)
+        let f : length (flow.samples g) ≡ 0 = length-replicate (at_of ls2 g) (pos 0)
         ∙ beyond (λ (x : Lane C). x.at) ls2 g 0 (omega (arith, b, lanes3)) in
         (omega (arith, e, f), omega (arith, e, f))
 
@@ -583,7 +576,7 @@ module _ {C : Type 0} (tells : Type 0) (left : C → List ℕ) (faults : C → �
           name = front_is g m front f ∙ ap (λ a. named g a (to g)) (start_at g m) ∙ ap (λ a. named g (get_or ls0 g l).at a) (sym b.at)
               ∙ ap (λ a. named a (get_or ls0 g l).at (get_or ls2 g l).at) (sym gauge);
           stands = λ src e t. (
-              let same : x.before ≡ src = ap (from_some x.before) (sym x.was ∙ e) in
+              let same : x.before ≡ src = same_Some x.before src (sym x.was ∙ e) in
               subst (Stands front (gain_of g)) (ap samples_of q.is.1 ∙ x.samples t ∙ ap (λ j. take j (samples (left x.before))) long
               ∙ ap (λ c. take ((get_or ls2 g l).at - (get_or ls0 g l).at) (samples (left c))) same) (front_heard g m front f));
         }
@@ -594,7 +587,7 @@ module _ {C : Type 0} (tells : Type 0) (left : C → List ℕ) (faults : C → �
       few = λ g. (flow_by g (cases_lt g n)).1;
       others = λ g b. (
           let e : at_of ls0 g ≡ 0 = beyond (λ (x : Lane C). x.at) ls0 g 0 (omega (arith, b, s.long)) in
-          let f : length (flow.samples g) ≡ 0 = replicate_long (at_of ls2 g) (pos 0)
+          let f : length (flow.samples g) ≡ 0 = length-replicate (at_of ls2 g) (pos 0)
           ∙ beyond (λ (x : Lane C). x.at) ls2 g 0 (omega (arith, b, lanes3)) in
           f ∙ sym e);
     }

@@ -13,6 +13,7 @@ use Rattle.block_pool.specs.declared.TheConstants.{MAX_BLOCK}
 use Rattle.board.specs.declared.TheConstants.{MAX_GAUGES}
 use Rattle.board.specs.Board.{BoardValue}
 use Rattle.round_making.specs.declared.TheConstants.{MAX_WORKERS}
+use Rattle.flow.specs.declared.TheConstants.{BLOCKS_PER_WINDOW}
 use Rattle.block_workers.specs.declared.item.Item.{Item}
 use Rattle.block_workers.specs.declared.worker.Worker.{Worker}
 use Rattle.block_workers.specs.declared.jobs.Reader.{Reader}
@@ -54,7 +55,7 @@ module _ {C : Type 0} where
     pub kind : r.desk.grid ≡ p.grid
     pub feeders : vec_len r.desk.feeders ≡ workers
     pub blanks : vec_len r.desk.blanks ≡ 0
-    pub room : 16 ≤ vec_capacity r.desk.blanks
+    pub room : BLOCKS_PER_WINDOW ≤ vec_capacity r.desk.blanks
 
   -- what was fed was taken
   pub record IsEven (w : Worker) (r : Reader C) (g v : ℕ) : Type 0 where
@@ -67,7 +68,7 @@ module _ {C : Type 0} where
     pub gauges_few : (1 ≤ length readers) × (length readers ≤ MAX_GAUGES)
     pub block : (1 ≤ p.block) × (p.block ≤ MAX_BLOCK)
     pub workers_few : (1 ≤ length workers) × (length workers ≤ MAX_WORKERS)
-    pub pool : (p.units ≡ 16 * length readers) × (p.inside ≡ 16 * length readers)
+    pub pool : (p.units ≡ BLOCKS_PER_WINDOW * length readers) × (p.inside ≡ BLOCKS_PER_WINDOW * length readers)
     pub board : (b.grid ≡ p.grid) × (b.block ≡ p.block) × (length b.rows ≡ length readers)
     pub each_reader : (g : ℕ) (d : Reader C) → g < length readers →
         RestingReader p (length workers) g (slice_index_or readers g d)

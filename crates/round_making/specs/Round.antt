@@ -7,6 +7,7 @@
 use Rattle.std.specs.Prelude.{◌≡◌, ◌≢◌, ◌+◌, ◌-◌, ◌*◌, ◌<◌, ◌≤◌, ◌++◌, ℕ, pos, List, [], length, take, replicate, Some, slice_index_or}
 use Rattle.outside.specs.Fault.{Rose}
 use Rattle.recording.specs.declared.TheConstants.{MAX_SAMPLES}
+use Rattle.flow.specs.declared.TheConstants.{BLOCKS_PER_WINDOW}
 use Rattle.recording.specs.Samples.{samples}
 use Rattle.lane_ends.specs.declared.end.End.TheVariants.{More, ReadFault}
 use Rattle.lane_ends.specs.Ends.{Gives}
@@ -31,7 +32,7 @@ ring_at p g v = slice_index_or (slice_index_or p.rings v []) g []
 pub record RingDone (block workers : ℕ) (flow : RoundOfFlow) (old new : PreparedValue) (g v : ℕ) : Type 0 where
   pub units : List FilledValue
   pub ring : ring_at new g v ≡ ring_at old g v ++ round_of units
-  pub names : names_of units ≡ fed_to block workers flow g v 16
+  pub names : names_of units ≡ fed_to block workers flow g v BLOCKS_PER_WINDOW
 
 module _ {C : Type 0} where
   -- A lane after a round. Its source is back, and `at` and `end` say what it gave.
@@ -43,10 +44,10 @@ module _ {C : Type 0} where
     pub has : new.src ≡ Some now
     pub gauge : new.gauge ≡ old.gauge
     pub gain : new.gain ≡ old.gain
-    pub samples : (old.at ≤ new.at) × (new.at ≤ old.at + 16 * block)
+    pub samples : (old.at ≤ new.at) × (new.at ≤ old.at + BLOCKS_PER_WINDOW * block)
     pub limit : new.at ≤ MAX_SAMPLES
     pub gives : old.end ≡ More → tells →
-        Gives (16 * block) (MAX_SAMPLES - old.at) (left before) (new.at - old.at) new.end (left now)
+        Gives (BLOCKS_PER_WINDOW * block) (MAX_SAMPLES - old.at) (left before) (new.at - old.at) new.end (left now)
     pub cause : old.end ≡ More → new.end ≡ ReadFault → Rose (faults before) (faults now)
     pub later : faults before ≤ faults now
     pub ended : old.end ≢ More → (new.at ≡ old.at) × (new.end ≡ old.end) × (now ≡ before)
@@ -67,7 +68,7 @@ module _ {C : Type 0} where
     pub gauges : new.gauges ≡ old.gauges
     pub block : new.block ≡ old.block
     pub workers : new.workers ≡ old.workers
-    pub inside : new.inside ≡ 16 * old.gauges
+    pub inside : new.inside ≡ BLOCKS_PER_WINDOW * old.gauges
     pub board : (new.board.grid ≡ old.grid) × (new.board.block ≡ old.block) × (length new.board.rows ≡ old.gauges)
     pub long : length lanes_new ≡ length lanes_old
     pub lane : (g : ℕ) (d : Lane C) → g < old.gauges

@@ -2,14 +2,15 @@
 use Rattle.std.proofs.Common.{◌≡◌, ◌⊎◌, inl, inr, ℕ, ◌-◌, ◌<◌, ◌≤◌, Bool, true, false, nat_lt, nat_le, List, length, refl, ap, ◌∙◌, arith}
 use Rattle.std.specs.Prelude.{◌&&◌, ◌||◌, ◌==◌, not, if◌then◌else◌, slice_index}
 use Rattle.std.proofs.lemmas.Bool.Decides.{nat_tests}
+use Rattle.std.proofs.lemmas.Bool.{and_parts, and_from, eqb-true, eq-eqb, eqb-false, ltb-true, lt-ltb}
 use Rattle.tally.specs.declared.cells.Bin.{Bin}
 use Rattle.tables.specs.Bins.{count_at}
 use Rattle.turning_points.specs.Points.{is_turn}
 use Rattle.turning_points.specs.EndPoints.{EndPoints, IsTurn, no_ends}
+use Rattle.turning_points.proofs.PushEnds.{five_same}
 use Rattle.simple_counts.specs.Loading.{CountsEnds, first_range, last_range}
 use Rattle.segment_rules.specs.Rules.{HasEndsBeside, IsEnded, only_point}
 use Rattle.segment_rules.specs.Tests.{are_end_ranges_counted, has_length, are_levels, has_ends_beside, has_ends}
-use Rattle.segment_rules.proofs.Booleans.{both_true, true_both, equal_of, equal_true, differ_of, less_of, less_true}
 
 -- ---- the last sum rule
 
@@ -59,31 +60,24 @@ length_true p n a b = grind (arith, nat_tests)
 
 -- ---- the ends
 
-made : ℕ → ℕ → ℕ → ℕ → ℕ → EndPoints
-made p a b c d = record { points = p; first = a; second = b; before = c; last = d }
-
 ends_are : (e : EndPoints) (p a b c d : ℕ) → e.points ≡ p → e.first ≡ a → e.second ≡ b → e.before ≡ c → e.last ≡ d
     → e ≡ record { points = p; first = a; second = b; before = c; last = d }
-unfolding made
-ends_are e p a b c d e0 e1 e2 e3 e4 =
-    ap (λ n. made n e.first e.second e.before e.last) e0 ∙ ap (λ n. made p n e.second e.before e.last) e1
-    ∙ ap (λ n. made p a n e.before e.last) e2
-    ∙ ap (λ n. made p a b n e.last) e3 ∙ ap (made p a b c) e4
+ends_are e p a b c d e0 e1 e2 e3 e4 = five_same _ _ _ _ _ _ _ _ _ _ e0 e1 e2 e3 e4
 
 levels_of : (e : EndPoints) (p a b c d : ℕ) → e.points ≡ p → are_levels e a b c d ≡ true
     → e ≡ record { points = p; first = a; second = b; before = c; last = d }
 levels_of e p a b c d is t =
-    let u = both_true (e.first == a && e.second == b) (e.before == c && e.last == d) t in
-    let v = both_true (e.first == a) (e.second == b) u.0 in
-    let w = both_true (e.before == c) (e.last == d) u.1 in
-    ends_are e p a b c d is (equal_of _ _ v.0) (equal_of _ _ v.1) (equal_of _ _ w.0) (equal_of _ _ w.1)
+    let u = and_parts (e.first == a && e.second == b) (e.before == c && e.last == d) t in
+    let v = and_parts (e.first == a) (e.second == b) u.0 in
+    let w = and_parts (e.before == c) (e.last == d) u.1 in
+    ends_are e p a b c d is (eqb-true _ _ v.0) (eqb-true _ _ v.1) (eqb-true _ _ w.0) (eqb-true _ _ w.1)
 
 levels_true : (e : EndPoints) (p a b c d : ℕ) → e ≡ record { points = p; first = a; second = b; before = c; last = d }
     → are_levels e a b c d ≡ true
 levels_true e p a b c d is =
     ap (λ (v : EndPoints). are_levels v a b c d) is
-    ∙ true_both (a == a && b == b) (c == c && d == d) (true_both (a == a) (b == b) (equal_true a a refl) (equal_true b b refl))
-    (true_both (c == c) (d == d) (equal_true c c refl) (equal_true d d refl))
+    ∙ and_from (a == a && b == b) (c == c && d == d) (and_from (a == a) (b == b) (eq-eqb a a refl) (eq-eqb b b refl))
+    (and_from (c == c) (d == d) (eq-eqb c c refl) (eq-eqb d d refl))
 
 turn_of : (x y z : ℕ) → is_turn x y z ≡ true → IsTurn x y z
 turn_of x y z t = grind (arith, nat_tests)
@@ -99,34 +93,34 @@ where_true n p a b c d h = grind (arith, nat_tests)
 
 beside_of : (k : ℕ) (e : EndPoints) (a b c d : ℕ) → has_ends_beside k e a b c d ≡ true → HasEndsBeside k e a b c d
 beside_of k e a b c d t =
-    let u = both_true (e.first == a && e.last == d) _ t in
-    let ends = both_true (e.first == a) (e.last == d) u.0 in
-    let v = both_true (is_turn e.second a b && is_turn e.before d c) _ u.1 in
-    let sides = both_true (is_turn e.second a b) (is_turn e.before d c) v.0 in
-    let w = both_true (nat_lt e.second k && nat_lt e.before k) _ v.1 in
-    let below = both_true (nat_lt e.second k) (nat_lt e.before k) w.0 in
-    let x = both_true (not (e.points == 2) || (e.second == b && e.before == c))
+    let u = and_parts (e.first == a && e.last == d) _ t in
+    let ends = and_parts (e.first == a) (e.last == d) u.0 in
+    let v = and_parts (is_turn e.second a b && is_turn e.before d c) _ u.1 in
+    let sides = and_parts (is_turn e.second a b) (is_turn e.before d c) v.0 in
+    let w = and_parts (nat_lt e.second k && nat_lt e.before k) _ v.1 in
+    let below = and_parts (nat_lt e.second k) (nat_lt e.before k) w.0 in
+    let x = and_parts (not (e.points == 2) || (e.second == b && e.before == c))
     (not (e.points == 3) || (e.second == b && e.before == b)) w.1 in
     record {
-      first_is = equal_of _ _ ends.0;
-      last_is = equal_of _ _ ends.1;
+      first_is = eqb-true _ _ ends.0;
+      last_is = eqb-true _ _ ends.1;
       second_side = turn_of e.second a b sides.0;
       before_side = turn_of e.before d c sides.1;
-      second_below = less_of _ _ below.0;
-      before_below = less_of _ _ below.1;
+      second_below = ltb-true _ _ below.0;
+      before_below = ltb-true _ _ below.1;
       two = both_where e.points 2 e.second b e.before c x.0;
       three = both_where e.points 3 e.second b e.before b x.1;
     }
 
 beside_true : (k : ℕ) (e : EndPoints) (a b c d : ℕ) → HasEndsBeside k e a b c d → has_ends_beside k e a b c d ≡ true
 beside_true k e a b c d m =
-    true_both (e.first == a && e.last == d) _ (true_both (e.first == a) (e.last == d) (equal_true _ _ m.first_is)
-    (equal_true _ _ m.last_is))
-    (true_both (is_turn e.second a b && is_turn e.before d c) _
-    (true_both (is_turn e.second a b) (is_turn e.before d c) (turn_true _ _ _ m.second_side) (turn_true _ _ _ m.before_side))
-    (true_both (nat_lt e.second k && nat_lt e.before k) _
-    (true_both (nat_lt e.second k) (nat_lt e.before k) (less_true _ _ m.second_below) (less_true _ _ m.before_below))
-    (true_both (not (e.points == 2) || (e.second == b && e.before == c)) _ (where_true e.points 2 e.second b e.before c m.two)
+    and_from (e.first == a && e.last == d) _ (and_from (e.first == a) (e.last == d) (eq-eqb _ _ m.first_is)
+    (eq-eqb _ _ m.last_is))
+    (and_from (is_turn e.second a b && is_turn e.before d c) _
+    (and_from (is_turn e.second a b) (is_turn e.before d c) (turn_true _ _ _ m.second_side) (turn_true _ _ _ m.before_side))
+    (and_from (nat_lt e.second k && nat_lt e.before k) _
+    (and_from (nat_lt e.second k) (nat_lt e.before k) (lt-ltb _ _ m.second_below) (lt-ltb _ _ m.before_below))
+    (and_from (not (e.points == 2) || (e.second == b && e.before == c)) _ (where_true e.points 2 e.second b e.before c m.two)
     (where_true e.points 3 e.second b e.before b m.three))))
 
 -- the ends, by how many points there are
@@ -146,26 +140,26 @@ by_points k e r b c =
 ends_by : (k : ℕ) (e : EndPoints) (r : List ℕ) (b c : Bool) → (e.points == 0) ≡ b → (e.points == 1) ≡ c → by_points k e r b c ≡ true
     → HasEnds k e r
 ends_by k e r true c f g t =
-    let is = equal_of _ _ f in
+    let is = eqb-true _ _ f in
     record {
       none_are = λ h. levels_of e 0 0 0 0 0 h t;
       one_is = λ h. absurd (omega (arith, is, h));
       more_are = λ h. absurd (omega (arith, is, h));
     }
 ends_by k e r false true f g t =
-    let is = equal_of _ _ g in
+    let is = eqb-true _ _ g in
     record {
       none_are = λ h. absurd (omega (arith, is, h));
       one_is = λ h. levels_of e 1 (slice_index r 0) 0 0 (slice_index r 0) h t;
       more_are = λ h. absurd (omega (arith, is, h));
     }
 ends_by k e r false false f g t =
-    record { none_are = λ h. absurd (differ_of _ _ f h); one_is = λ h. absurd (differ_of _ _ g h); more_are = λ h. beside_of k e _ _ _ _ t }
+    record { none_are = λ h. absurd (eqb-false _ _ f h); one_is = λ h. absurd (eqb-false _ _ g h); more_are = λ h. beside_of k e _ _ _ _ t }
 
 true_by : (k : ℕ) (e : EndPoints) (r : List ℕ) (b c : Bool) → (e.points == 0) ≡ b → (e.points == 1) ≡ c → HasEnds k e r
     → by_points k e r b c ≡ true
-true_by k e r true c f g t = levels_true e 0 0 0 0 0 (t.none_are (equal_of _ _ f))
-true_by k e r false true f g t = levels_true e 1 (slice_index r 0) 0 0 (slice_index r 0) (t.one_is (equal_of _ _ g))
+true_by k e r true c f g t = levels_true e 0 0 0 0 0 (t.none_are (eqb-true _ _ f))
+true_by k e r false true f g t = levels_true e 1 (slice_index r 0) 0 0 (slice_index r 0) (t.one_is (eqb-true _ _ g))
 true_by k e r false false f g t = beside_true k e _ _ _ _ (t.more_are (many e.points f g))
   where
     many : (n : ℕ) → (n == 0) ≡ false → (n == 1) ≡ false → 2 ≤ n

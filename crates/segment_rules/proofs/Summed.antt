@@ -2,7 +2,7 @@
 use Rattle.std.proofs.Common.{◌≡◌, ℕ, ◌<◌, ◌≤◌, true, List, [], ◌∷◌, nat_lt, nat_le, None, refl, arith}
 use Rattle.std.specs.Prelude.{All, ◌&&◌, ◌||◌, ◌==◌, not}
 use Rattle.std.specs.List.{list_all}
-use Rattle.std.proofs.lemmas.Bool.{cases_lt}
+use Rattle.std.proofs.lemmas.Bool.{cases_lt, and_parts, and_from, eqb-true, eq-eqb, ltb-true, lt-ltb, leb-true, le-leb}
 use Rattle.std.proofs.lemmas.Bool.Decides.{nat_tests}
 use Rattle.std.proofs.lemmas.List.Elements.{All-nil, All-cons, All-head, All-tail}
 use Rattle.tally.specs.declared.cells.Bin.{Bin}
@@ -10,12 +10,11 @@ use Rattle.recording.specs.declared.TheConstants.{MAX_SAMPLES}
 use Rattle.segment_rules.specs.Parts.{PartsValue}
 use Rattle.segment_rules.specs.Rules.{IsSummed}
 use Rattle.segment_rules.specs.Tests.{first_unsummed}
-use Rattle.segment_rules.proofs.Booleans.{both_true, true_both, equal_of, equal_true, less_of, less_true, at_most_of, at_most_true}
 use Rattle.segment_rules.proofs.Chosen.{both_none, none_both, kept, kept_none}
 use Rattle.segment_rules.proofs.Ended.{end_ranges_of, end_ranges_true}
 
 span_of : (a b : ℕ) → (nat_le a b && nat_le b MAX_SAMPLES) ≡ true → (a ≤ b) × (b ≤ MAX_SAMPLES)
-span_of a b e = let t = both_true (nat_le a b) (nat_le b MAX_SAMPLES) e in (at_most_of _ _ t.0, at_most_of _ _ t.1)
+span_of a b e = let t = and_parts (nat_le a b) (nat_le b MAX_SAMPLES) e in (leb-true _ _ t.0, leb-true _ _ t.1)
 
 points_of : (n u : ℕ) → (nat_le n u && (not (n == 0) || (u == 0))) ≡ true → (n ≤ u) × (n ≡ 0 → u ≡ 0)
 points_of n u e = (at_most n u e, λ z. zero_is n u e z)
@@ -32,13 +31,13 @@ points_true n u e f = grind (arith, nat_tests)
 crossings_of : (u : ℕ) (bs : List Bin) → list_all (λ b. nat_lt b.n u) bs ≡ true → All (λ b. b.n < u) bs
 crossings_of u [] e = All-nil (λ b. b.n < u)
 crossings_of u (b ∷ bs) e =
-    let t = both_true (nat_lt b.n u) (list_all (λ b. nat_lt b.n u) bs) e in
-    All-cons (λ b. b.n < u) b bs (less_of b.n u t.0) (crossings_of u bs t.1)
+    let t = and_parts (nat_lt b.n u) (list_all (λ b. nat_lt b.n u) bs) e in
+    All-cons (λ b. b.n < u) b bs (ltb-true b.n u t.0) (crossings_of u bs t.1)
 
 crossings_true : (u : ℕ) (bs : List Bin) → All (λ b. b.n < u) bs → list_all (λ b. nat_lt b.n u) bs ≡ true
 crossings_true u [] a = refl
 crossings_true u (b ∷ bs) a =
-    true_both (nat_lt b.n u) (list_all (λ b. nat_lt b.n u) bs) (less_true b.n u (All-head (λ b. b.n < u) b bs a))
+    and_from (nat_lt b.n u) (list_all (λ b. nat_lt b.n u) bs) (lt-ltb b.n u (All-head (λ b. b.n < u) b bs a))
     (crossings_true u bs (All-tail (λ b. b.n < u) b bs a))
 
 pub summed_of : (p : PartsValue) → first_unsummed p ≡ None → IsSummed p
@@ -54,25 +53,25 @@ summed_of p e =
     let points = points_of p.ends.points p.used (kept _ _ c.0) in
     record {
       span = span_of p.name.from p.name.to (kept _ _ a.0);
-      readings = equal_of _ _ (kept _ _ b.0);
+      readings = eqb-true _ _ (kept _ _ b.0);
       points = points.0;
       no_points = points.1;
-      cycles = equal_of _ _ (kept _ _ d.0);
+      cycles = eqb-true _ _ (kept _ _ d.0);
       crossings = crossings_of p.used p.crossings (kept _ _ f.0);
-      extremes = at_most_of _ _ (kept _ _ g.0);
-      ranges = equal_of _ _ (kept _ _ h.0);
+      extremes = leb-true _ _ (kept _ _ g.0);
+      ranges = eqb-true _ _ (kept _ _ h.0);
       end_ranges = λ two. end_ranges_of p.ends p.ranges (kept _ _ h.1) two;
     }
 
 pub summed_none : (p : PartsValue) → IsSummed p → first_unsummed p ≡ None
 unfolding first_unsummed
 summed_none p s =
-    none_both _ _ (kept_none _ _ (true_both (nat_le p.name.from p.name.to) (nat_le p.name.to MAX_SAMPLES) (at_most_true _ _ s.span.0)
-    (at_most_true _ _ s.span.1)))
-    (none_both _ _ (kept_none _ _ (equal_true _ _ s.readings))
+    none_both _ _ (kept_none _ _ (and_from (nat_le p.name.from p.name.to) (nat_le p.name.to MAX_SAMPLES) (le-leb _ _ s.span.0)
+    (le-leb _ _ s.span.1)))
+    (none_both _ _ (kept_none _ _ (eq-eqb _ _ s.readings))
     (none_both _ _ (kept_none _ _ (points_true p.ends.points p.used s.points s.no_points))
-    (none_both _ _ (kept_none _ _ (equal_true _ _ s.cycles))
+    (none_both _ _ (kept_none _ _ (eq-eqb _ _ s.cycles))
     (none_both _ _ (kept_none _ _ (crossings_true p.used p.crossings s.crossings))
-    (none_both _ _ (kept_none _ _ (at_most_true _ _ s.extremes))
-    (none_both _ _ (kept_none _ _ (equal_true _ _ s.ranges))
+    (none_both _ _ (kept_none _ _ (le-leb _ _ s.extremes))
+    (none_both _ _ (kept_none _ _ (eq-eqb _ _ s.ranges))
     (kept_none _ _ (end_ranges_true p.ends p.ranges s.end_ranges (cases_lt p.ends.points 2)))))))))

@@ -8,6 +8,7 @@ use Rattle.fault_lines.specs.FaultLine.{fault_line, name_for, name_by}
 use Rattle.fault_lines.specs.Telling.{EndsIn}
 use Rattle.file_tasks.specs.Answer.{IsPrinting}
 use Rattle.config_reading.specs.Reading.{IsRefusal}
+use Rattle.config_reading.proofs.Refusing.{by_refusal}
 use Rattle.status.specs.declared.status.Status.{Status}
 use Rattle.status.specs.declared.status.Status.TheVariants.{Done, Usage, Config as BadConfig, Store, Recording, Torn, ReadFault, WriteFault, DiskFault, OutOfMemory, TooLong, Differs}
 use Rattle.sheet_command.specs.Sheet.{MayAnswer}
@@ -51,18 +52,7 @@ line_told read c s name told told2 is named (inr last) =
 
 -- a refused configuration has no gauge
 no_name : (c : Config) (s : Status) → IsRefusal s → name_for c s ≡ []
-no_name c (BadConfig fault) k = refl
-no_name c ReadFault k = refl
-no_name c OutOfMemory k = refl
-no_name c Done k = absurd k
-no_name c Usage k = absurd k
-no_name c (Store fault) k = absurd k
-no_name c (Recording gauge fault) k = absurd k
-no_name c (Torn gauge bytes) k = absurd k
-no_name c WriteFault k = absurd k
-no_name c DiskFault k = absurd k
-no_name c (TooLong gauge) k = absurd k
-no_name c (Differs gauge what held found) k = absurd k
+no_name c = by_refusal (λ (s : Status). name_for c s ≡ []) (λ fault. refl) refl refl
 
 pub refused_told : {P : Type 0} (read : Result Config ConfigFault) (s : Status) (told told2 : Lines) → IsRefusal s →
     P ⊎ (told2 ≡ told ++ fault_line s [] ∷ [])

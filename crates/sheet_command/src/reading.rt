@@ -9,17 +9,15 @@ ghost use Rattle.file_tasks.specs.Answer.{MayAnswer as MayAnswerFor, MayGive};
 ghost use Rattle.file_tasks.specs.declared.refusal.Refusal.TheVariants as refusal;
 ghost use Rattle.status.specs.declared.status.Status.TheVariants.{Done, ReadFault};
 ghost use Rattle.sheet_command.specs.Sheet.{samples_of, recordings_of, answer_over, MayAnswer, IsReadStatus};
+ghost use Rattle.recording.specs.declared.TheConstants.{PIECE};
 
 use csv_recording::Samples;
 use file_tasks::Refusal;
 use outside::{Site, Source};
-use recording::{FillEnd, MAX_SAMPLES, fill, read_head};
+use recording::{FillEnd, MAX_SAMPLES, PIECE, fill, read_head};
 use site_config::{Config, Gauge};
 use status::Status;
 use std::alloc::{AllocError, Global};
-
-// Samples that are read at once: 64 KiB.
-const PIECE: usize = 16384;
 
 /// Reads all recordings whole, in order of gauge.
 pub(crate) fn read_recordings<T: Site>(

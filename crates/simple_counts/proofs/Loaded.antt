@@ -3,7 +3,6 @@ use Rattle.std.proofs.Common.{◌≡◌, ◌≢◌, ℕ, ◌+◌, ◌-◌, ◌<�
 use Rattle.std.proofs.lemmas.Bool.Decides.{nat_tests}
 use Rattle.std.proofs.lemmas.Bool.{cases_eq}
 use Rattle.tally.specs.declared.cells.Bin.{Bin}
-use Rattle.turning_points.specs.Pairs.{range}
 use Rattle.calibration.specs.declared.grid.TheConstants.{MIN_CLASSES, MAX_CLASSES}
 use Rattle.turning_points.specs.EndPoints.{EndPoints}
 use Rattle.tables.specs.Tables.{lower, filled, is_at}
@@ -12,9 +11,7 @@ use Rattle.tables.proofs.Counting.{lower_at, sum_lower}
 use Rattle.tables.proofs.Filled.{filled_at, filled_sum, filled_long, table_at, table_sum, table_long, placed_counts, count_below, count_above}
 use Rattle.simple_counts.specs.Simple.{IsSimple, open_at, range_count, peak_count, valley_count}
 use Rattle.simple_counts.specs.Loading.{CountsEnds, CanLoad, first_range, last_range, decided_of, loaded_of}
-
-apart : (k x y : ℕ) → x < k → y < k → range x y < k
-apart k x y h g = omega (arith, h, g)
+use Rattle.simple_counts.proofs.PutLists.{range_below}
 
 -- the ranges
 
@@ -54,7 +51,7 @@ module _ (classes reference : ℕ) (e : EndPoints) (peaks valleys ranges : List 
     last_there le = let n = (c.counted le).last in omega (arith, n, all_at (last_range e))
 
     pub last_within : last_range e < classes
-    last_within = apart classes e.before e.last c.ends.below.2 c.ends.below.3
+    last_within = range_below classes e.before e.last c.ends.below.2 c.ends.below.3
 
     decided_by : (b : Bool) → leb 2 e.points ≡ b →
         Decided classes e ranges (cond b (lower (filled 0 (replicate classes 0) ranges) (last_range e))

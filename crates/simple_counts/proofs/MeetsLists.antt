@@ -3,11 +3,12 @@ use Rattle.std.proofs.Common.{◌≡◌, ℕ, ◌<◌, ◌≤◌, List, [], ◌�
 use Rattle.turning_points.specs.EndPoints.{EndPoints, ends_of, last_point, last_but_one, IsEnds, put}
 use Rattle.turning_points.proofs.Zigzag.{add, is_added, IsZigzag, zig_added}
 use Rattle.turning_points.proofs.Over.{over}
-use Rattle.turning_points.proofs.Joining.{met_points, met, ends_apart, tail, put_is, last_behind, before_behind}
+use Rattle.turning_points.proofs.Joining.{met_points, met, tail, put_is, last_behind, before_behind}
 use Rattle.simple_counts.specs.Simple.{decide, mark, decided_at, extremes_at}
 use Rattle.simple_counts.proofs.Triples.{triples_join, range_side, extreme_side}
 use Rattle.turning_points.proofs.Put.{put_same}
 use Rattle.turning_points.proofs.PutEnds.{put_ends}
+use Rattle.turning_points.proofs.Push.{end_differs}
 use Rattle.simple_counts.proofs.PutLists.{decide_length, mark_length, At, at_added}
 
 pub put_list : (x : ℕ) (l : List ℕ) → IsZigzag l → ends_of (add x l) ≡ put x (ends_of l)
@@ -34,7 +35,7 @@ behind : (K r : ℕ) (f : List ℕ) (p x : ℕ) (s d m : List ℕ) → IsZigzag 
     At K r (λ k. decided_at k (f ++ (p ∷ x ∷ []))) (λ k. extremes_at r k (f ++ (p ∷ x ∷ []))) (add p (add x s)) d m →
     At K r (λ k. 0) (λ k. 0) (over (f ++ (p ∷ x ∷ [])) s) d m
 behind K r f p x s d m y z g =
-    let t = met p x s (ends_apart f p x y) z in
+    let t = met p x s (end_differs f p x y) z in
     let e = met_points f p x s y z ∙ ap (λ l. f ++ l) t.is in
     record {
       decided = λ k h. omega (

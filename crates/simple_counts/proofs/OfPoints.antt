@@ -1,5 +1,5 @@
 -- The tables of a list of points, point by point: each is a push.
-use Rattle.std.proofs.Common.{◌≡◌, ℕ, zero, suc, ◌+◌, ◌-◌, ◌<◌, ◌≤◌, Bool, true, false, cond, leb, ◌&&◌, List, [], ◌∷◌, ◌++◌, length, take, sum, get_or, get_or-take, refl, sym, ap, ◌∙◌, subst, arith}
+use Rattle.std.proofs.Common.{◌≡◌, ℕ, zero, suc, ◌+◌, ◌-◌, ◌<◌, ◌≤◌, Bool, true, false, cond, leb, ◌&&◌, List, [], ◌∷◌, ◌++◌, length, take, get_or, get_or-take, refl, sym, ap, ◌∙◌, subst, arith}
 use Rattle.std.specs.Prelude.{All}
 use Rattle.std.proofs.lemmas.Bool.Decides.{nat_tests}
 use Rattle.std.proofs.lemmas.List.{take_all, take_more, length-take-le}
@@ -7,15 +7,16 @@ use Rattle.std.proofs.lemmas.List.Elements.{All-head, All-tail}
 use Rattle.turning_points.specs.Points.{is_turn, points}
 use Rattle.turning_points.specs.Pairs.{range}
 use Rattle.turning_points.specs.EndPoints.{EndPoints, last_but_one, ends_of, last_point}
-use Rattle.turning_points.proofs.Zigzag.{Turn, IsZigzag, none, one, two, inner, ends_differ}
+use Rattle.turning_points.proofs.Zigzag.{Turn, IsZigzag, none, one, two, inner, ends_differ, turn_at}
 use Rattle.turning_points.proofs.Over.{own}
 use Rattle.turning_points.proofs.PushEnds.{list_ends}
 use Rattle.turning_points.proofs.EndPlaces.{last_place, before_place}
 use Rattle.tables.specs.Tables.{raise}
-use Rattle.tables.proofs.Counting.{sum_cons}
 use Rattle.simple_counts.specs.Simple.{SimpleValue, Counts, Fills, IsSimple, decided_at, extremes_at, is_extreme, push_of, value_of}
 use Rattle.simple_counts.proofs.Pushed.{pushed_counted, pushed_counts}
 use Rattle.turning_points.specs.declared.ends.TheConstants.{MAX_POINTS}
+use Rattle.lemmas.proofs.Sums.{sum-zeros}
+use Rattle.calibration.specs.declared.grid.TheConstants.{MIN_CLASSES, MAX_CLASSES}
 
 -- a part of a list of points is one
 pub zig_take : (n : ℕ) {l : List ℕ} → IsZigzag l → IsZigzag (take n l)
@@ -29,13 +30,6 @@ zig_take (suc (suc (suc n))) (two d) = two d
 zig_take (suc zero) (inner t g) = one
 zig_take (suc (suc zero)) (inner t g) = two (ends_differ (inner t g))
 zig_take (suc (suc (suc n))) (inner t g) = inner t (zig_take (suc (suc n)) g)
-
-turn_at : (p : List ℕ) (i : ℕ) → IsZigzag p → i + 2 < length p → Turn (get_or p i 0) (get_or p (suc i) 0) (get_or p (suc (suc i)) 0)
-turn_at [] i z h = absurd (omega arith)
-turn_at (x ∷ []) i z h = absurd (omega arith)
-turn_at (x ∷ y ∷ []) i z h = absurd (omega arith)
-turn_at (x ∷ y ∷ w ∷ l) zero (inner t g) h = t
-turn_at (x ∷ y ∷ w ∷ l) (suc i) (inner t g) h = turn_at (y ∷ w ∷ l) i g (omega arith)
 
 pub turn_here : (p : List ℕ) (i : ℕ) → IsZigzag p → 2 ≤ i → i < length p → Turn (get_or p (i - 2) 0) (get_or p (i - 1) 0) (get_or p i 0)
 turn_here p i z o h =
@@ -125,10 +119,6 @@ module _ (k r : ℕ) (l d m d' m' : List ℕ) (i : ℕ) (z : IsZigzag l) (a : Al
         counts = subst (λ w. Counts w (take (i + 1) l)) e (subst (Counts (push_of x v)) (sym more) pushed);
       }
 
-sum_none : (t : List ℕ) → ((k : ℕ) → get_or t k 0 ≡ 0) → sum t ≡ 0
-sum_none [] f = refl
-sum_none (x ∷ t) f = omega (arith, f 0, sum_cons x t, sum_none t (λ k. f (suc k)))
-
 none_decided : (k : ℕ) (l : List ℕ) → decided_at k (take 2 l) ≡ 0
 none_decided k [] = refl
 none_decided k (x ∷ []) = refl
@@ -153,7 +143,8 @@ below_two k (x ∷ y ∷ l) a (suc zero) h = All-head (λ z. z < k) y l (All-tai
 below_two k (x ∷ y ∷ l) a (suc (suc i)) h = absurd (omega arith)
 
 -- two points have no inner one
-pub fills_none : (k r : ℕ) (l d m : List ℕ) → IsZigzag l → All (λ x. x < k) l → (2 ≤ k) × (k ≤ 1024) → (1 ≤ r) × (r < k) → length d ≡ k →
+pub fills_none : (k r : ℕ) (l d m : List ℕ) → IsZigzag l → All (λ x. x < k) l → (MIN_CLASSES ≤ k) × (k ≤ MAX_CLASSES) →
+    (1 ≤ r) × (r < k) → length d ≡ k →
     length m ≡ k → ((j : ℕ) → get_or d j 0 ≡ 0) → ((j : ℕ) → get_or m j 0 ≡ 0) → Fills k r l 2 d m
 fills_none k r l d m z a c e p q f g =
     let w = zig_take 2 z in
@@ -166,11 +157,11 @@ fills_none k r l d m z a c e p q f g =
         extremes = q;
         ends = list_ends k (take 2 l) (omega arith) w (below_two k l a);
         agrees = record {
-          sum_of = omega (arith, sum_none d f, short l);
+          sum_of = omega (arith, sum-zeros d f, short l);
           first = λ s. absurd (omega (arith, short l));
           above = λ j.
               omega arith;
-          few = omega (arith, sum_none m g);
+          few = omega (arith, sum-zeros m g);
         };
         few = omega (arith, short l);
         none_at_zero = f 0;

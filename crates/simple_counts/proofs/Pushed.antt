@@ -7,14 +7,15 @@ use Rattle.turning_points.specs.Pairs.{range}
 use Rattle.turning_points.specs.EndPoints.{EndPoints, ends_of, IsTurn, IsEnds}
 use Rattle.turning_points.proofs.Zigzag.{IsZigzag, zig_points, Turn}
 use Rattle.turning_points.proofs.Over.{points_inside}
-use Rattle.turning_points.proofs.Joining.{Same, tail, last_behind, before_behind, ends_apart}
-use Rattle.turning_points.proofs.Push.{push_turn, push_between, push_equal}
+use Rattle.turning_points.proofs.Joining.{Same, tail, last_behind, before_behind}
+use Rattle.turning_points.proofs.Push.{push_turn, push_between, push_equal, end_differs}
 use Rattle.tables.specs.Tables.{raise, is_at}
 use Rattle.simple_counts.specs.Simple.{is_extreme, decided_at, extremes_at, SimpleValue, Counts, IsSimple, push_of}
 use Rattle.tables.proofs.Counting.{raise_at, sum_raise}
 use Rattle.simple_counts.proofs.Triples.{triples_join, range_side, extreme_side}
 use Rattle.simple_counts.proofs.PutLists.{range_below}
 use Rattle.turning_points.specs.declared.ends.TheConstants.{MAX_POINTS}
+use Rattle.turning_points.proofs.PushEnds.{five_same}
 use Rattle.simple_counts.proofs.ZeroRange.{range_positive, zero_set}
 
 pub data PushCase (x : ℕ) (e : EndPoints) : Type 0 where
@@ -297,11 +298,6 @@ pub record On (v : SimpleValue) (l : List ℕ) : Type 0 where
 on_to : (v w : SimpleValue) (l : List ℕ) → w ≡ v → On v l → On w l
 on_to v w l e o = subst (λ z. On z l) (sym e) o
 
-ends_six : (a b c d e a' b' c' d' e' : ℕ) → a ≡ a' → b ≡ b' → c ≡ c' → d ≡ d' → e ≡ e' →
-    ◌≡◌ {A = EndPoints} (record { points = a; first = b; second = c; before = d; last = e })
-    (record { points = a'; first = b'; second = c'; before = d'; last = e' })
-ends_six a b c d e a' b' c' d' e' p q r s t = cc
-
 first_same : (f : List ℕ) (p z : ℕ) (t : List ℕ) → get_or (f ++ (p ∷ z ∷ t)) 0 0 ≡ get_or (f ++ (p ∷ z ∷ [])) 0 0
 first_same [] p z t = refl
 first_same (a ∷ f) p z t = refl
@@ -349,7 +345,7 @@ module _ (v : SimpleValue) (x : ℕ) (i : IsSimple v) (h : x < v.classes) where
       (subst (λ l. On (value v.classes v.reference (record { points = 2; first = v.ends.first; second = x; before = v.ends.last; last = x })
       v.decided v.extremes) l) (two_levels y x (λ e. n (sym e)))
       (record {
-        ends = ends_six 2 v.ends.first x v.ends.last x 2 y x y x refl f refl q refl;
+        ends = five_same 2 v.ends.first x v.ends.last x 2 y x y x refl f refl q refl;
         decided = λ k w. o.decided k w;
         extremes = λ k w. o.extremes k w;
       }))
@@ -379,7 +375,7 @@ module _ (v : SimpleValue) (x : ℕ) (i : IsSimple v) (h : x < v.classes) where
         let u : range v.ends.before v.ends.last < length v.decided = omega
         (arith, i.decided, range_below v.classes v.ends.before v.ends.last w.2 w.3) in
         let m : v.ends.last < length v.extremes = omega (arith, i.extremes) in
-        let d = same_refl p z (ends_apart f p z y) in
+        let d = same_refl p z (end_differs f p z y) in
         let g : On (value v.classes v.reference (record {
           points = v.ends.points + 1;
           first = v.ends.first;
@@ -389,7 +385,7 @@ module _ (v : SimpleValue) (x : ℕ) (i : IsSimple v) (h : x < v.classes) where
         }) (raise v.decided (range v.ends.before v.ends.last))
         (cond (is_extreme v.reference v.ends.before v.ends.last x) (raise v.extremes v.ends.last) v.extremes))
         (f ++ (p ∷ z ∷ x ∷ [])) = record {
-          ends = ends_six _ _ _ _ _ _ _ _ _ _ (omega (
+          ends = five_same _ _ _ _ _ _ _ _ _ _ (omega (
             arith,
             ap (λ e. e.points) o.ends,
             length-append f (p ∷ z ∷ []),
@@ -431,7 +427,7 @@ module _ (v : SimpleValue) (x : ℕ) (i : IsSimple v) (h : x < v.classes) where
           before = v.ends.before;
           last = x;
         }) v.decided v.extremes) (f ++ (p ∷ x ∷ [])) = record {
-          ends = ends_six _ _ _ _ _ _ _ _ _ _ (omega (
+          ends = five_same _ _ _ _ _ _ _ _ _ _ (omega (
             arith,
             ap (λ e. e.points) o.ends,
             length-append f (p ∷ z ∷ []),

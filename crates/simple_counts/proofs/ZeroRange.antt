@@ -1,11 +1,10 @@
 -- No range is 0: the first place of the table of ranges holds nothing.
 use Rattle.std.proofs.Common.{◌≡◌, ◌≢◌, ℕ, ◌<◌, ◌≤◌, ◌⊎◌, inl, inr, List, set, get_or, ap, ◌∙◌, arith, get_or-set_other}
 use Rattle.std.proofs.lemmas.Bool.{cases_lt}
-use Rattle.turning_points.specs.Points.{IsBetween}
 use Rattle.turning_points.specs.Pairs.{range}
-use Rattle.turning_points.specs.EndPoints.{EndPoints, IsTurn, IsEnds, put}
+use Rattle.turning_points.specs.EndPoints.{EndPoints, IsEnds, put}
 use Rattle.turning_points.proofs.Put.{PutCase, at_none, at_equal, at_second, at_turn, at_passed}
-use Rattle.turning_points.proofs.PutEnds.{case_of, put_ends}
+use Rattle.turning_points.proofs.PutEnds.{case_of, put_ends, turn_differs, between_differs}
 use Rattle.turning_points.proofs.MeetEnds.{Left, left_zero, left_one, left_two, left_long, left_of}
 use Rattle.tables.specs.Tables.{lower}
 use Rattle.simple_counts.specs.Simple.{decide, decide_join}
@@ -14,12 +13,6 @@ use Rattle.simple_counts.proofs.Meets.{decide_join_zero, decide_join_one, decide
 
 pub range_positive : (a b : ℕ) → a ≢ b → 1 ≤ range a b
 range_positive a b n = grind arith
-
-turn_differs : (a b c : ℕ) → IsTurn a b c → a ≢ b
-turn_differs a b c t = grind arith
-
-between_differs : (a b c : ℕ) → IsBetween a b c → a ≢ c
-between_differs a b c t = grind arith
 
 -- a place above 0 was written
 pub zero_set : (t : List ℕ) (p v : ℕ) → 1 ≤ p → get_or t 0 0 ≡ 0 → get_or (set t p v) 0 0 ≡ 0

@@ -11,6 +11,7 @@ use Rattle.std.proofs.lemmas.Bool.Decides.{nat_tests}
 use Rattle.std.proofs.Math.ListN.{get_or-append}
 use Rattle.std.proofs.Math.Seq.{get_or-append_seam}
 use Rattle.std.specs.Prelude.{codes, IfOk}
+use Rattle.std.proofs.lemmas.List.{length_push}
 use Rattle.toml.specs.Data.{Data, Members, as_table, as_array, as_integer, get_member}
 use Rattle.calibration.specs.declared.gain.TheConstants.{MAX_NUM, MAX_DEN, MAX_OFFSET}
 use Rattle.site_config.specs.Keys.{gauge_key, detail_key, count_key, name_text}
@@ -81,10 +82,6 @@ many_names : (xs : List Gauge) → length (gauge_names xs) ≡ length xs
 many_names [] = refl
 many_names (x ∷ xs) = ap suc (many_names xs)
 
-one_longer : {X : Type 0} (xs : List X) (x : X) → length (xs ++ x ∷ []) ≡ length xs + 1
-one_longer [] x = refl
-one_longer (y ∷ xs) x = omega (arith, one_longer xs x)
-
 named_more : (xs : List Gauge) (y : Gauge) → AreNamed xs → is_name y.name ≡ true → place_of y.name (gauge_names xs) ≡ None →
     AreNamed (xs ++ y ∷ [])
 named_more xs y are name new = record { names = names; differ = differ }
@@ -94,7 +91,7 @@ named_more xs y are name new = record { names = names; differ = differ }
 
     last : (g : ℕ) → length xs ≤ g → g < length (xs ++ y ∷ []) → get_or (xs ++ y ∷ []) g no_gauge ≡ y
     last g le lt =
-        let e : g ≡ length xs = omega (arith, lt, le, one_longer xs y) in
+        let e : g ≡ length xs = omega (arith, lt, le, length_push xs y) in
         subst (λ n. get_or (xs ++ y ∷ []) n no_gauge ≡ y) (sym e) (get_or-append_seam xs y [] no_gauge)
 
     names : (g : ℕ) → g < length (xs ++ y ∷ []) → is_name (get_or (xs ++ y ∷ []) g no_gauge).name ≡ true
@@ -109,7 +106,7 @@ named_more xs y are name new = record { names = names; differ = differ }
     differ g h less lt = by_case (cases_lt h (length xs))
       where
         under : g < length xs
-        under = omega (arith, less, lt, one_longer xs y)
+        under = omega (arith, less, lt, length_push xs y)
 
         by_case : (h < length xs) ⊎ (length xs ≤ h) → (get_or (xs ++ y ∷ []) g no_gauge).name ≢ (get_or (xs ++ y ∷ []) h no_gauge).name
         by_case (inl in_front) = subst (λ x. (get_or (xs ++ y ∷ []) g no_gauge).name ≢ x.name) (sym (before h in_front))
@@ -167,8 +164,8 @@ gauges_read before (value ∷ values) g named same e =
     let is = gauge_read before.names value first.value first.first in
     let more = named_more before.names first.value.0 named is.name is.new in
     let rest = gauges_read (record { names = before.names ++ first.value.0 ∷ []; gains = before.gains ++ first.value.1 ∷ [] }) values g more
-    (one_longer before.gains first.value.1 ∙ (ap (λ n. n + 1) same ∙ sym (one_longer before.names first.value.0))) first.second in
-    record { named = rest.named; gains = rest.gains; many = omega (arith, rest.many, one_longer before.names first.value.0) }
+    (length_push before.gains first.value.1 ∙ (ap (λ n. n + 1) same ∙ sym (length_push before.names first.value.0))) first.second in
+    record { named = rest.named; gains = rest.gains; many = omega (arith, rest.many, length_push before.names first.value.0) }
 
 items_within : (part : Part) (low high : ℕ) (value : Data) (ds : List Data) → items_in part low high value ≡ Ok ds →
     (low ≤ length ds) × (length ds ≤ high)
@@ -254,7 +251,7 @@ on_more gauges ds x are is = record { each = each }
         by_case (inl less) = subst (λ (y : NamedDetail). IsReadDetail gauges y) (sym (get_or-append ds (x ∷ []) any d less))
             (are.each d any less)
         by_case (inr le) =
-            let e : d ≡ length ds = omega (arith, lt, le, one_longer ds x) in
+            let e : d ≡ length ds = omega (arith, lt, le, length_push ds x) in
             subst (λ n. IsReadDetail gauges (get_or (ds ++ x ∷ []) n any)) (sym e)
             (subst (λ (y : NamedDetail). IsReadDetail gauges y) (sym (get_or-append_seam ds x [] any)) is)
 
@@ -266,7 +263,7 @@ details_read gauges before (value ∷ values) ds are e =
     let first = both_ok (detail_in gauges before value) _ ds e in
     let more = on_more (length gauges) before first.value are (detail_read gauges before value first.value first.first) in
     let rest = details_read gauges (before ++ first.value ∷ []) values ds more first.second in
-    (rest.0, omega (arith, rest.1, one_longer before first.value))
+    (rest.0, omega (arith, rest.1, length_push before first.value))
 
 record AreDetails (gauges : ℕ) (ds : List NamedDetail) : Type 0 where
   are_on : AreOn gauges ds

@@ -2,8 +2,8 @@
 --   lane_after     how it stands to its recording
 --   faulty_after   a read fault has raised its source's count
 --   reached        where the rounds so far have brought it
-use Rattle.std.proofs.Common.{◌≡◌, ◌≢◌, ◌≤◌, ◌<◌, ◌⊎◌, inl, inr, ⊎_elim, ℕ, ◌+◌, ◌-◌, ◌*◌, min, ℤ, List, length, drop, refl, sym, ◌∙◌, ap, subst, arith}
-use Rattle.std.specs.Prelude.{nat_le, nat_lt, ◌==◌, if◌then◌else◌, Option, Some, None}
+use Rattle.std.proofs.Common.{◌≡◌, ◌≢◌, ◌≤◌, ◌<◌, ⊎_elim, ℕ, ◌+◌, ◌-◌, ◌*◌, min, ℤ, List, length, drop, refl, sym, ◌∙◌, ap, subst, arith}
+use Rattle.std.specs.Prelude.{nat_le, nat_lt, ◌==◌, if◌then◌else◌}
 use Rattle.std.proofs.lemmas.Bool.Decides.{nat_tests}
 use Rattle.std.proofs.lemmas.List.{length-drop, drop-drop}
 use Rattle.outside.specs.Fault.{Rose}
@@ -13,17 +13,12 @@ use Rattle.recording.proofs.SampleLists.{length-samples, samples-drop, torn_byte
 use Rattle.lane_ends.specs.declared.end.End.{End}
 use Rattle.lane_ends.specs.declared.end.End.TheVariants.{More, Ended, Torn, ReadFault, TooLong}
 use Rattle.lane_ends.specs.Ends.{Gives}
+use Rattle.lane_ends.proofs.Giving.{more_or_not}
 use Rattle.lane_loans.specs.declared.lane.Lane.{Lane}
 use Rattle.round_making.specs.Round.{LaneDone}
 use Rattle.recorded.specs.Recorded.{Recorded}
 use Rattle.site_lanes.specs.Lanes.{Stood, IsLane, IsFaulty}
-
-pub more_or_not : (e : End) → (e ≡ More) ⊎ (e ≢ More)
-more_or_not More = inl refl
-more_or_not Ended = inr (λ e. absurd cc)
-more_or_not (Torn b) = inr (λ e. absurd cc)
-more_or_not ReadFault = inr (λ e. absurd cc)
-more_or_not TooLong = inr (λ e. absurd cc)
+use Rattle.lemmas.proofs.Outcomes.{same_some}
 
 -- the rule of how a lane ends, over plain numbers
 abbrev end_by : ℕ → ℕ → ℕ → ℕ → End
@@ -87,13 +82,6 @@ module _ (block : ℕ) (w : List ℤ) (torn : ℕ) (before after : List ℕ) (fr
 
   within_after : {end : End} → Gives (16 * block) (MAX_SAMPLES - from) before (to - from) end after → to ≤ length w
   within_after gives = omega (arith, gives.few.2, there, le, on)
-
-abbrev some_of : {A : Type 0} → A → Option A → A
-some_of d None = d
-some_of d (Some x) = x
-
-pub same_some : {A : Type 0} {o : Option A} {a b : A} → o ≡ Some a → o ≡ Some b → a ≡ b
-same_some {A} {o} {a} {b} is also = ap (some_of a) (sym is ∙ also)
 
 stood_same : (w : List ℤ) (torn : ℕ) {left left2 : List ℕ} {at at2 : ℕ} {end end2 : End} → left2 ≡ left → at2 ≡ at → end2 ≡ end
     → Stood w torn left at end → Stood w torn left2 at2 end2

@@ -1,5 +1,4 @@
 pub mod AfterRound
 pub mod AllLanes
-mod Opened
+pub mod Opened
 pub mod Places
-pub mod Rising

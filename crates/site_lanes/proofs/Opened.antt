@@ -1,5 +1,5 @@
 -- A source behind so many samples of its recording, and the recordings of all gauges.
-use Rattle.std.proofs.Common.{◌≡◌, ◌≤◌, ◌<◌, ◌+◌, ℕ, List, inl, inr, length, slice_index_or, refl, sym, ◌∙◌, ap, subst, arith}
+use Rattle.std.proofs.Common.{◌≡◌, ◌≤◌, ◌<◌, ◌+◌, ℕ, List, inl, inr, length, slice_index_or, refl, sym, ◌∙◌, ap, subst, arith, []}
 use Rattle.std.proofs.lemmas.Bool.{cases_lt}
 use Rattle.std.proofs.lemmas.List.{get_or_default}
 use Rattle.std.specs.Prelude.{nat_le, ◌==◌, if◌then◌else◌, Option, Some, None, Err}
@@ -17,9 +17,10 @@ use Rattle.status.specs.declared.status.RecordingFault.{RecordingFault}
 use Rattle.status.specs.declared.status.Status.{Status}
 use Rattle.status.specs.declared.status.Status.TheVariants as status
 use Rattle.site_lanes.specs.Answers.{FaultOf, GaugeAnswers, AllOpened, OpenAnswers}
-use Rattle.site_lanes.specs.Opening.{fault_of, IsBehind, Judged, status_of}
+use Rattle.site_lanes.specs.Opening.{fault_of, IsBehind, IsOpeningAnswer, status_of, fault_by}
 use Rattle.site_lanes.specs.declared.opening.OpenFault.{OpenFault}
 use Rattle.site_lanes.specs.declared.opening.OpenFault.TheVariants.{Recording, ReadFault}
+use Rattle.lemmas.proofs.Outcomes.{same_some}
 
 enough : (n len part : ℕ) → More ≡ (if nat_le n len then More else (if part == 0 then Ended else Torn part)) → n ≤ len
 enough n len part is = grind (arith, nat_tests)
@@ -42,19 +43,19 @@ module _ (conf : Config) (heads : List Head) (n : ℕ → ℕ) (files : Files) (
     (held : k ≡ n g) where
   pub gauge_fault : (fault : Option RecordingFault) → fault_of (slice_index_or heads2 g here) k file ≡ fault
       → FaultOf conf heads n files g fault
-  gauge_fault fault judged = (
+  gauge_fault fault opened = (
     file,
     ap files same ∙ is,
     λ d. ap (λ (h : Head). fault_of h (n g) file) (get_or_default heads g d here lt
         ∙ ap (λ (l : List Head). slice_index_or l g here) (sym kept))
-        ∙ ap (λ (m : ℕ). fault_of (slice_index_or heads2 g here) m file) (sym held) ∙ judged,
+        ∙ ap (λ (m : ℕ). fault_of (slice_index_or heads2 g here) m file) (sym held) ∙ opened,
   )
 
   pub gauge_refused : (A : Type 0) (fault : OpenFault) (s : Status) → s ≡ status_of g fault
-      → Judged (fault_of (slice_index_or heads2 g here) k file) (Err fault) → GaugeAnswers {A = A} conf heads n files g (Err s)
-  gauge_refused A (Recording f) s is_status judged =
-      subst (λ (x : Status). GaugeAnswers {A = A} conf heads n files g (Err x)) (sym is_status) (refl, gauge_fault (Some f) judged)
-  gauge_refused A ReadFault s is_status judged =
+      → IsOpeningAnswer (fault_of (slice_index_or heads2 g here) k file) (Err fault) → GaugeAnswers {A = A} conf heads n files g (Err s)
+  gauge_refused A (Recording f) s is_status opened =
+      subst (λ (x : Status). GaugeAnswers {A = A} conf heads n files g (Err x)) (sym is_status) (refl, gauge_fault (Some f) opened)
+  gauge_refused A ReadFault s is_status opened =
       subst (λ (x : Status). GaugeAnswers {A = A} conf heads n files g (Err x)) (sym is_status) tt
 
 -- of all gauges, where those below are sound
@@ -83,3 +84,18 @@ all_more_opened c heads n files k below here g lt = elim (cases_lt g k) [
   | inl within ↦ below g within
   | inr past ↦ subst (λ (h : ℕ). FaultOf c heads n files h None) (let e : k ≡ g = omega (arith, past, lt) in e) here
 ]
+
+pub fault_by-none : (o : Option RecordingFault) (held there : ℕ) → o ≡ None → held ≤ there → fault_by o held there ≡ None
+fault_by-none (Some f) held there e le = absurd cc
+fault_by-none None held there e le = grind (arith, nat_tests)
+
+-- a recording is not at once sound and refused
+pub not_both : (c : Config) (heads : List Head) (n : ℕ → ℕ) (files : Files) (g : ℕ) (f : RecordingFault) → FaultOf c heads n files g None
+    → FaultOf c heads n files g (Some f) → ⊥
+not_both c heads n files g f sound faulty =
+    let any : Head = record { id = []; period_us = 0 } in
+    let same : sound.0 ≡ faulty.0 = same_some sound.1 faulty.1 in
+    clash f (sym (sound.2 any) ∙ (ap (fault_of (slice_index_or heads g any) (n g)) same ∙ faulty.2 any))
+  where
+    clash : (f : RecordingFault) → None ≡ Some f → ⊥
+    clash f e = cc

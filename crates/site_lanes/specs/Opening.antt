@@ -1,8 +1,8 @@
 -- What is wrong with a recording before it is counted, and where its source stands once it is opened.
---   head_fault   the first thing wrong with its head, where the store was made for a recording with that one
---   fault_of     the first thing wrong with it, where so many samples are held of it
---   Judged       what opening it answers
---   IsBehind     the source stands behind what is held
+--   head_fault       the first thing wrong with its head, where the store was made for a recording with that one
+--   fault_of         the first thing wrong with it, where so many samples are held of it
+--   IsOpeningAnswer  what opening it answers
+--   IsBehind         the source stands behind what is held
 use Rattle.std.specs.Prelude.{◌≡◌, ◌≤◌, ℕ, nat_lt, nat_eq, ◌==◌, not, if◌then◌else◌, List, length, drop, Option, Some, None, Result, Ok, Err}
 use Rattle.std.specs.Cmp.Lexicographic.{pointwise}
 use Rattle.recording.specs.Samples.{samples, torn_bytes}
@@ -46,10 +46,10 @@ open_fault head.NotZero = Recording NotZero
 open_fault head.ReadFault = ReadFault
 
 -- a recording is refused for its first fault, and is opened only where it has none
-abbrev pub Judged : Option RecordingFault → Result (Unit {0}) OpenFault → Type 0
-Judged first (Ok u) = first ≡ None
-Judged first (Err (Recording fault)) = first ≡ Some fault
-Judged first (Err ReadFault) = Unit {0}
+abbrev pub IsOpeningAnswer : Option RecordingFault → Result (Unit {0}) OpenFault → Type 0
+IsOpeningAnswer first (Ok u) = first ≡ None
+IsOpeningAnswer first (Err (Recording fault)) = first ≡ Some fault
+IsOpeningAnswer first (Err ReadFault) = Unit {0}
 
 -- so many samples of a body are behind a source
 pub record IsBehind (n : ℕ) (body left : List ℕ) : Type 0 where

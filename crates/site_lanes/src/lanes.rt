@@ -27,6 +27,7 @@ ghost use Rattle.site_lanes.specs.Lanes.{IsLane, AreLanes, AreHeldTo, HasSource,
 ghost use Rattle.site_lanes.specs.Answers.{IsOpening, GaugeAnswers, OpenAnswers};
 ghost use Rattle.site_lanes.specs.Opening.{status_of};
 ghost use Rattle.status.specs.declared.status.Status.TheVariants.{ReadFault};
+ghost use Rattle.outside.specs.declared.site.TheConstants.{MAX_SOURCES_OUT};
 
 use crate::opening::{OpenFault, open_recording};
 use count_workers::{End, Lane};
@@ -55,7 +56,7 @@ fn open_lane<T: Site>(
     requires known { gauge < length conf.now.gauges }
     requires held { length store.now.held ≡ length conf.now.gauges }
     requires heads { length store.now.head.heads ≡ length conf.now.gauges }
-    requires few { T.out site.old < 64 }
+    requires few { T.out site.old < MAX_SOURCES_OUT }
     ensures lane { T.tells → IfOk result (IsLane T.Src.tells T.Src.left
         (recorded conf.now (T.files site.old)) gauge) }
     ensures held { IfOk result (λ l. CanRound gauge l

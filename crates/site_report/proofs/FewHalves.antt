@@ -7,27 +7,20 @@ use Rattle.std.proofs.lemmas.List.Sums.{sum_by-cons}
 use Rattle.turning_points.specs.Pairs.{Pair, is_pair}
 use Rattle.three_point.specs.Run.{half_units_at_range}
 use Rattle.three_point.specs.Sums.{sum_at_range}
-use Rattle.three_point.proofs.Sums.{sum_at_range-added}
+use Rattle.three_point.proofs.Sums.{sum_at_range-added, sum_at_range-le, sum_at_range-zero, sum_at_range-doubled}
 use Rattle.tally.specs.declared.cells.Cell.{Cell}
 use Rattle.tally.specs.Counts.{count_of, pair_of, total_of}
 use Rattle.residue_join.specs.HalfUnits.{neighbours}
 use Rattle.segment.specs.Segment.{SegmentValue, IsSegment}
 use Rattle.segment.specs.Figures.{halves_of}
 use Rattle.segment.proofs.HalfUnits.{range_parts}
-
--- the sum of so many places from one on
-abbrev sum_from : (ℕ → ℕ) → ℕ → ℕ → ℕ
-sum_from f a zero = 0
-sum_from f a (suc n) = f a + sum_from f (a + 1) n
+use Rattle.segment.proofs.TableSums.{sum_from, sum_both, sum_zero}
+use Rattle.report.proofs.SegmentFigures.{picked, valley_few}
 
 sum_up : (f g : ℕ → ℕ) (a n : ℕ) → ((k : ℕ) → a ≤ k → k < a + n → f k ≤ g k) → sum_from f a n ≤ sum_from g a n
 sum_up f g a zero h = omega arith
 sum_up f g a (suc n) h =
     omega (arith, h a (omega arith) (omega arith), sum_up f g (a + 1) n (λ k from to. h k (omega (arith, from)) (omega (arith, to))))
-
-sum_added : (f g : ℕ → ℕ) (a n : ℕ) → sum_from (λ k. f k + g k) a n ≡ sum_from f a n + sum_from g a n
-sum_added f g a zero = refl
-sum_added f g a (suc n) = omega (arith, sum_added f g (a + 1) n)
 
 once_step : (a r h : ℕ) → (if a == r then h else 0) + (if nat_lt r (a + 1) then 0 else h) ≤ (if nat_lt r a then 0 else h)
 once_step a r h = grind (arith, nat_tests)
@@ -36,14 +29,6 @@ once_step a r h = grind (arith, nat_tests)
 sum_once : (r h a n : ℕ) → sum_from (λ k. if k == r then h else 0) a n ≤ (if nat_lt r a then 0 else h)
 sum_once r h a zero = grind (arith, nat_tests)
 sum_once r h a (suc n) = omega (arith, sum_once r h (a + 1) n, once_step a r h)
-
-at_most : (b : Bool) (h : ℕ) → (if b then 0 else h) ≤ h
-at_most true h = omega arith
-at_most false h = omega arith
-
-sum_none : (a n : ℕ) → sum_from (λ k. 0) a n ≡ 0
-sum_none a zero = refl
-sum_none a (suc n) = omega (arith, sum_none (a + 1) n)
 
 -- the sum of a list by its places
 list_sum : (xs : List ℕ) (f : ℕ → ℕ) (a : ℕ) → ((i : ℕ) → i < length xs → get_or xs i 0 ≤ f (a + i)) → sum xs ≤ sum_from f a (length xs)
@@ -69,28 +54,12 @@ fewer true c h = omega arith
 fewer false true h = omega arith
 fewer false false h = omega arith
 
-sums_up : (f g : ℕ → ℕ → ℕ) (k n : ℕ) → ((lo hi : ℕ) → f lo hi ≤ g lo hi) → sum_at_range f k n ≤ sum_at_range g k n
-sums_up f g k zero h = omega arith
-sums_up f g k (suc n) h = omega (arith, sums_up f g k n h, h n (n + k))
-
-picked : (b : Bool) (n m : ℕ) → (if b then n else m) ≤ (if b then n else 0) + m
-picked true n m = omega arith
-picked false n m = omega arith
-
-none_at_range : (k n : ℕ) → sum_at_range (λ lo hi. 0) k n ≡ 0
-none_at_range k zero = refl
-none_at_range k (suc n) = omega (arith, none_at_range k n)
-
-doubled_at_range : (f : ℕ → ℕ → ℕ) (k n : ℕ) → sum_at_range (λ lo hi. 2 * f lo hi) k n ≡ 2 * sum_at_range f k n
-doubled_at_range f k zero = refl
-doubled_at_range f k (suc n) = omega (arith, doubled_at_range f k n)
-
 -- cells at a range: the first one, and the others
 cells_step : (c : Cell) (cells : List Cell) (k n : ℕ) → sum_at_range (count_of (c ∷ cells)) k n
     ≤ (if k == c.hi - c.lo then c.n else 0) + sum_at_range (count_of cells) k n
 cells_step c cells k n = omega (
   arith,
-  sums_up (count_of (c ∷ cells)) (λ lo hi. (if is_pair lo hi (pair_of c) then c.n else 0) + count_of cells lo hi) k n
+  sum_at_range-le (count_of (c ∷ cells)) (λ lo hi. (if is_pair lo hi (pair_of c) then c.n else 0) + count_of cells lo hi) k n
       (λ lo hi. picked (is_pair lo hi (pair_of c)) c.n (count_of cells lo hi)),
   sum_at_range-added (λ lo hi. if is_pair lo hi (pair_of c) then c.n else 0) (count_of cells) k n,
   one_pair k n c.n (pair_of c),
@@ -102,30 +71,30 @@ cells_few : (cells : List Cell) (n : ℕ → ℕ) (a m : ℕ) → sum_from (λ k
 cells_few [] n a m =
     omega (
       arith,
-      sum_up (λ k. sum_at_range (count_of []) k (n k)) (λ k. 0) a m (λ k from to. omega (arith, none_at_range k (n k))),
-      sum_none a m,
+      sum_up (λ k. sum_at_range (count_of []) k (n k)) (λ k. 0) a m (λ k from to. omega (arith, sum_at_range-zero k (n k))),
+      sum_zero a m,
     )
 cells_few (c ∷ cells) n a m = omega (
   arith,
   sum_up (λ k. sum_at_range (count_of (c ∷ cells)) k (n k)) (λ k. (if k == c.hi - c.lo then c.n else 0) + sum_at_range
       (count_of cells) k (n k)) a m
       (λ k from to. cells_step c cells k (n k)),
-  sum_added (λ k. if k == c.hi - c.lo then c.n else 0) (λ k. sum_at_range (count_of cells) k (n k)) a m,
+  sum_both (λ k. if k == c.hi - c.lo then c.n else 0) (λ k. sum_at_range (count_of cells) k (n k)) a m,
   sum_once (c.hi - c.lo) c.n a m,
-  at_most (nat_lt (c.hi - c.lo) a) c.n,
+  valley_few (nat_lt (c.hi - c.lo) a) c.n,
   cells_few cells n a m,
   sum_by-cons (λ (d : Cell). d.n) c cells,
 )
 
 -- and a residue has fewer neighbours than levels
 residue_few : (l : List ℕ) (a m : ℕ) → sum_from (λ k. half_units_at_range k (neighbours l)) a m ≤ length l
-residue_few [] a m = omega (arith, sum_none a m)
-residue_few (x ∷ []) a m = omega (arith, sum_none a m)
+residue_few [] a m = omega (arith, sum_zero a m)
+residue_few (x ∷ []) a m = omega (arith, sum_zero a m)
 residue_few (x ∷ y ∷ l) a m = omega (
   arith,
-  sum_added (λ k. if k == max x y - min x y then 1 else 0) (λ k. half_units_at_range k (neighbours (y ∷ l))) a m,
+  sum_both (λ k. if k == max x y - min x y then 1 else 0) (λ k. half_units_at_range k (neighbours (y ∷ l))) a m,
   sum_once (max x y - min x y) 1 a m,
-  at_most (nat_lt (max x y - min x y) a) 1,
+  valley_few (nat_lt (max x y - min x y) a) 1,
   residue_few (y ∷ l) a m,
 )
 
@@ -138,7 +107,7 @@ module _ (v : SegmentValue) (i : IsSegment v) (halves : List ℕ) (places : leng
   by_parts k inside = omega (
     arith,
     range_parts v k i.residue.within inside,
-    doubled_at_range (count_of v.tally.cells) k
+    sum_at_range-doubled (count_of v.tally.cells) k
         (v.grid.classes - k),
   )
 
@@ -150,7 +119,7 @@ module _ (v : SegmentValue) (i : IsSegment v) (halves : List ℕ) (places : leng
   parts_few : sum_from parts 0 (length halves) ≤ v.simple.ends.points
   parts_few = omega (
     arith,
-    sum_added (λ k. 2 * sum_at_range (count_of v.tally.cells) k (v.grid.classes - k))
+    sum_both (λ k. 2 * sum_at_range (count_of v.tally.cells) k (v.grid.classes - k))
         (λ k. half_units_at_range k (neighbours v.reducer.residue)) 0
         (length halves),
     doubled_sum 0 (length halves),

@@ -1,7 +1,7 @@
 -- A text that is printed piece by piece.
-use Rattle.std.proofs.Common.{◌≡◌, ◌<◌, ◌≤◌, ℕ, suc, ◌+◌, ◌-◌, List, [], ◌∷◌, ◌++◌, length, take, drop, get_or, min, true, refl, sym, ap, ◌∙◌, subst, arith, append_assoc}
-use Rattle.std.specs.Prelude.{slice_index_or, Result, Ok, Err, OnOk, OnErr}
-use Rattle.std.proofs.lemmas.List.{append-nil, at_drop_all, at_drop_more, get_or_default, take-append-le, take_min}
+use Rattle.std.proofs.Common.{◌≡◌, ◌<◌, ◌≤◌, ℕ, ◌+◌, ◌-◌, List, [], ◌∷◌, ◌++◌, length, take, drop, get_or, min, true, refl, sym, ap, ◌∙◌, subst, arith, append_assoc}
+use Rattle.std.specs.Prelude.{Result, Ok, Err, OnOk, OnErr}
+use Rattle.std.proofs.lemmas.List.{append-nil, at_drop_all, at_drop_more, take-append-le, take_min}
 use Rattle.std.proofs.lemmas.Bool.Decides.{nat_tests}
 use Rattle.std.proofs.Math.Seq.{take-append-add}
 use Rattle.outside.specs.Sink.{AppendsPrefix}
@@ -12,9 +12,9 @@ use Rattle.site_config.specs.declared.config.NamedDetail.{NamedDetail}
 use Rattle.calibration.specs.Grid.{GridValue}
 use Rattle.report.specs.Figures.{Figures}
 use Rattle.report.specs.Texts.{detail_text, gauge_text}
-use Rattle.site_config.specs.declared.config.Gauge.{Gauge}
+use Rattle.report.proofs.Written.{lines_from-first, lines_from-none}
 use Rattle.site_config.specs.Fields.{is_name}
-use Rattle.site_config.specs.Valid.{name_of, no_gauge}
+use Rattle.site_config.specs.Valid.{name_of}
 use Rattle.site_report.specs.Report.{IsPrinted, detail_line, detail_lines, text_of_gauge}
 
 pub printing_starts : (old whole : List ℕ) → IsPrinted old old whole whole
@@ -44,13 +44,6 @@ printed_front old now new whole piece rest p (j, is) =
           (append_assoc old p.front (take j piece) ∙ ap (λ l. old ++ l) (sym cut))),
     )
 
--- the next of some lines
-pub lines_next : (f : ℕ → List ℕ) (k n : ℕ) → k < n → lines_from f k (n - k) ≡ f k ++ lines_from f (k + 1) (n - (k + 1))
-lines_next f k n lt = let e : n - k ≡ suc (n - (k + 1)) = omega (arith, lt) in ap (λ m. lines_from f k m) e
-
-pub lines_none : (f : ℕ → List ℕ) (k n : ℕ) → n ≤ k → lines_from f k (n - k) ≡ []
-lines_none f k n le = let e : n - k ≡ 0 = omega (arith, le) in ap (λ m. lines_from f k m) e
-
 pub short_name : (name : List ℕ) → is_name name ≡ true → length name ≤ 32
 short_name name is = grind (arith, nat_tests, is)
 
@@ -76,21 +69,18 @@ lines_start f n old =
 pub lines_more : (f : ℕ → List ℕ) (k n : ℕ) (old now new whole : List ℕ) → k < n → IsPrinted old now whole (lines_from f k (n - k))
     → new ≡ now ++ f k → IsPrinted old new whole (lines_from f (k + 1) (n - (k + 1)))
 lines_more f k n old now new whole lt p e =
-    printed_more old now new whole (f k) (lines_from f (k + 1) (n - (k + 1))) (subst (IsPrinted old now whole) (lines_next f k n lt) p) e
+    printed_more old now new whole (f k) (lines_from f (k + 1) (n - (k + 1)))
+    (subst (IsPrinted old now whole) (lines_from-first f k n lt) p) e
 
 pub lines_front : (f : ℕ → List ℕ) (k n : ℕ) (old now new whole : List ℕ) → k < n → IsPrinted old now whole (lines_from f k (n - k))
     → AppendsPrefix now new (f k) → AppendsPrefix old new whole
 lines_front f k n old now new whole lt p e =
-    printed_front old now new whole (f k) (lines_from f (k + 1) (n - (k + 1))) (subst (IsPrinted old now whole) (lines_next f k n lt) p) e
+    printed_front old now new whole (f k) (lines_from f (k + 1) (n - (k + 1)))
+    (subst (IsPrinted old now whole) (lines_from-first f k n lt) p) e
 
 pub lines_whole : (f : ℕ → List ℕ) (k n : ℕ) (old now whole : List ℕ) → n ≤ k → IsPrinted old now whole (lines_from f k (n - k))
     → now ≡ old ++ whole
-lines_whole f k n old now whole le p = printed_whole old now whole (subst (IsPrinted old now whole) (lines_none f k n le) p)
-
-pub name_is : (c : Config) (g : ℕ) (gauges : List Gauge) (here : Gauge) (name : List ℕ) → g < length c.gauges → gauges ≡ c.gauges
-    → name ≡ (slice_index_or gauges g here).name → name_of c g ≡ name
-name_is c g gauges here name lt same is = ap (λ (x : Gauge). x.name) (get_or_default c.gauges g no_gauge here lt)
-    ∙ ap (λ (l : List Gauge). (slice_index_or l g here).name) (sym same) ∙ sym is
+lines_whole f k n old now whole le p = printed_whole old now whole (subst (IsPrinted old now whole) (lines_from-none f k n le) p)
 
 -- the text of a gauge, by the grid of its segment
 pub text_is : (c : Config) (figures : ℕ → Figures) (g : ℕ) (grid : GridValue) (name : List ℕ) → grid ≡ c.setup.grid → name_of c g ≡ name

@@ -2,6 +2,7 @@ ghost use Rattle.std.specs.Prelude.{◌≡◌, ◌<◌, ◌≤◌, ◌++◌, ℕ
 ghost use Rattle.outside.specs.Fault.{HasCause};
 ghost use Rattle.outside.specs.Sink.{AppendsPrefix};
 ghost use Rattle.miner.specs.declared.TheConstants.{MAX_HALF_CYCLES};
+ghost use Rattle.calibration.specs.declared.limits.TheConstants.{MAX_NAME_BYTES};
 ghost use Rattle.report.specs.Figures.{Agree, Figures, figures_of};
 ghost use Rattle.report.specs.Texts as texts;
 ghost use Rattle.segment.specs.Segment.{IsSegment};
@@ -48,7 +49,7 @@ fn print_gauge<O: Sink>(
     page: &mut Page,
     out: &mut O,
 ) -> Result<(), Failed>
-    requires name { length name.now ≤ 32 }
+    requires name { length name.now ≤ MAX_NAME_BYTES }
     requires classes { seg.now.grid.classes ≤ page.old.classes }
     ensures ok { O.tells → (figures : Figures) → Agree seg.now.grid (figures_of seg.now) figures →
         OnOk result (O.written out.new ≡

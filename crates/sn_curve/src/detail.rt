@@ -50,7 +50,8 @@ impl Model for Detail {
 
     ghost view = { λ d. record { kind = d.kind; category = d.category; gamma = d.gamma } };
 
-    ghost invariant = { λ d. IsDetail (record { kind = d.kind; category = d.category; gamma = d.gamma }) };
+    ghost invariant = { λ d.
+        IsDetail (record { kind = d.kind; category = d.category; gamma = d.gamma }) };
 
     ghost inverse = { λ v. record { kind = v.kind; category = v.category; gamma = v.gamma } };
 }
@@ -78,6 +79,7 @@ impl Detail {
         })
     }
 
+    /// Whether it is a detail under direct stresses or under shear stresses.
     pub fn kind(&self) -> Kind
         ensures value { result ≡ self.now.kind }
         ensures limits { IsDetail self.now }

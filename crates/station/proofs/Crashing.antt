@@ -1,32 +1,23 @@
 -- A call replayed on two buffers follows the disk.
-use Rattle.std.proofs.Common.{◌≡◌, ◌≤◌, ℕ, zero, suc, ◌+◌, Bool, true, ◌&&◌, nat_le, List, [], ◌∷◌, ◌++◌, length, take, drop, refl, sym, ◌∙◌, ap, subst, arith, rules}
-use Rattle.std.proofs.lemmas.Bool.Decides.{nat_tests}
+use Rattle.std.proofs.Common.{◌≡◌, ◌≤◌, ℕ, zero, suc, ◌+◌, Bool, true, ◌&&◌, List, [], ◌∷◌, ◌++◌, length, take, drop, refl, sym, ◌∙◌, ap, subst, rules}
+use Rattle.std.proofs.lemmas.Bool.{and_parts, leb-true}
 use Rattle.station.specs.declared.call.Call.{Call}
 use Rattle.station.specs.declared.call.Call.TheVariants.{Other, Write, Sync, Tell}
 use Rattle.station.specs.Station.{Image}
 use Rattle.station.specs.Calls.{Disk, disk_after, have_no_gap, DiskMayLeave}
 use Rattle.station.specs.Replay.{IsPlaced, Replays}
 
-and_left : (a b : Bool) → (a && b) ≡ true → a ≡ true
-and_left a b h = search rules
-
-and_right : (a b : Bool) → (a && b) ≡ true → b ≡ true
-and_right a b h = search rules
-
-is_le : (m n : ℕ) → nat_le m n ≡ true → m ≤ n
-is_le m n h = grind (arith, nat_tests)
-
 pub placed_head : (call : Call) (rest : List Call) (disk : Disk) (content : Image) → content ≡ disk.seen
     → have_no_gap disk (call ∷ rest) ≡ true → IsPlaced content call
 placed_head Other rest disk content is placed = tt
-placed_head (Write at bytes) rest disk content is placed = subst (λ l. at ≤ length l) (sym is) (is_le _ _ (and_left _ _ placed))
+placed_head (Write at bytes) rest disk content is placed = subst (λ l. at ≤ length l) (sym is) (leb-true _ _ (and_parts _ _ placed).0)
 placed_head Sync rest disk content is placed = tt
 placed_head (Tell line) rest disk content is placed = tt
 
 pub placed_tail : (call : Call) (rest : List Call) (disk : Disk) → have_no_gap disk (call ∷ rest) ≡ true
     → have_no_gap (disk_after disk call) rest ≡ true
 placed_tail Other rest disk placed = placed
-placed_tail (Write at bytes) rest disk placed = and_right _ _ placed
+placed_tail (Write at bytes) rest disk placed = (and_parts _ _ placed).1
 placed_tail Sync rest disk placed = placed
 placed_tail (Tell line) rest disk placed = placed
 

@@ -6,6 +6,7 @@ use Rattle.station.specs.declared.call.Call.TheVariants.{Other, Write, Sync, Tel
 use Rattle.station.specs.Station.{Image, Lines, IsTornWrite}
 use Rattle.station.specs.Moments.{may_leave-seen}
 use Rattle.station.specs.Calls.{Disk, Past, fresh_disk, disk_after, disk_of, lines_of, bytes_of, have_no_gap, DiskMayLeave, MayLeave, HadMoment, Passes, Pushed}
+use Rattle.station.proofs.Moments.{same_torn}
 
 abbrev pub past : Image → List Call → Past
 past image calls = record { image = image; calls = calls }
@@ -147,10 +148,6 @@ pub none_new_sync : (r : Bool) (image : Image) (calls later : List Call) → hav
 none_new_sync true image calls later placed is c has =
     subst (λ f. MayLeave (past image calls) f) (sym (images_at image calls later Sync is c has)) (may_leave-seen (past image calls) placed)
 none_new_sync false image calls later placed is c has = subst (λ l. MayLeave (past image l) c) is has
-
--- nothing torn is a write torn
-same_torn : (at n : ℕ) (c : Image) → IsTornWrite at n c c
-same_torn at n c = record { before = refl; after = refl; no_shorter = omega arith; no_longer = omega arith }
 
 pub follows_write : (r : Bool) (image : Image) (calls later : List Call) (at : ℕ) (copy : Vec ℕ Global)
     → Pushed r calls later (Write at copy) → (c : Image) → MayLeave (past image later) c → (d : Image) × MayLeave (past image calls) d

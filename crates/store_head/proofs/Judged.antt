@@ -7,7 +7,8 @@ use Rattle.std.proofs.lemmas.Bool.Decides.{nat_tests, Decides-int_eq}
 use Rattle.std.proofs.lemmas.Int.{of_z-to_z, to_z-of_z, to_z_pos}
 use Rattle.std.proofs.lemmas.Nat.{mul-le, be_bytes_2, be_bytes_4, be_bytes_8, from_be_bytes-to_be_bytes_2, from_be_bytes-to_be_bytes_4, from_be_bytes-to_be_bytes_8}
 use Rattle.std.proofs.lemmas.List.{take_at, drop_at, drop_more, drop-drop, length-take, length-drop, append-nil, nil_from_length, get_or-drop, get_or-take, get_or_past}
-use Rattle.std.proofs.lemmas.Bool.{cases_lt}
+use Rattle.std.proofs.lemmas.Bool.{cases_lt, and_parts, leb-true, le-leb, eqb-true}
+use Rattle.std.proofs.lemmas.List.Folds.{drop_split}
 use Rattle.calibration.specs.Gain.{GainValue, IsGain}
 use Rattle.calibration.specs.Grid.{GridValue, IsGrid}
 use Rattle.segment_bytes.specs.declared.layout.Layout.{Layout}
@@ -79,26 +80,7 @@ same_number : (field : Field) (a b : ℕ) → differs field (pos a) (pos b) ≡ 
 unfolding value_of
 same_number field a b e = ap value_of (same_of field (pos a) (pos b) e)
 
-same : (a b : ℕ) → eqb a b ≡ true → a ≡ b
-same a b e = grind (arith, nat_tests)
-
-atmost : (a b : ℕ) → leb a b ≡ true → a ≤ b
-atmost a b e = grind (arith, nat_tests)
-
-pub atmost_true : (a b : ℕ) → a ≤ b → leb a b ≡ true
-atmost_true a b e = grind (arith, nat_tests)
-
-both_true : (a b : Bool) → (a && b) ≡ true → (a ≡ true) × (b ≡ true)
-both_true true b e = (refl, e)
-both_true false b e = absurd cc
-
 -- ---- one field after the other
-
-cut : (s : List ℕ) (i n : ℕ) → drop i s ≡ slice_range s i (i + n) ++ drop (i + n) s
-cut s i n =
-    let e : i + n - i ≡ n = omega arith in
-    sym (take-append-drop n (drop i s)) ∙ ap (λ (l : List ℕ). take n (drop i s) ++ l) (drop-drop n i s)
-    ∙ ap (λ k. take k (drop i s) ++ drop (i + n) s) (sym e)
 
 pub slice_long : (s : List ℕ) (i n : ℕ) → i + n ≤ length s → length (slice_range s i (i + n)) ≡ n
 slice_long s i n le = omega (arith, length-take (i + n - i) (drop i s), length-drop i s)
@@ -111,11 +93,11 @@ slice_fits s i j h k =
     ]
 
 step16 : (b : List ℕ) (at n : ℕ) → at + 2 ≤ length b → IsBytes b → number w16 at b ≡ n → drop at b ≡ to_be_bytes w16 n ++ drop (at + 2) b
-step16 b at n le fits e = cut b at 2 ∙ ap (λ (l : List ℕ). l ++ drop (at + 2) b)
+step16 b at n le fits e = drop_split b at (at + 2) (omega arith) ∙ ap (λ (l : List ℕ). l ++ drop (at + 2) b)
     (sym (be_bytes_2 (slice_range b at (at + 2)) n (slice_long b at 2 le) (slice_fits b at (at + 2) fits) (sym e)))
 
 step32 : (b : List ℕ) (at n : ℕ) → at + 4 ≤ length b → IsBytes b → number w32 at b ≡ n → drop at b ≡ to_be_bytes w32 n ++ drop (at + 4) b
-step32 b at n le fits e = cut b at 4 ∙ ap (λ (l : List ℕ). l ++ drop (at + 4) b)
+step32 b at n le fits e = drop_split b at (at + 4) (omega arith) ∙ ap (λ (l : List ℕ). l ++ drop (at + 4) b)
     (sym (be_bytes_4 (slice_range b at (at + 4)) n (slice_long b at 4 le) (slice_fits b at (at + 4) fits) (sym e)))
 
 below64 : (bytes : List ℕ) → IsBytes bytes → from_be_bytes w64 bytes < 2 ^ 64
@@ -127,11 +109,11 @@ step64 b at z le fits e =
     let s = slice_range b at (at + 8) in
     let n : cast_unsigned w64 z ≡ from_be_bytes w64 s = ap (cast_unsigned w64) (sym e)
     ∙ of_z-to_z w64 (from_be_bytes w64 s) (below64 s (slice_fits b at (at + 8) fits)) in
-    cut b at 8 ∙ ap (λ (l : List ℕ). l ++ drop (at + 8) b)
+    drop_split b at (at + 8) (omega arith) ∙ ap (λ (l : List ℕ). l ++ drop (at + 8) b)
     (sym (be_bytes_8 s (cast_unsigned w64 z) (slice_long b at 8 le) (slice_fits b at (at + 8) fits) n))
 
 step1 : (b : List ℕ) (at n : ℕ) → at < length b → eqb (get_or b at 0) n ≡ true → drop at b ≡ n ∷ drop (at + 1) b
-step1 b at n lt e = drop_more b at 0 lt ∙ ap (λ (x : ℕ). x ∷ drop (at + 1) b) (same _ _ e)
+step1 b at n lt e = drop_more b at 0 lt ∙ ap (λ (x : ℕ). x ∷ drop (at + 1) b) (eqb-true _ _ e)
 
 ends_here : (b : List ℕ) (n : ℕ) (l : List ℕ) → length b ≡ n → l ++ drop n b ≡ l
 ends_here b n l e = ap (λ (r : List ℕ). l ++ r) (nil_from_length (drop n b) (omega (arith, e, length-drop n b))) ∙ append-nil l
@@ -172,10 +154,10 @@ front_is s size b long fits none =
     let c = or_none _ _ z.1 in
     let w = or_none _ _ c.1 in
     let l = or_none _ _ w.1 in
-    let magic = both_true _ _ (unless_none _ _ a.0) in
-    let m = both_true _ _ magic.1 in
-    let m1 = both_true _ _ m.0 in
-    let m2 = both_true _ _ m.1 in
+    let magic = and_parts _ _ (unless_none _ _ a.0) in
+    let m = and_parts _ _ magic.1 in
+    let m1 = and_parts _ _ m.0 in
+    let m2 = and_parts _ _ m.1 in
     let d20 : drop 20 b ≡ to_be_bytes w16 s.grid.reference =
     step16 b 20 s.grid.reference (omega (arith, long)) fits (same_number _ _ _ l.1)
     ∙ ends_here b 22 (to_be_bytes w16 s.grid.reference) long in
@@ -189,24 +171,20 @@ front_is s size b long fits none =
     ∙ ap (λ (r : List ℕ). to_be_bytes w16 (length s.gains) ++ r) d8 in
     let v5 = version_of (layout_of (get_or b 5 0)) in
     let d5 = step1 b 5 v5 (omega (arith, long)) (version_back (get_or b 5 0) (unless_none _ _ v.0)) ∙ ap (λ (r : List ℕ). v5 ∷ r) d6 in
-    let whole = both_true _ _ (unless_none _ _ z.0) in
+    let whole = and_parts _ _ (unless_none _ _ z.0) in
     let d4 = step1 b 4 84 (omega (arith, long)) m2.1 ∙ ap (λ (r : List ℕ). 84 ∷ r) d5 in
     let d3 = step1 b 3 83 (omega (arith, long)) m2.0 ∙ ap (λ (r : List ℕ). 83 ∷ r) d4 in
     let d2 = step1 b 2 71 (omega (arith, long)) m1.1 ∙ ap (λ (r : List ℕ). 71 ∷ r) d3 in
     let d1 = step1 b 1 83 (omega (arith, long)) m1.0 ∙ ap (λ (r : List ℕ). 83 ∷ r) d2 in
     let d0 = step1 b 0 1 (omega (arith, long)) magic.0 ∙ ap (λ (r : List ℕ). 1 ∷ r) d1 in (
       d0,
-      atmost _ _ whole.0,
+      leb-true _ _ whole.0,
       λ one. narrow_is (eqb (get_or b 5 0) 1) (number w16 8 b) s.grid.classes whole.1 (one_back (get_or b 5 0) one)
           (same_number _ _ _ c.0),
     )
 
 small_signed : (z : ℤ) → unsigned_abs z ≤ 1000000000 → cast_signed w64 (cast_unsigned w64 z) ≡ z
-small_signed z h = to_z-of_z w64 z (by z h)
-  where
-    by : (z : ℤ) → unsigned_abs z ≤ 1000000000 → FitsSigned w64 z
-    by (pos n) h = omega (arith, h)
-    by (negsuc n) h = omega (arith, h)
+small_signed z h = to_z-of_z w64 z (small_fits z h)
 
 below_signed : (z : ℤ) → unsigned_abs z ≤ 1000000000 → cast_unsigned w64 z < 2 ^ 64
 below_signed (pos n) h = omega (arith, h)
@@ -228,8 +206,8 @@ whole_true l gauges size classes le k narrow = ap (λ n. leb (23 + 40 * gauges) 
     below n h = grind (arith, nat_tests)
 
     by : (l : Layout) → (l ≡ One → classes ≤ 128) → (leb (23 + 40 * gauges) size && not (eqb (version_of l) 1 && ltb 128 classes)) ≡ true
-    by One h = ap (λ b. leb (23 + 40 * gauges) size && not b) (below classes (h refl)) ∙ ap (λ b. b && true) (atmost_true _ _ le)
-    by Two h = ap (λ b. b && true) (atmost_true _ _ le)
+    by One h = ap (λ b. leb (23 + 40 * gauges) size && not b) (below classes (h refl)) ∙ ap (λ b. b && true) (le-leb _ _ le)
+    by Two h = ap (λ b. b && true) (le-leb _ _ le)
 
 pub is_front : (l : Layout) (s : Setup) (size : ℕ) → IsSetup s → (l ≡ One → s.grid.classes ≤ 128) → 23 + 40 * length s.gains ≤ size
     → front_fault s size (front l s) ≡ None

@@ -3,13 +3,14 @@ use Rattle.std.proofs.Common.{◌≡◌, ℕ, ◌+◌, ◌-◌, ◌*◌, ◌<◌
 use Rattle.std.specs.Prelude.{All}
 use Rattle.std.proofs.lemmas.List.{take_at, drop_at}
 use Rattle.std.proofs.lemmas.List.Elements.{All-head, All-tail}
+use Rattle.std.proofs.lemmas.Bool.{le-leb}
 use Rattle.calibration.specs.Gain.{GainValue, IsGain}
 use Rattle.recording.specs.declared.head.Head.{Head}
 use Rattle.segment_bytes.specs.declared.layout.Layout.{Layout}
 use Rattle.segment_bytes.specs.declared.layout.Layout.TheVariants.{One, Two}
 use Rattle.store_head.specs.Head.{HeadValue, IsHead, IsRecorded, version_of, front, numbers, gauge, gauges, head_of, start_of}
 use Rattle.store_head.specs.Judging.{or_else, unless, front_fault, gauge_fault, gauge_at, gauges_fault, head_fault, layout_in, recorded}
-use Rattle.store_head.proofs.Judged.{none_or, none_unless, atmost_true, is_front, is_gauge}
+use Rattle.store_head.proofs.Judged.{none_or, none_unless, is_front, is_gauge}
 use Rattle.store_head.proofs.Gauges.{slice_range-middle}
 
 gauge_long : (h : Head) (x : GainValue) → IsRecorded h → length (gauge h x) ≡ 40
@@ -69,7 +70,7 @@ no_fault h rest image is whole some =
     let size : 23 + 40 * length s.gains ≤ length image = omega (arith, ap length whole, length-append (head_of h) rest, long, some) in
     let grouped : image ≡ front l s ++ (gauges h.heads s.gains ++ rest) = whole ∙ append_assoc (front l s) (gauges h.heads s.gains) rest in
     let first : slice_range image 0 22 ≡ front l s = ap (take 22) grouped ∙ take_at (front l s) (gauges h.heads s.gains ++ rest) 22 refl in
-    none_or _ _ (none_or _ _ (none_unless _ _ (atmost_true 22 (length image) (omega (arith, size))))
+    none_or _ _ (none_or _ _ (none_unless _ _ (le-leb 22 (length image) (omega (arith, size))))
     (ap (front_fault s (length image)) first ∙ is_front l s (length image) is.setup is.narrow size))
     (gauges_pass 0 h.heads s.gains (front l s) rest image grouped refl is.same is.each is.setup.gains)
 

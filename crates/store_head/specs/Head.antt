@@ -13,6 +13,8 @@ use Rattle.segment_bytes.specs.declared.layout.Layout.TheVariants.{One, Two}
 use Rattle.recording.specs.declared.head.Head.{Head}
 use Rattle.calibration.specs.declared.setup.Setup.{Setup}
 use Rattle.store_head.specs.declared.setup.StoreHead.{StoreHead}
+use Rattle.calibration.specs.declared.limits.TheConstants.{MAX_GAUGES}
+use Rattle.segment_bytes.specs.declared.layout.TheConstants.{MAX_CLASSES_ONE}
 
 -- the layout of the bodies, the setup, and the head of each gauge's recording
 pub record HeadValue : Type 0 where
@@ -65,13 +67,13 @@ pub record IsRecorded (h : Head) : Type 0 where
 pub record IsSetup (s : Setup) : Type 0 where
   pub grid : IsGrid s.grid
   pub gains : All IsGain s.gains
-  pub few : length s.gains ≤ 32
+  pub few : length s.gains ≤ MAX_GAUGES
 
 pub record IsHead (h : HeadValue) : Type 0 where
   pub setup : IsSetup h.setup
   pub same : length h.heads ≡ length h.setup.gains
   pub each : All IsRecorded h.heads
-  pub narrow : h.layout ≡ One → h.setup.grid.classes ≤ 128
+  pub narrow : h.layout ≡ One → h.setup.grid.classes ≤ MAX_CLASSES_ONE
 
 -- the image of a store without bodies: the head and a closed gate
 abbrev pub empty_store : HeadValue → List ℕ

@@ -16,6 +16,7 @@ use Rattle.store_head.specs.declared.fault.Field.TheVariants.{Gauges, Classes, W
 use Rattle.store_head.specs.declared.fault.HeadFault.{HeadFault}
 use Rattle.store_head.specs.declared.fault.HeadFault.TheVariants.{NotAStore, Version, Differs}
 use Rattle.calibration.specs.declared.setup.Setup.{Setup}
+use Rattle.segment_bytes.specs.declared.layout.TheConstants.{MAX_CLASSES_ONE}
 
 -- the number at a place
 abbrev pub number : Width → ℕ → List ℕ → ℕ
@@ -51,7 +52,8 @@ layout_in image = layout_of (slice_index image 5)
 
 -- the size reaches past the head, and version 1 has at most 128 classes
 abbrev pub is_whole : ℕ → ℕ → List ℕ → Bool
-is_whole gauges size b = nat_le (23 + 40 * gauges) size && not ((slice_index b 5 == 1) && nat_lt 128 (number w16 8 b))
+is_whole gauges size b =
+    nat_le (23 + 40 * gauges) size && not ((slice_index b 5 == 1) && nat_lt MAX_CLASSES_ONE (number w16 8 b))
 
 abbrev pub grid_fault : GridValue → List ℕ → Option HeadFault
 grid_fault g b =

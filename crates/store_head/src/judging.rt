@@ -12,12 +12,13 @@ ghost use Rattle.store_head.specs.Judging.{
   recorded as recorded_in,
   unless as unless_in,
 };
+ghost use Rattle.calibration.specs.declared.limits.TheConstants.{MAX_GAUGES};
 
 use crate::fault::{Field, HeadFault};
 use crate::numbers::{i64_in, u16_in, u32_in};
 use calibration::{Gain, Grid, Setup};
 use recording::Head;
-use segment_bytes::Layout;
+use segment_bytes::{Layout, MAX_CLASSES_ONE};
 
 // Whether the ready byte is open, and the magic bytes stand behind it.
 fn is_store(bytes: &[u8; 22]) -> bool
@@ -74,11 +75,11 @@ fn is_version(version: u8) -> bool
 
 // Whether the size reaches past the head, and version 1 has at most 128 classes.
 fn is_whole(gauges: usize, size: u64, bytes: &[u8; 22]) -> bool
-    requires few { gauges ≤ 32 }
+    requires few { gauges ≤ MAX_GAUGES }
     ensures { result ≡ is_whole_in gauges size bytes.now }
 {
     let classes = u16_in(bytes, 8);
-    23 + 40 * gauges as u64 <= size && !(bytes[5] == 1 && 128 < classes)
+    23 + 40 * gauges as u64 <= size && !(bytes[5] == 1 && MAX_CLASSES_ONE < classes)
 }
 
 /// The layout of a store's bodies, by its version.
@@ -94,7 +95,7 @@ pub fn layout_of(version: u8) -> Layout
 
 /// The first fault of the front of the head, in the order of the file, with the size of the store.
 pub fn front_fault(setup: &Setup, size: u64, bytes: &[u8; 22]) -> Option<HeadFault>
-    requires few { length setup.now.gains ≤ 32 }
+    requires few { length setup.now.gains ≤ MAX_GAUGES }
     ensures { result ≡ front_fault_in setup.now size bytes.now }
 {
     let count = setup.gains.as_slice().len();

@@ -13,6 +13,8 @@ ghost use Rattle.store_head.specs.Head.{
   see_head,
   version_of as version_in,
 };
+ghost use Rattle.calibration.specs.declared.limits.TheConstants.{MAX_GAUGES};
+ghost use Rattle.segment_bytes.specs.declared.layout.TheConstants.{MAX_CLASSES_ONE};
 
 use crate::setup::StoreHead;
 use calibration::{Gain, Setup};
@@ -31,7 +33,7 @@ fn version_of(layout: Layout) -> u8
 
 // The front of the head.
 fn front_of(layout: Layout, setup: &Setup) -> [u8; 22]
-    requires few { length setup.now.gains ≤ 32 }
+    requires few { length setup.now.gains ≤ MAX_GAUGES }
     ensures bytes { result ≡ front_bytes layout setup.now }
     ensures grid { IsGrid setup.now.grid }
 {
@@ -85,9 +87,9 @@ fn add_gauge(bytes: &mut Vec<u8>, head: &Head, gain: &Gain) -> Result<(), AllocE
 
 /// The image of a store without bodies: the head with an open ready byte, and a closed gate.
 pub fn bytes_of(alloc: Global, layout: Layout, head: &StoreHead) -> Result<Vec<u8>, AllocError>
-    requires few { length head.now.setup.gains ≤ 32 }
+    requires few { length head.now.setup.gains ≤ MAX_GAUGES }
     requires heads { length head.now.heads ≡ length head.now.setup.gains }
-    requires narrow { layout ≡ One → head.now.setup.grid.classes ≤ 128 }
+    requires narrow { layout ≡ One → head.now.setup.grid.classes ≤ MAX_CLASSES_ONE }
     ensures bytes { IfOk result (λ b. b.items ≡ empty_store (see_head layout head.now)) }
     ensures head { IfOk result (λ b. IsHead (see_head layout head.now)) }
     ensures len { IfOk result (λ b. length b.items ≡ 23 + 40 * length head.now.setup.gains) }

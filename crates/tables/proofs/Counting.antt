@@ -4,6 +4,7 @@ use mir.Val.{bool_byte}
 use Rattle.std.proofs.lemmas.Bool.{cases_eq}
 use Rattle.std.proofs.lemmas.Bool.Decides.{nat_tests}
 use Rattle.std.proofs.lemmas.List.Sums.{sum_by-cons}
+use Rattle.std.proofs.lemmas.List.{set-get_or}
 use Rattle.tables.specs.Tables.{raise, lower, added, is_at}
 
 pub sum_cons : (x : ℕ) (t : List ℕ) → sum (x ∷ t) ≡ x + sum t
@@ -60,12 +61,7 @@ length_added [] t = refl
 length_added (x ∷ s) [] = refl
 length_added (x ∷ s) (y ∷ t) = ap suc (length_added s t)
 
-set_same : (t : List ℕ) (i : ℕ) → i < length t → set t i (get_or t i 0) ≡ t
-set_same [] i h = absurd (omega arith)
-set_same (x ∷ t) zero h = refl
-set_same (x ∷ t) (suc i) h = ap (λ k. x ∷ k) (set_same t i (omega arith))
-
 -- one more where it is asked for
 pub raised_if : (t : List ℕ) (i n : ℕ) (b : Bool) → i < length t → n ≡ bool_byte b → set t i (get_or t i 0 + n) ≡ cond b (raise t i) t
 raised_if t i n true h e = ap (λ k. set t i (get_or t i 0 + k)) e
-raised_if t i n false h e = let z : get_or t i 0 + n ≡ get_or t i 0 = omega arith in ap (set t i) z ∙ set_same t i h
+raised_if t i n false h e = let z : get_or t i 0 + n ≡ get_or t i 0 = omega arith in ap (set t i) z ∙ set-get_or t i 0

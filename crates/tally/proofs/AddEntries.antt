@@ -1,6 +1,6 @@
 -- A tally to which entries are added, one after another; and the walk over the cells of a list.
 use Rattle.std.proofs.Common.{◌≡◌, ℕ, ◌+◌, ◌<◌, ◌≤◌, ◌⊎◌, inl, inr, List, ◌∷◌, ◌++◌, length, get_or, take, drop, refl, sym, ap, ◌∙◌, subst, arith}
-use Rattle.std.specs.Prelude.{Some, None, All, Option, find}
+use Rattle.std.specs.Prelude.{Some, None, All, find}
 use Rattle.std.proofs.lemmas.Bool.{cases_eq, cases_lt}
 use Rattle.std.proofs.lemmas.List.{take_all, get_or_default, take-append-drop}
 use Rattle.std.proofs.lemmas.List.Elements.{All-append, All-cons, All-take, All-drop}
@@ -186,10 +186,10 @@ module _ {k r j t u cap more : ℕ} {old others : List Cell} (g : IsLog k r t ol
 anywhere : (a b : ℕ) → UpTo 0 0 a b
 anywhere a b = grind arith
 
-one_further : (a b : ℕ) → Before a b a (b + 1)
+pub one_further : (a b : ℕ) → Before a b a (b + 1)
 one_further a b = grind arith
 
-further : (a b c d : ℕ) → Before a b c d → Before a b c (d + 1)
+pub further : (a b c d : ℕ) → Before a b c d → Before a b c (d + 1)
 further a b c d h = grind arith
 
 behind_one : (a b c d : ℕ) → Before a b c d → UpTo a (b + 1) c d
@@ -233,9 +233,6 @@ pub found_next : (cells : List Cell) (i : ℕ) (x d : Cell) → IsAscending cell
     i + 1 < length cells →
     find (is_from x.lo (x.hi + 1)) cells ≡ Some (get_or cells (i + 1) d)
 found_next cells i x d a w e h = find_at x.lo (x.hi + 1) cells (i + 1) d (stands_next cells i x a w e) h
-
-pub same_some : (x y : Cell) (o : Option Cell) → o ≡ Some x → o ≡ Some y → x ≡ y
-same_some x y o e f = cc
 
 -- behind the last cell there is none
 pub found_last : (cells : List Cell) (i : ℕ) (x : Cell) → IsAscending cells → i < length cells → x ≡ get_or cells i x →

@@ -16,6 +16,7 @@ use Rattle.tally.specs.Log.{with_more, with_cell, cells_of, amount, first_of, fi
 use Rattle.tally.proofs.Places.{UpTo, Order, same, before, behind, order}
 use Rattle.tally.proofs.Walk.{count_here, count_other, before_differs, behind_differs, from_here, from_later}
 use Rattle.lemmas.proofs.Naturals.{same_or_not}
+use Rattle.lemmas.proofs.Outcomes.{same_some}
 use Rattle.tally.proofs.Tables.{one_of}
 use Rattle.tally.proofs.Equal.{ascending_head, ascending_tail, before_all, count_before, same_cells}
 use Rattle.tally.proofs.Ascending.{Differs, put_first, put_later, raise_first}
@@ -356,16 +357,13 @@ module _ (lo hi : ℕ) (x : Cell) where
   find-with_cell [] = found_alone (side lo hi x)
   find-with_cell (c ∷ cells) = found_by c cells (find-with_cell cells) (order c.lo c.hi x.lo x.hi) (side lo hi c) (side lo hi x)
 
-some_same : (c d : Cell) (o : Option Cell) → o ≡ Some c → o ≡ Some d → c ≡ d
-some_same c d o e f = cc
-
 none_some : (c : Cell) (o : Option Cell) → o ≡ None → o ≡ Some c → ⊥
 none_some c o e f = cc
 
 found_le_by : (lo hi : ℕ) (c d : Cell) (cells : List Cell) → find (is_from lo hi) (c ∷ cells) ≡ Some d →
     (find (is_from lo hi) cells ≡ Some d → d.n ≤ total_of cells) → Side lo hi c → d.n ≤ total_of (c ∷ cells)
 found_le_by lo hi c d cells e next (inl u) =
-    omega (arith, sum_by-cons (λ c. c.n) c cells, ap (λ c. c.n) (some_same c d _ (from_here lo hi c cells u) e))
+    omega (arith, sum_by-cons (λ c. c.n) c cells, ap (λ c. c.n) (same_some (from_here lo hi c cells u) e))
 found_le_by lo hi c d cells e next (inr h) = omega (arith, sum_by-cons (λ c. c.n) c cells, next (sym (from_later lo hi c cells h) ∙ e))
 
 -- a cell that was found is a part of the total

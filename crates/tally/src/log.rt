@@ -27,7 +27,8 @@ impl Model for Log {
 
     ghost Value = { Counts };
 
-    ghost view = { λ t. record { classes = t.classes; room = t.room; cells = cells_of t.entries.items } };
+    ghost view = { λ t.
+        record { classes = t.classes; room = t.room; cells = cells_of t.entries.items } };
 
     ghost invariant = { λ t. IsLog t.classes t.room t.total t.entries.items
         (vec_capacity t.entries) };

@@ -17,9 +17,21 @@ pub sum_at_range-added : (f g : ℕ → ℕ → ℕ) (k n : ℕ) →
 sum_at_range-added f g k zero = refl
 sum_at_range-added f g k (suc n) = omega (arith, sum_at_range-added f g k n)
 
-sum_at_range-zero : (k n : ℕ) → sum_at_range (λ lo hi. 0) k n ≡ 0
+pub sum_at_range-zero : (k n : ℕ) → sum_at_range (λ lo hi. 0) k n ≡ 0
 sum_at_range-zero k zero = refl
 sum_at_range-zero k (suc n) = omega (arith, sum_at_range-zero k n)
+
+pub sum_at_range-same : (f g : ℕ → ℕ → ℕ) (k n : ℕ) → ((lo hi : ℕ) → f lo hi ≡ g lo hi) → sum_at_range f k n ≡ sum_at_range g k n
+sum_at_range-same f g k zero e = refl
+sum_at_range-same f g k (suc n) e = omega (arith, sum_at_range-same f g k n e, e n (n + k))
+
+pub sum_at_range-le : (f g : ℕ → ℕ → ℕ) (k n : ℕ) → ((lo hi : ℕ) → f lo hi ≤ g lo hi) → sum_at_range f k n ≤ sum_at_range g k n
+sum_at_range-le f g k zero h = omega arith
+sum_at_range-le f g k (suc n) h = omega (arith, sum_at_range-le f g k n h, h n (n + k))
+
+pub sum_at_range-doubled : (f : ℕ → ℕ → ℕ) (k n : ℕ) → sum_at_range (λ lo hi. 2 * f lo hi) k n ≡ 2 * sum_at_range f k n
+sum_at_range-doubled f k zero = refl
+sum_at_range-doubled f k (suc n) = omega (arith, sum_at_range-doubled f k n)
 
 -- one range, over the first n lower levels
 term : (halves k n : ℕ) (x : Pair) → x.lo ≤ x.hi →

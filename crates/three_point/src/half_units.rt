@@ -49,7 +49,8 @@ impl RangeCounter for HalfUnits {
 
     ghost room = { λ h. 2 ^ 64 - 1 - sum h };
 
-    ghost holds = { λ h given. (k : ℕ) → k < length h → slice_index h k ≡ half_units_at_range k given };
+    ghost holds = { λ h given.
+        (k : ℕ) → k < length h → slice_index h k ≡ half_units_at_range k given };
 
     /// Adds the half units of one range at the place of its length.
     #[inline(always)]
@@ -58,7 +59,9 @@ impl RangeCounter for HalfUnits {
         requires room { range.halves ≤ 2 ^ 64 - 1 - sum self.old }
         ensures holds { (given : List CountedRange) →
             ((k : ℕ) → k < length self.old → slice_index self.old k ≡ half_units_at_range k given) →
-            ((k : ℕ) → k < length self.new → slice_index self.new k ≡ half_units_at_range k (given ++ counted_range_of range ∷ [])) }
+            ((k : ℕ) → k < length self.new →
+            slice_index self.new k ≡
+            half_units_at_range k (given ++ counted_range_of range ∷ [])) }
         ensures room { 2 ^ 64 - 1 - sum self.old ≤ 2 ^ 64 - 1 - sum self.new + range.halves }
         ensures classes { length self.new ≡ length self.old }
 

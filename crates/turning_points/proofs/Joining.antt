@@ -3,8 +3,9 @@ use Rattle.std.proofs.Common.{◌≡◌, zero, Bool, true, false, ◌==◌, if�
 use Rattle.std.proofs.lemmas.Bool.Decides.{nat_tests}
 use Rattle.turning_points.specs.Points.{is_turn, points, IsBetween}
 use Rattle.turning_points.specs.EndPoints.{EndPoints, ends_of, last_point, last_but_one}
-use Rattle.turning_points.proofs.Zigzag.{add, Added, first, equal, second, turn, between, is_added, Turn, IsZigzag, one, two, inner, zig_tail, zig_points, zig_added, ends_differ}
+use Rattle.turning_points.proofs.Zigzag.{add, Added, first, equal, second, turn, between, is_added, Turn, IsZigzag, one, two, inner, zig_points, zig_added, ends_differ}
 use Rattle.turning_points.proofs.Over.{over, over_points, over_append, over_own, zig_over, over_of_points}
+use Rattle.turning_points.proofs.Push.{end_differs}
 
 -- where v stands before y and z
 pub data Side (v y z : ℕ) : Type 0 where
@@ -92,15 +93,11 @@ zig_put (a ∷ []) p x n t (inner u g) s z = inner (turn_same u s) z
 zig_put (a ∷ b ∷ []) p x n t (inner u g) s z = inner u (zig_put (b ∷ []) p x n t g s z)
 zig_put (a ∷ b ∷ c ∷ f) p x n t (inner u g) s z = inner u (zig_put (b ∷ c ∷ f) p x n t g s z)
 
-pub ends_apart : (f : List ℕ) (p x : ℕ) → IsZigzag (f ++ (p ∷ x ∷ [])) → p ≢ x
-ends_apart [] p x (two n) = n
-ends_apart (a ∷ f) p x g = ends_apart f p x (zig_tail g)
-
 -- a list of points before another: all but its last two stay, and those two are put before the other one by one
 pub met_points : (f : List ℕ) (p x : ℕ) (s : List ℕ) → IsZigzag (f ++ (p ∷ x ∷ [])) → IsZigzag s →
     over (f ++ (p ∷ x ∷ [])) s ≡ f ++ add p (add x s)
 met_points f p x s g z =
-    let m = met p x s (ends_apart f p x g) z in
+    let m = met p x s (end_differs f p x g) z in
     let w = subst IsZigzag m.is (zig_over (p ∷ x ∷ []) s z) in
     let o = over_own f (p ∷ m.n ∷ m.t) (zig_put f p x m.n m.t g m.side w) in
     over_append f (p ∷ x ∷ []) s ∙ ap (over f) m.is ∙ o ∙ ap (λ l. f ++ l) (sym m.is)
@@ -157,7 +154,7 @@ put_twice p x s g =
     let z = zig_added (is_added x s g) g in
     put_is p (add x s) z ∙ ap (λ e. put_before p e.points e) (put_is x s g)
 
-abbrev ends : ℕ → ℕ → ℕ → ℕ → ℕ → EndPoints
+abbrev pub ends : ℕ → ℕ → ℕ → ℕ → ℕ → EndPoints
 ends a b c d e = record { points = a; first = b; second = c; before = d; last = e }
 
 ends_equal : (a b c d e a' b' c' d' e' : ℕ) → a ≡ a' → b ≡ b' → c ≡ c' → d ≡ d' → e ≡ e' → ends a b c d e ≡ ends a' b' c' d' e'
@@ -184,7 +181,7 @@ long_meet a f p x e b c q r n o =
 long : (a : ℕ) (f : List ℕ) (p x : ℕ) (s : List ℕ) → IsZigzag (a ∷ (f ++ (p ∷ x ∷ []))) → IsZigzag s →
     ends_of (over (a ∷ (f ++ (p ∷ x ∷ []))) s) ≡ meet (length (a ∷ (f ++ (p ∷ x ∷ [])))) (ends_of (a ∷ (f ++ (p ∷ x ∷ [])))) (ends_of s)
 long a f p x s g z =
-    let m = met p x s (ends_apart (a ∷ f) p x g) z in
+    let m = met p x s (end_differs (a ∷ f) p x g) z in
     let e = met_points (a ∷ f) p x s g z ∙ ap (λ l. a ∷ (f ++ l)) m.is in
     let h = put_twice p x s z in
     let k = long_ends a f p x m.n m.t _ (sym (ap ends_of m.is) ∙ h) in

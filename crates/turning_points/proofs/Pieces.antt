@@ -17,6 +17,7 @@ use Rattle.turning_points.proofs.Zigzag.{Turn, IsZigzag, zig_points}
 use Rattle.turning_points.proofs.Over.{points_inside}
 use Rattle.turning_points.proofs.Push.{end_differs}
 use Rattle.turning_points.proofs.TurnedSteps.{one_kept, two_kept, first_level, second_point, goes_further, turns_at}
+use Rattle.turning_points.proofs.PutEnds.{between_differs}
 use borrow.Rule.Slice.PartMut.{put_mid, mid_of}
 
 pub last_of-index : (x : ℕ) (l : List ℕ) → 0 < length l → last_of x l ≡ get_or l (length l - 1) 0
@@ -88,9 +89,6 @@ no_turn q x v e = grind (arith, nat_tests)
 
 beyond : (p q x : ℕ) → ((p < x) × (q < x)) ⊎ ((x < p) × (x < q)) → p ≢ x
 beyond p q x s = grind arith
-
-between_differs : (p x v : ℕ) → IsBetween p x v → p ≢ v
-between_differs p x v b = grind arith
 
 -- one level more that differs from the last one
 one_level : (h given : List ℕ) (p q x v : ℕ) (t : Bool) → is_turn q x v ≡ t → Side p q x → x ≢ v → HasGiven h given (recent_of p x)

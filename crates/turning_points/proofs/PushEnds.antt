@@ -65,7 +65,7 @@ twice_passed : (x p l : ℕ) → l ≢ x → IsBetween p l x →
 twice_passed x p l n t =
     ap (put p) (put_one_other x l n) ∙ put_two p (record { points = 2; first = l; second = x; before = l; last = x }) refl t
 
-five_same : (a b c d e a' b' c' d' e' : ℕ) → a ≡ a' → b ≡ b' → c ≡ c' → d ≡ d' → e ≡ e' →
+pub five_same : (a b c d e a' b' c' d' e' : ℕ) → a ≡ a' → b ≡ b' → c ≡ c' → d ≡ d' → e ≡ e' →
     ◌≡◌ {A = EndPoints} (record { points = a; first = b; second = c; before = d; last = e })
     (record { points = a'; first = b'; second = c'; before = d'; last = e' })
 five_same a b c d e a' b' c' d' e' p q r s t = cc

@@ -20,7 +20,7 @@ ends_two K x e i h p b = record {
 turn_far : (x a b c : ℕ) → IsBetween x a b → IsTurn a b c → IsTurn x b c
 turn_far x a b c p q = grind arith
 
-between_differs : (x a b : ℕ) → IsBetween x a b → x ≢ b
+pub between_differs : (x a b : ℕ) → IsBetween x a b → x ≢ b
 between_differs x a b p = grind arith
 
 ends_passed : (K x : ℕ) (e : EndPoints) → IsEnds K e → x < K → 3 ≤ e.points → IsBetween x e.first e.second →
@@ -37,7 +37,7 @@ ends_passed K x e i h p b = record {
 three_turn : (x a b c d : ℕ) → IsTurn x a b → c ≡ a → d ≡ b → (c ≡ a) × IsTurn x a d
 three_turn x a b c d t p q = (p, subst (IsTurn x a) (sym q) t)
 
-turn_differs : (x a b : ℕ) → IsTurn x a b → x ≢ a
+pub turn_differs : (x a b : ℕ) → IsTurn x a b → x ≢ a
 turn_differs x a b p = grind arith
 
 ends_turn : (K x : ℕ) (e : EndPoints) → IsEnds K e → x < K → 2 ≤ e.points → IsTurn x e.first e.second →

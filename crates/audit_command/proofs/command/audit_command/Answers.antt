@@ -1,6 +1,7 @@
 use Rattle.std.proofs.Common.{◌≡◌, ◌⊎◌, inl, ℕ, List, [], ◌∷◌, ◌++◌, length, sym, ◌∙◌, ap, subst, arith}
 use Rattle.std.specs.Prelude.{Result, Err}
 use Rattle.outside.specs.Fault.{Rose}
+use Rattle.outside.proofs.Faults.{rose_more}
 use Rattle.segment_store.specs.Holds.{Holds}
 use Rattle.site_config.specs.Configuration.{config_of_bytes}
 use Rattle.site_config.specs.declared.config.Config.{Config}
@@ -13,13 +14,14 @@ use Rattle.fault_lines.specs.Room.{FaultLineValue}
 use Rattle.fault_lines.specs.Telling.{TellsAtMost}
 use Rattle.fault_lines.proofs.Telling.{quiet_tells}
 use Rattle.report_command.proofs.Ended.{unread_other}
-use Rattle.report_command.proofs.Told.{last_after, ok_same, rose_more}
+use Rattle.report_command.proofs.Told.{last_after}
 use Rattle.audit_command.specs.Answers.{IsAudited}
 use Rattle.audit_command.specs.Audited.{Finds, IsStanding, first_samples}
 use Rattle.audit_command.specs.Printing.{Prints}
 use Rattle.audit_command.proofs.Ended.{finds_unread, line_same, name_short, not_printed, over_config, unread_answer, unread_complete, unread_unprinted}
 use Rattle.audit_command.proofs.AnswerKinds.{unread_named}
 use Rattle.audit_command.proofs.command.audit_command.Goals as goal
+use Rattle.lemmas.proofs.Outcomes.{same_ok}
 
 -- a configuration that is refused
 pub returns-clause-answer : goal.returns-clause-answer
@@ -84,7 +86,7 @@ returns-in-Ok-read_config-clause-answer g c = λ tells shows reads.
 
 pub returns-in-Ok-read_config-clause-stands : goal.returns-in-Ok-read_config-clause-stands
 returns-in-Ok-read_config-clause-stands g c = λ tells shows reads conf is w n h.
-    let same = ok_same (config_of_bytes (g.C.Source.left c.args.config.now)) c.in-Ok-read_config.conf conf
+    let same = same_ok
     (c.in-Ok-read_config.ensures.meaning reads) is in
     subst (λ (x : Config). Holds x.setup w n (g.K.Station.seen c.args.station.now) → Finds x (IsStanding x (first_samples w n))
     (first_samples (recorded x (g.T.Site.files c.args.site.now)).samples n) c.audit_by-status.result) same
@@ -92,7 +94,7 @@ returns-in-Ok-read_config-clause-stands g c = λ tells shows reads conf is w n h
 
 pub returns-in-Ok-read_config-clause-complete : goal.returns-in-Ok-read_config-clause-complete
 returns-in-Ok-read_config-clause-complete g c = λ tells shows reads sound config site station out.
-    let same = ok_same (config_of_bytes (g.C.Source.left c.args.config.now)) sound.0 c.in-Ok-read_config.conf sound.1
+    let same = same_ok sound.1
     (c.in-Ok-read_config.ensures.meaning reads) in
     c.audit_by-status.ensures.complete tells shows
     (subst (λ (x : Config). IsAudited x (g.K.Station.seen c.args.station.now) (g.T.Site.files c.args.site.now)) same sound.2) site
@@ -101,7 +103,7 @@ returns-in-Ok-read_config-clause-complete g c = λ tells shows reads sound confi
 pub returns-in-Ok-read_config-clause-prints : goal.returns-in-Ok-read_config-clause-prints
 returns-in-Ok-read_config-clause-prints g c = λ writes reads conf is.
     let written = g.O.Sink.written in
-    let same = ok_same (config_of_bytes (g.C.Source.left c.args.config.now)) c.in-Ok-read_config.conf conf
+    let same = same_ok
     (c.in-Ok-read_config.ensures.meaning reads) is in
     subst (λ (x : Config). Prints c.audit_by-status.result x (written c.args.out.now) (written c.audit_by-status.new.out)) same
     (c.audit_by-status.ensures.prints writes)

@@ -6,7 +6,7 @@ use Rattle.segment_store.specs.Held.{ends_of}
 use Rattle.recorded.specs.Recorded.{recorded}
 use Rattle.recorded.proofs.Asking.{asks_more, stops_behind, first_names}
 use Rattle.site_lanes.specs.Answers.{GaugeAnswers, FaultOf}
-use Rattle.audit_command.proofs.Opened.{open_refused, all_more_opened}
+use Rattle.site_lanes.proofs.Opened.{open_refused, all_more_opened}
 use Rattle.audit_command.proofs.Recounts.{recounts_more, first_again}
 use Rattle.audit_command.proofs.recounting.recount_all.Goals as goal
 

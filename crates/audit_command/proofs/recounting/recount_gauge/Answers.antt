@@ -6,10 +6,11 @@ use Rattle.segment_store.specs.Held.{ends_of}
 use Rattle.site_config.specs.Valid.{file_of}
 use Rattle.store_head.specs.Head.{HeadValue}
 use Rattle.recorded.specs.Recorded.{body_in, recorded}
-use Rattle.recorded.proofs.Asking.{asks_file, asks_then_none, file_is}
+use Rattle.recorded.proofs.Asking.{asks_file, file_is}
 use Rattle.audit_command.proofs.Opened.{gauge_answers}
 use Rattle.audit_command.proofs.Recounts.{gain_is, recounted_first}
 use Rattle.audit_command.proofs.recounting.recount_gauge.Goals as goal
+use Rattle.outside.proofs.Asked.{asks_no_more}
 
 pub recount_source-answer-requires-clause-few : goal.recount_source-answer-requires-clause-few
 recount_source-answer-requires-clause-few g c κs within =
@@ -48,6 +49,6 @@ returns-in-Err-clause-asked g c =
 pub returns-clause-asked : goal.returns-clause-asked
 returns-clause-asked g c =
     let asked = g.T.Site.names_asked in
-    asks_then_none (asked c.args.site.now) (asked c.fetch.new.self) (asked c.give_back.new.self) (file_of c.args.conf.now c.args.gauge ∷ [])
+    asks_no_more (asked c.args.site.now) (asked c.fetch.new.self) (asked c.give_back.new.self) (file_of c.args.conf.now c.args.gauge ∷ [])
     (asks_file c.args.conf.now c.args.gauge _ _ _ c.requires.known c.as_slice.ensures c.as_str-name.ensures (asked c.args.site.now)
     (asked c.fetch.new.self) c.fetch.ensures.asked) c.give_back.ensures.asked

@@ -1,7 +1,8 @@
 use Rattle.std.proofs.Common.{rules, arith, inl, inr, refl, ap, ◌∙◌, ◌+◌, ◌-◌, ◌%◌, ◌≡◌, ◌≤◌, ◌<◌, length, vec_len, false}
 use Rattle.block_pool.specs.Units.{IsBlank}
+use Rattle.block_pool.proofs.Fitting.{all_push, all_take}
 use Rattle.block_workers.specs.Reading.{OneBlock}
-use Rattle.block_workers.proofs.Blocks.{unit_is, samples_are, feeds_through, popped, left_fit, first_samples, gives_as, written_blank, no_both, all_push}
+use Rattle.block_workers.proofs.Blocks.{unit_is, samples_are, feeds_through, popped, first_samples, gives_as, written_blank, no_both}
 use Rattle.block_workers.proofs.desk.read_block.Goals as goal
 
 pub returns-then-given-eq0-clause-read : goal.returns-then-given-eq0-clause-read
@@ -30,7 +31,7 @@ returns-then-given-eq0-clause-read g c =
         at = refl;
         feeders = refl;
         blanks = omega (arith, c.push_reserved.ensures.len, c.in-Some.ensures.cases);
-        fit = all_push _ _ _ _ _ (left_fit _ _ _ c.args.desk.now.blanks.items _ c.requires.ready.fit c.pop.ensures.rest)
+        fit = all_push _ _ _ _ _ (all_take _ _ _ c.args.desk.now.blanks.items _ c.requires.ready.fit c.pop.ensures.rest)
             (written_blank _ _ _ _ _ long blank.block blank.grid) c.push_reserved.ensures.items;
       });
       whole = λ e. absurd (no_both false e refl);
@@ -61,7 +62,7 @@ returns-clause-read g c =
           (c.args.number % vec_len c.args.desk.now.feeders) _ c.as_mut_slice.ensures.value c.args.desk.now.feeders.ok.0
           (ap (λ k. c.args.number % k) c.len.ensures) c.deal.ensures;
       blanks = c.in-Some.ensures.cases;
-      fit = left_fit _ _ _ c.args.desk.now.blanks.items _ c.requires.ready.fit c.pop.ensures.rest;
+      fit = all_take _ _ _ c.args.desk.now.blanks.items _ c.requires.ready.fit c.pop.ensures.rest;
     } in
     let at_end : c.read_samples-given.result.n ≡ c.args.desk.now.at + c.read_samples-given.result.n - c.args.desk.now.at = omega arith in
     record {

@@ -1,7 +1,7 @@
 use Rattle.std.proofs.Common.{[], sym, subst, ap, ◌∙◌}
 use Rattle.segment_rules.specs.declared.name.Name.{Name}
 use Rattle.segment.specs.Segment.{SegmentValue, Stands}
-use Rattle.board.proofs.Empty.{empty_stands}
+use Rattle.segment.proofs.Empty.{empty_stands}
 use Rattle.board.proofs.rows.empty.Goals as goal
 
 pub returns : goal.returns

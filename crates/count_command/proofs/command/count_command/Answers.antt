@@ -6,7 +6,7 @@ use Rattle.recorded.specs.Asked.{names_in}
 use Rattle.recorded.proofs.Asking.{first_read, none_is_first}
 use Rattle.held_samples.specs.Going.{AllHold, IsKept}
 use Rattle.count_command.proofs.FaultTold.{safe_fault, fault_below}
-use Rattle.count_command.proofs.Resumed.{safe_starts, same_conf}
+use Rattle.count_command.proofs.Resumed.{safe_starts}
 use Rattle.station.specs.Station.{Lines}
 use Rattle.segment_store.specs.Holds.{Holds}
 use Rattle.held_samples.specs.Told.{Acknowledges}
@@ -19,13 +19,14 @@ use Rattle.fault_lines.specs.FaultLine.{fault_line, name_by}
 use Rattle.fault_lines.proofs.Telling.{quiet_tells}
 use Rattle.site_config.specs.declared.fault.ConfigFault.{ConfigFault}
 use Rattle.site_lanes.specs.Answers.{HeadsFit, AllSound}
-use Rattle.site_lanes.proofs.Rising.{rose_more, rose_before}
 use Rattle.count_command.proofs.Complete.{done_or_memory, complete_read}
 use Rattle.count_command.proofs.AtEnd.{count_answers}
 use Rattle.count_command.proofs.Whole.{line_read, held_read, cut_read, prints_read, answers_read, not_done_read, not_write_read, not_disk_read, held_fewer, cut_fewer}
 use Rattle.config_reading.specs.Reading.{IsRefusal}
 use Rattle.count_command.specs.Answer.{IsCounting}
 use Rattle.count_command.proofs.command.count_command.Goals as goal
+use Rattle.outside.proofs.Faults.{rose_more, rose_before}
+use Rattle.lemmas.proofs.Outcomes.{same_ok}
 
 pub returns-in_default-clause-every_moment : goal.returns-in_default-clause-every_moment
 returns-in_default-clause-every_moment g c = λ tells shows reads conf is a holds lines f was.
@@ -48,7 +49,7 @@ pub returns-clause-every_moment : goal.returns-clause-every_moment
 returns-clause-every_moment g c = λ tells shows reads conf is a holds lines f was.
     let k = g.K.Station in
     let files = g.T.Site.files c.args.site.now in
-    let same = same_conf (config_of_bytes (g.C.Source.left c.args.config.now)) _ conf (c.in-Ok-read_config.ensures.meaning reads) is in
+    let same = same_ok (c.in-Ok-read_config.ensures.meaning reads) is in
     let r = recorded c.in-Ok-read_config.conf files in
     let safe = c.count_by-status.ensures.safe tells shows a (subst (λ (x : Config). AllHold (recorded x files) a
     (k.leaves c.args.station.now)) (sym same) holds) in
@@ -87,7 +88,7 @@ pub returns-clause-ended : goal.returns-clause-ended
 returns-clause-ended g c = λ tells shows reads conf is a holds.
     let k = g.K.Station in
     let files = g.T.Site.files c.args.site.now in
-    let same = same_conf (config_of_bytes (g.C.Source.left c.args.config.now)) _ conf (c.in-Ok-read_config.ensures.meaning reads) is in
+    let same = same_ok (c.in-Ok-read_config.ensures.meaning reads) is in
     subst (λ (x : Config). AllHold (recorded x files) a (k.leaves c.args.station.now) → HeldAt c.count_by-status.result (recorded x files)
     (k.leaves c.tell_fault-2.new.station)) same
     (λ all. held_fewer _ _ _ (c.tell_fault-2.ensures.tells tells).none_new c.count_by-status.result
@@ -97,7 +98,7 @@ pub returns-clause-cut : goal.returns-clause-cut
 returns-clause-cut g c = λ tells shows reads conf is a holds none.
     let k = g.K.Station in
     let files = g.T.Site.files c.args.site.now in
-    let same = same_conf (config_of_bytes (g.C.Source.left c.args.config.now)) _ conf (c.in-Ok-read_config.ensures.meaning reads) is in
+    let same = same_ok (c.in-Ok-read_config.ensures.meaning reads) is in
     subst (λ (x : Config). AllHold (recorded x files) a (k.leaves c.args.station.now) → HeldCut c.count_by-status.result (recorded x files)
     (k.leaves c.tell_fault-2.new.station)) same
     (λ all. cut_fewer _ _ _ (c.tell_fault-2.ensures.tells tells).none_new c.count_by-status.result
@@ -108,7 +109,7 @@ returns-clause-prints g c = λ writes tells shows reads conf is a holds.
     let k = g.K.Station in
     let files = g.T.Site.files c.args.site.now in
     let written = g.O.Sink.written in
-    let same = same_conf (config_of_bytes (g.C.Source.left c.args.config.now)) _ conf (c.in-Ok-read_config.ensures.meaning reads) is in
+    let same = same_ok (c.in-Ok-read_config.ensures.meaning reads) is in
     subst (λ (x : Config). AllHold (recorded x files) a (k.leaves c.args.station.now) → Prints c.count_by-status.result x
     (recorded x files).samples (written c.args.out.now) (written c.count_by-status.new.out)) same
     (λ all. c.count_by-status.ensures.prints writes tells shows a all) holds
@@ -117,7 +118,7 @@ pub returns-clause-acknowledged : goal.returns-clause-acknowledged
 returns-clause-acknowledged g c = λ tells shows reads conf is n h done.
     let k = g.K.Station in
     let files = g.T.Site.files c.args.site.now in
-    let same = same_conf (config_of_bytes (g.C.Source.left c.args.config.now)) _ conf (c.in-Ok-read_config.ensures.meaning reads) is in
+    let same = same_ok (c.in-Ok-read_config.ensures.meaning reads) is in
     subst (λ (x : Config). Holds x.setup (recorded x files).samples n (k.seen c.args.station.now) → Acknowledges x.block (recorded x files)
     n (k.told c.args.station.now) (k.told c.tell_fault-2.new.station)) same
     (λ held. subst (λ (t : Lines). Acknowledges c.in-Ok-read_config.conf.block (recorded c.in-Ok-read_config.conf files) n
@@ -141,7 +142,7 @@ pub returns-clause-complete : goal.returns-clause-complete
 returns-clause-complete g c = λ tells shows reads conf is n h fit sound config site station out.
     let k = g.K.Station in
     let files = g.T.Site.files c.args.site.now in
-    let same = same_conf (config_of_bytes (g.C.Source.left c.args.config.now)) _ conf (c.in-Ok-read_config.ensures.meaning reads) is in
+    let same = same_ok (c.in-Ok-read_config.ensures.meaning reads) is in
     let by : (x : Config) → conf ≡ x → (m : Holds x.setup (recorded x files).samples n (k.seen c.args.station.now)) × HeadsFit x
     m.head.heads files × AllSound x files (length x.gauges) =
     λ x e. subst (λ (y : Config). (m : Holds y.setup (recorded y files).samples n (k.seen c.args.station.now)) × HeadsFit y m.head.heads

@@ -9,13 +9,13 @@ use Rattle.held_samples.specs.Told.{Acknowledges}
 use Rattle.segment_store.proofs.Quiet.{quiet_then}
 use Rattle.held_samples.proofs.Going.{safe_quiet, safe_going}
 use Rattle.count_command.proofs.Resumed.{resumed, reads_as}
-use Rattle.site_lanes.proofs.Rising.{rose_before}
 use Rattle.std.specs.Prelude.{slice_index}
 use Rattle.store_head.specs.Head.{HeadValue}
-use Rattle.count_command.specs.Answer.{RunAnswers, AnswersOver, IsComplete}
+use Rattle.count_command.specs.Answer.{RunAnswers, MayAnswerOver, IsComplete}
 use Rattle.count_command.proofs.Complete.{run_complete, all_opened, held_within, complete_resume}
 use Rattle.count_command.proofs.AtEnd.{answers_over, over_refused, refused}
 use Rattle.count_command.proofs.stored.count_by.Goals as goal
+use Rattle.outside.proofs.Faults.{rose_before}
 
 pub returns-in_default-clause-safe : goal.returns-in_default-clause-safe
 returns-in_default-clause-safe g c = λ tells shows a holds.
@@ -74,7 +74,7 @@ pub returns-in-Err-clause-answer : goal.returns-in-Err-clause-answer
 returns-in-Err-clause-answer g c = λ tells shows.
     let image = g.K.Station.seen c.args.station.now in
     let files = g.T.Site.files c.args.site.now in
-    subst (AnswersOver c.args.conf.now image files) (sym c.status_of.ensures)
+    subst (MayAnswerOver c.args.conf.now image files) (sym c.status_of.ensures)
     (over_refused c.args.conf.now image files c.in-Err.fault (refused {X = StoreValue} c.args.conf.now.setup image
     (λ (s : StoreValue). (s.place, ends_of s.held)) c.in-Err.fault (c.in-Err.ensures.answer tells)))
 

@@ -4,10 +4,11 @@ use Rattle.store_head.specs.Head.{HeadValue}
 use Rattle.segment_store.specs.Held.{ends_of}
 use Rattle.site_config.specs.declared.limits.TheConstants.{MAX_NAME_BYTES}
 use Rattle.site_config.specs.Valid.{name_of}
+use Rattle.site_config.proofs.Named.{name_is}
 use Rattle.recorded.specs.Recorded.{recorded}
 use Rattle.held_samples.proofs.HeldLines.{is_short}
 use Rattle.held_samples.proofs.Going.{going_starts, going_then, same_lines, round_more}
-use Rattle.held_samples.proofs.Fronts.{name_is, are_names, held_before, told_named, not_same, not_same_after}
+use Rattle.held_samples.proofs.Fronts.{are_names, held_before, told_named, not_same, not_same_after}
 use Rattle.held_samples.proofs.storing.store_fronts.Goals as goal
 
 pub loop-gauge-init : goal.loop-gauge-init

@@ -1,8 +1,9 @@
 use Rattle.std.proofs.Common.{List, ℕ, inl, inr, ⊎_elim, sym, subst}
 use Rattle.fault_lines.specs.FaultLine.{fault_line}
 use Rattle.fault_lines.specs.Telling.{EndsIn}
-use Rattle.init_command.proofs.StoreMade.{rose_before, no_name, made_answer}
+use Rattle.init_command.proofs.StoreMade.{no_name, made_answer}
 use Rattle.init_command.proofs.command.init_by.Goals as goal
+use Rattle.outside.proofs.Faults.{rose_before}
 
 pub returns-in-Ok-clause-last : goal.returns-in-Ok-clause-last
 returns-in-Ok-clause-last g c = λ tells some.

@@ -5,8 +5,8 @@ use Rattle.std.proofs.Math.ListN.{length-set}
 use Rattle.block_workers.specs.Jobs.{CanRead}
 use Rattle.lane_loans.specs.Lent.{Lent}
 use Rattle.lane_loans.proofs.Walking.{set_two}
-use Rattle.lane_loans.proofs.Lending.{same_pools}
 use Rattle.lane_loans.proofs.lanes.lend_lanes.Goals as goal
+use Rattle.deposits.proofs.Going.{same_pool}
 
 pub loop-g-preserved : goal.loop-g-preserved
 loop-g-preserved h c =
@@ -27,6 +27,6 @@ loop-g-preserved h c =
           (subst CanRead (sym (get_or-set_same rs k a d lr)) c.lend_lane.ensures.ready) u m;
       rest_readers = λ u d m. get_or-set_other rs k u a d (λ e. omega arith) ∙ c.loop-g.invariant.rest_readers u d (omega arith);
       rest_lanes = λ u d m. get_or-set_other ls k u b d (λ e. omega arith) ∙ c.loop-g.invariant.rest_lanes u d (omega arith);
-      same = same_pools c.args.pool.now c.loop-g.pool c.lend_lane.new.pool c.loop-g.invariant.same c.lend_lane.ensures.pool.0;
+      same = same_pool c.args.pool.now c.loop-g.pool c.lend_lane.new.pool c.loop-g.invariant.same c.lend_lane.ensures.pool.0;
       inside = omega (arith, c.loop-g.invariant.inside, c.lend_lane.ensures.pool.1);
     }

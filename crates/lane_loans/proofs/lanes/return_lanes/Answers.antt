@@ -5,8 +5,8 @@ use Rattle.flow.specs.Kept.{over}
 use Rattle.block_workers.specs.declared.jobs.Reader.{Reader}
 use Rattle.lane_loans.specs.Lent.{Returned, blanks_at}
 use Rattle.lane_loans.proofs.Walking.{set_two, map_at, over_next}
-use Rattle.lane_loans.proofs.Lending.{same_pools}
 use Rattle.lane_loans.proofs.lanes.return_lanes.Goals as goal
+use Rattle.deposits.proofs.Going.{same_pool}
 
 pub return_lane-requires-clause-room : goal.return_lane-requires-clause-room
 return_lane-requires-clause-room h c =
@@ -42,6 +42,6 @@ loop-g-preserved h c =
           ∙ c.loop-g.invariant.rest_lanes k e (omega arith)) c.return_lane.ensures.returned)) u m;
       rest_readers = λ u d m. get_or-set_other rs k u a d (λ e. omega arith) ∙ c.loop-g.invariant.rest_readers u d (omega arith);
       rest_lanes = λ u d m. get_or-set_other ls k u b d (λ e. omega arith) ∙ c.loop-g.invariant.rest_lanes u d (omega arith);
-      same = same_pools c.args.pool.now c.loop-g.pool c.return_lane.new.pool c.loop-g.invariant.same c.return_lane.ensures.pool.0;
+      same = same_pool c.args.pool.now c.loop-g.pool c.return_lane.new.pool c.loop-g.invariant.same c.return_lane.ensures.pool.0;
       inside = omega (arith, c.loop-g.invariant.inside, c.return_lane.ensures.pool.1, here, same, more);
     }

@@ -1,7 +1,8 @@
 use Rattle.std.proofs.Common.{rules, ◌<◌, vec_len}
-use Rattle.block_workers.proofs.Blocks.{popped, left_fit}
+use Rattle.block_workers.proofs.Blocks.{popped}
 use Rattle.lane_loans.proofs.Lending.{fits_now, pool_changed}
 use Rattle.lane_loans.proofs.units.give_units.Goals as goal
+use Rattle.block_pool.proofs.Fitting.{all_take}
 
 pub give-requires-clause-fits : goal.give-requires-clause-fits
 give-requires-clause-fits c =
@@ -16,5 +17,5 @@ loop-preserved c = record {
   room = search rules;
   same = pool_changed c.args.pool.now c.loop.pool _ _ c.loop.invariant.same c.give.ensures;
   inside = search rules;
-  fit = left_fit _ _ _ c.loop.blanks.items _ c.loop.invariant.fit c.in-Some.ensures.rest;
+  fit = all_take _ _ _ c.loop.blanks.items _ c.loop.invariant.fit c.in-Some.ensures.rest;
 }

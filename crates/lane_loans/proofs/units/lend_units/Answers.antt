@@ -1,7 +1,7 @@
 use Rattle.std.proofs.Common.{rules}
-use Rattle.block_workers.proofs.Blocks.{all_push}
 use Rattle.lane_loans.proofs.Lending.{fits_first, pool_changed}
 use Rattle.lane_loans.proofs.units.lend_units.Goals as goal
+use Rattle.block_pool.proofs.Fitting.{all_push}
 
 pub loop-preserved : goal.loop-preserved
 loop-preserved c = record {

@@ -2,8 +2,7 @@ use Rattle.std.proofs.Common.{◌≤◌, ◌≡◌, length, ℤ, List, drop}
 use Rattle.monitor.specs.Printed.{table_grid, table_gain}
 use Rattle.monitor.specs.Figures.{AreFigures}
 use Rattle.recording.proofs.Reading.{Splits}
-use Rattle.recording.specs.declared.TheConstants.{MAX_SAMPLES}
-use Rattle.monitor.specs.declared.read.TheConstants.{PIECE}
+use Rattle.recording.specs.declared.TheConstants.{MAX_SAMPLES, PIECE}
 use Rattle.monitor.proofs.read.read_recording.Given as goal
 
 -- the readings are those of some samples, and the body has these and then those that are left

@@ -1,8 +1,8 @@
 use Rattle.std.proofs.Common.{◌≡◌, ◌≤◌, ◌-◌, ℤ, List, length}
 use Rattle.recording.proofs.Reading.{Splits}
 use Rattle.recount.specs.Counted.{HasCountedPairs}
-use Rattle.recount.specs.declared.count.TheConstants.{PIECE}
 use Rattle.recount.proofs.count.take_samples.Given as goal
+use Rattle.recording.specs.declared.TheConstants.{PIECE}
 
 -- what was counted are some samples, and the source had these and then those that are left
 abbrev pub invariant-loop-count : goal.invariant-loop-count

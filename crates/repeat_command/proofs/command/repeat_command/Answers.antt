@@ -7,16 +7,18 @@ use Rattle.fault_lines.proofs.Telling.{quiet_tells}
 use Rattle.report_command.specs.Answers.{ReadsAs}
 use Rattle.report_command.specs.Printing.{held_of}
 use Rattle.report_command.proofs.Ended.{over_config}
-use Rattle.report_command.proofs.Told.{last_after, ok_same, rose_more}
+use Rattle.report_command.proofs.Told.{last_after}
 use Rattle.report_command.proofs.AnswerKinds.{kind_of_refusal}
 use Rattle.repeat_command.specs.Printing.{Prints}
 use Rattle.repeat_command.proofs.command.repeat_command.Goals as goal
+use Rattle.outside.proofs.Faults.{rose_more}
+use Rattle.lemmas.proofs.Outcomes.{same_ok}
 
 -- one that is sound
 pub returns-in-Ok-read_config-clause-prints : goal.returns-in-Ok-read_config-clause-prints
 returns-in-Ok-read_config-clause-prints g c = λ writes tells reads conf is w n h.
     let written = g.O.Sink.written in
-    let same = ok_same (config_of_bytes (g.C.Source.left c.args.config.now)) c.in-Ok-read_config.conf conf
+    let same = same_ok
     (c.in-Ok-read_config.ensures.meaning reads) is in
     subst (λ (x : Config). Holds x.setup w n (g.K.Station.seen c.args.station.now) → Prints c.repeat_by-status.result x (held_of w n)
     (written c.args.out.now) (written c.repeat_by-status.new.out)) same
@@ -43,7 +45,7 @@ returns-in-Ok-read_config-clause-answer g c = λ tells reads.
 
 pub returns-in-Ok-read_config-clause-complete : goal.returns-in-Ok-read_config-clause-complete
 returns-in-Ok-read_config-clause-complete g c = λ tells reads sound config station out.
-    let same = ok_same (config_of_bytes (g.C.Source.left c.args.config.now)) sound.0 c.in-Ok-read_config.conf sound.1
+    let same = same_ok sound.1
     (c.in-Ok-read_config.ensures.meaning reads) in
     c.repeat_by-status.ensures.complete tells (subst (λ (x : Config). ReadsAs x.setup (g.K.Station.seen c.args.station.now)) same sound.2)
     (λ rose. station (rose_more _ _ _ rose c.tell_fault.ensures.later)) out

@@ -1,12 +1,8 @@
-use Rattle.std.proofs.Common.{◌≡◌, ◌≤◌, ◌-◌, ◌*◌, ℕ, refl, rules}
+use Rattle.std.proofs.Common.{◌≡◌, ◌≤◌, ◌-◌, rules}
 use Rattle.tally.specs.Counts.{count_of}
-use Rattle.report.specs.Lines.{range_line}
 use Rattle.report.specs.Repeat.{doubled_at}
-use Rattle.report.proofs.Written.{range-fits, range-step}
+use Rattle.report.proofs.Written.{range-fits, range-step, range_line-same}
 use Rattle.report.proofs.repeat.push_cycles.Goals as goal
-
-same_line : (a b c d e f : ℕ) → a ≡ d → b ≡ e → c ≡ f → range_line (a * b) c ≡ range_line (d * e) f
-same_line a b c d e f p q r = rw (p, q, r) refl
 
 pub push_range_line-requires : goal.push_range_line-requires
 push_range_line-requires c =
@@ -14,7 +10,7 @@ push_range_line-requires c =
     let k = c.loop-k.k - 1 in
     let some : 1 ≤ k = search rules in
     let width : c.from-width.result ≡ v.grid.w2 = search rules in
-    let line = same_line c.from.result c.from-width.result c.doubled_at.result k v.grid.w2
+    let line = range_line-same c.from.result c.from-width.result c.doubled_at.result k v.grid.w2
     (doubled_at (count_of v.tally.cells) v.grid.classes k) c.from.ensures width c.doubled_at.ensures in
     record {
       room = range-fits _ _ v.grid.w2 (doubled_at (count_of v.tally.cells) v.grid.classes) k _ _ some line c.loop-k.invariant
@@ -27,7 +23,7 @@ loop-k-preserved c =
     let k = c.loop-k.k - 1 in
     let some : 1 ≤ k = search rules in
     let width : c.from-width.result ≡ v.grid.w2 = search rules in
-    let line = same_line c.from.result c.from-width.result c.doubled_at.result k v.grid.w2
+    let line = range_line-same c.from.result c.from-width.result c.doubled_at.result k v.grid.w2
     (doubled_at (count_of v.tally.cells) v.grid.classes k) c.from.ensures width c.doubled_at.ensures in
     range-step _ _ _ v.grid.w2 (doubled_at (count_of v.tally.cells) v.grid.classes) k _ _ some line c.push_range_line.ensures
     c.loop-k.invariant

@@ -10,9 +10,11 @@ use Rattle.report_command.specs.Answers.{ReadsAs}
 use Rattle.report_command.specs.Printing.{Prints, PrintsKept, figures_by, held_of}
 use Rattle.report_command.proofs.Ended.{unread_prints, over_config}
 use Rattle.report_command.proofs.HeldFigures.{kept_figures, kept_unprinted}
-use Rattle.report_command.proofs.Told.{last_after, ok_same, rose_more}
+use Rattle.report_command.proofs.Told.{last_after}
 use Rattle.report_command.proofs.AnswerKinds.{kind_of_refusal}
 use Rattle.report_command.proofs.command.report_command.Goals as goal
+use Rattle.outside.proofs.Faults.{rose_more}
+use Rattle.lemmas.proofs.Outcomes.{same_ok}
 
 -- no room for a line
 pub returns-in_default-clause-kept : goal.returns-in_default-clause-kept
@@ -31,7 +33,7 @@ returns-clause-kept g c = λ writes tells reads conf is head bodies ends of read
 pub returns-in-Ok-read_config-clause-prints : goal.returns-in-Ok-read_config-clause-prints
 returns-in-Ok-read_config-clause-prints g c = λ writes tells reads conf is w n h.
     let written = g.O.Sink.written in
-    let same = ok_same (config_of_bytes (g.C.Source.left c.args.config.now)) c.in-Ok-read_config.conf conf
+    let same = same_ok
     (c.in-Ok-read_config.ensures.meaning reads) is in
     subst (λ (x : Config). Holds x.setup w n (g.K.Station.seen c.args.station.now) → Prints c.report_by-status.result x
     (figures_by x (held_of w n))
@@ -41,7 +43,7 @@ returns-in-Ok-read_config-clause-prints g c = λ writes tells reads conf is w n 
 pub returns-in-Ok-read_config-clause-kept : goal.returns-in-Ok-read_config-clause-kept
 returns-in-Ok-read_config-clause-kept g c = λ writes tells reads conf is head bodies ends of read.
     let written = g.O.Sink.written in
-    let same = ok_same (config_of_bytes (g.C.Source.left c.args.config.now)) c.in-Ok-read_config.conf conf
+    let same = same_ok
     (c.in-Ok-read_config.ensures.meaning reads) is in
     subst (λ (x : Config). ◌≡◌ {A = Setup} head.setup x.setup → PrintsKept c.report_by-status.result x bodies
     (written c.args.out.now) (written c.report_by-status.new.out)) same
@@ -68,7 +70,7 @@ returns-in-Ok-read_config-clause-answer g c = λ tells reads.
 
 pub returns-in-Ok-read_config-clause-complete : goal.returns-in-Ok-read_config-clause-complete
 returns-in-Ok-read_config-clause-complete g c = λ tells reads sound config station out.
-    let same = ok_same (config_of_bytes (g.C.Source.left c.args.config.now)) sound.0 c.in-Ok-read_config.conf sound.1
+    let same = same_ok sound.1
     (c.in-Ok-read_config.ensures.meaning reads) in
     c.report_by-status.ensures.complete tells (subst (λ (x : Config). ReadsAs x.setup (g.K.Station.seen c.args.station.now)) same sound.2)
     (λ rose. station (rose_more _ _ _ rose c.tell_fault.ensures.later)) out

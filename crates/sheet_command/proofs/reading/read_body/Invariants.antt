@@ -1,7 +1,6 @@
 use Rattle.std.proofs.Common.{◌≤◌, ◌≡◌, length}
 use Rattle.recording.proofs.Reading.{Splits}
-use Rattle.recording.specs.declared.TheConstants.{MAX_SAMPLES}
-use Rattle.sheet_command.specs.declared.reading.TheConstants.{PIECE}
+use Rattle.recording.specs.declared.TheConstants.{MAX_SAMPLES, PIECE}
 use Rattle.sheet_command.proofs.reading.read_body.Given as goal
 
 -- the body has the samples so far, and then those that are left

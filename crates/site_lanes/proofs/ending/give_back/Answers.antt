@@ -1,10 +1,11 @@
 use Rattle.std.proofs.Common.{◌≢◌, ℕ, length, refl, ◌∙◌, arith}
 use Rattle.lane_loans.specs.declared.lane.Lane.{Lane}
 use Rattle.lane_ends.specs.declared.end.End.TheVariants.{ReadFault}
-use Rattle.site_lanes.proofs.Places.{each_more, each_before}
-use Rattle.site_lanes.proofs.Rising.{rose_more, rose_before}
+use Rattle.site_lanes.proofs.Places.{each_before}
 use Rattle.site_lanes.specs.Lanes.{HasSource, IsFaulty}
 use Rattle.site_lanes.proofs.ending.give_back.Goals as goal
+use Rattle.lemmas.proofs.Lists.{each_more}
+use Rattle.outside.proofs.Faults.{rose_more, rose_before}
 
 pub loop-preserved : goal.loop-preserved
 loop-preserved g c =

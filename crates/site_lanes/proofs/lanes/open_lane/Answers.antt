@@ -5,9 +5,10 @@ use Rattle.segment_rules.specs.declared.name.Name.{Name}
 use Rattle.segment_store.specs.Held.{ends_of}
 use Rattle.store_head.specs.Head.{HeadValue}
 use Rattle.lane_loans.specs.declared.lane.Lane.{Lane}
-use Rattle.recorded.proofs.Asking.{asks_file, asks_then_none, file_is}
+use Rattle.recorded.proofs.Asking.{asks_file, file_is}
 use Rattle.site_lanes.proofs.Opened.{gauge_fault, gauge_refused}
 use Rattle.site_lanes.proofs.lanes.open_lane.Goals as goal
+use Rattle.outside.proofs.Asked.{asks_no_more}
 
 pub returns-in-Ok-open_recording-clause-answer : goal.returns-in-Ok-open_recording-clause-answer
 returns-in-Ok-open_recording-clause-answer g c = λ shows.
@@ -40,6 +41,6 @@ returns-in-Ok-open_recording-clause-asked g c =
 pub returns-in-Err-open_recording-clause-asked : goal.returns-in-Err-open_recording-clause-asked
 returns-in-Err-open_recording-clause-asked g c =
     let asked = g.T.Site.names_asked in
-    asks_then_none (asked c.args.site.now) (asked c.fetch.new.self) (asked c.give_back.new.self) (file_of c.args.conf.now c.args.gauge ∷ [])
+    asks_no_more (asked c.args.site.now) (asked c.fetch.new.self) (asked c.give_back.new.self) (file_of c.args.conf.now c.args.gauge ∷ [])
     (asks_file c.args.conf.now c.args.gauge _ _ _ c.requires.known c.as_slice.ensures c.as_str-name.ensures (asked c.args.site.now)
     (asked c.fetch.new.self) c.fetch.ensures.asked) c.give_back.ensures.asked

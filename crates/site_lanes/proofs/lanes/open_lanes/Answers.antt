@@ -10,8 +10,8 @@ use Rattle.recorded.proofs.Asking.{asks_more, stops_behind, first_names}
 use Rattle.site_lanes.specs.Answers.{GaugeAnswers, FaultOf}
 use Rattle.site_lanes.specs.Lanes.{HasSource, IsLane}
 use Rattle.site_lanes.proofs.Opened.{open_refused, all_more_opened}
-use Rattle.site_lanes.proofs.Places.{each_more}
 use Rattle.site_lanes.proofs.lanes.open_lanes.Goals as goal
+use Rattle.lemmas.proofs.Lists.{each_more}
 
 pub returns-in-Err-clause-answer : goal.returns-in-Err-clause-answer
 returns-in-Err-clause-answer g c = λ shows.

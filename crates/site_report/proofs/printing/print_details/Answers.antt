@@ -4,8 +4,9 @@ use Rattle.lemmas.proofs.Outcomes.{on_err}
 use Rattle.report.specs.Page.{PageValue}
 use Rattle.site_config.specs.Valid.{name_of}
 use Rattle.site_config.specs.declared.config.NamedDetail.{NamedDetail}
+use Rattle.site_config.proofs.Named.{name_is}
 use Rattle.site_report.specs.Report.{detail_lines}
-use Rattle.site_report.proofs.Printed.{details_front, line_is, name_is}
+use Rattle.site_report.proofs.Printed.{details_front, line_is}
 use Rattle.site_report.proofs.printing.print_details.Goals as goal
 
 pub returns-in_err-put-clause-failed : goal.returns-in_err-put-clause-failed

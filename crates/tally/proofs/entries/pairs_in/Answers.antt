@@ -7,9 +7,10 @@ use Rattle.tally.specs.Counts.{IsCell}
 use Rattle.tally.specs.Log.{cells_of}
 use Rattle.tally.proofs.Equal.{cell_of}
 use Rattle.tally.proofs.LogCells.{each-cells_of, ascending-cells_of, length-cells_of, find_none}
-use Rattle.tally.proofs.AddEntries.{found_first, found_next, found_last, same_some}
+use Rattle.tally.proofs.AddEntries.{found_first, found_next, found_last}
 use Rattle.tally.proofs.entries.pairs_in.Goals as goal
 use Rattle.tally.proofs.entries.pairs_in.Goals.{in-Some, in_default}
+use Rattle.lemmas.proofs.Outcomes.{same_some}
 
 pub loop-init : goal.loop-init
 loop-init c =
@@ -51,7 +52,7 @@ overflow_add-cell c =
     let g = cells_of c.args.entries.now in
     let n_last : c.loop.pairs ≡ length g → ⊥ = λ e. some_none c.in-Some.cell c.loop.next c.in-Some.is (c.loop.invariant.last e) in
     let w : c.loop.pairs < length g = less c.loop.pairs (length g) (n_last) c.loop.invariant.bound in
-    let e = same_some _ _ _ c.in-Some.is (c.loop.invariant.from c.in-Some.cell w) in
+    let e = same_some c.in-Some.is (c.loop.invariant.from c.in-Some.cell w) in
     let h = (subst (IsCell MAX_CLASSES) (sym e)
     (each-cells_of MAX_CLASSES c.args.entries.now c.requires.each c.loop.pairs c.in-Some.cell w)).within in
     omega (arith, h)
@@ -68,7 +69,7 @@ loop-preserved c =
           let cell = x.in-Some.cell in
           let n : p ≡ length g → ⊥ = λ e. some_none cell c.loop.next x.in-Some.is (v.last e) in
           let w : p < length g = less p (length g) n v.bound in
-          let e : cell ≡ get_or g p cell = same_some _ _ _ x.in-Some.is (v.from cell w) in
+          let e : cell ≡ get_or g p cell = same_some x.in-Some.is (v.from cell w) in
           record {
             bound = omega (arith, x.pairs-is);
             each = inl (counted p (length g) c.loop.counter c.match-next.pairs v.each n x.pairs-is);

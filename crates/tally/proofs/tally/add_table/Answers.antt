@@ -4,9 +4,10 @@ use Rattle.tally.specs.Counts.{IsCell, HasGreatestRoom, count_of, total_of}
 use Rattle.tally.specs.Log.{cells_of}
 use Rattle.tally.proofs.Equal.{cell_of}
 use Rattle.tally.proofs.LogCells.{cells_of-ascending}
-use Rattle.tally.proofs.AddEntries.{HasEntries, entries-none, entries-more, entries-total, entries-cell, entries-room, entries-counts, entries-sum, entries-length, found_first, found_next, same_some}
+use Rattle.tally.proofs.AddEntries.{HasEntries, entries-none, entries-more, entries-total, entries-cell, entries-room, entries-counts, entries-sum, entries-length, found_first, found_next}
 use Rattle.tally.proofs.tally.add_table.Goals as goal
 use Rattle.tally.proofs.tally.add_table.Goals.{in-Some, in_default}
+use Rattle.lemmas.proofs.Outcomes.{same_some}
 
 pub loop-init : goal.loop-init
 loop-init c = record {
@@ -19,7 +20,7 @@ module _ (c : goal.After-add-arg-1) where
   inside = omega (arith, c.cells-end.ensures.cells)
 
   item : c.in-Some.cell ≡ get_or c.args.others.now.cells c.loop.counter c.in-Some.cell
-  item = same_some _ _ _ c.in-Some.is (c.loop.invariant.from c.in-Some.cell inside)
+  item = same_some c.in-Some.is (c.loop.invariant.from c.in-Some.cell inside)
 
   each : All (IsCell c.args.log.now.classes) c.args.others.now.cells
   each = subst (λ k. All (IsCell k) c.args.others.now.cells) (sym c.requires.classes) c.cells-end.ensures.counts.each
@@ -56,7 +57,7 @@ overflow_add-cell c =
     let i = c.loop.counter in
     let g = c.cells-end.ensures.counts in
     let w : i < length l = omega (arith, c.cells-end.ensures.cells) in
-    let e : c.in-Some.cell ≡ get_or l i c.in-Some.cell = same_some _ _ _ c.in-Some.is (c.loop.invariant.from c.in-Some.cell w) in
+    let e : c.in-Some.cell ≡ get_or l i c.in-Some.cell = same_some c.in-Some.is (c.loop.invariant.from c.in-Some.cell w) in
     let h = (subst (IsCell c.args.others.now.classes) (sym e) (g.each i c.in-Some.cell w)).within in
     omega (arith, h, g.many)
 
@@ -70,7 +71,7 @@ loop-preserved c =
     elim c.match-from.branch [
       | in-Some x ↦
           let cell = x.in-Some.cell in
-          let e : cell ≡ get_or l i cell = same_some _ _ _ x.in-Some.is (v.from cell w) in
+          let e : cell ≡ get_or l i cell = same_some x.in-Some.is (v.from cell w) in
           let a = x.add.ensures in
           let k = subst (λ k. All (IsCell k) l) (sym c.requires.classes) g.each in
           record {

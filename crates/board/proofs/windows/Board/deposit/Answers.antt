@@ -3,7 +3,7 @@ use Rattle.segment_rules.specs.declared.name.Name.{Name}
 use Rattle.segment.specs.Name.{name_of}
 use Rattle.board.specs.Board.{BoardValue, Row, IsBoard, Carries}
 use Rattle.board.specs.Rows.{Placed, Doubled}
-use Rattle.board.specs.Deposits.{Answers, Numbered}
+use Rattle.board.specs.Deposits.{IsDepositAnswer, Numbered}
 use Rattle.board.specs.declared.windows.Deposit.TheVariants.{Double}
 use Rattle.board.proofs.Depositing.{placed_board, placed_room, placed_carries, row_same, doubled, can_place, number_fits, number_there}
 use Rattle.board.proofs.windows.Board.deposit.Goals as goal
@@ -132,7 +132,7 @@ returns-in-Some-place-clause-answer c =
     let same : set b.rows n.gauge c.place.new.self ≡ b.rows = ap (λ (m : Name). set b.rows m.gauge c.place.new.self) is
     ∙ row_same b.rows seg.gauge c.place.new.self row start double.same in
     let found = doubled b seg c.place.new.self.slots c.in-Some-place.interval row c.self.invariant.1 known double in
-    let whole : Answers b (record {
+    let whole : IsDepositAnswer b (record {
       grid = b.grid;
       block = b.block;
       rows = set b.rows n.gauge c.place.new.self;
@@ -145,7 +145,7 @@ returns-in-Some-place-clause-answer c =
       ap
           (λ r. record { grid = b.grid; block = b.block; rows = r; arrivals = b.arrivals }) same,
     ) in
-    subst (λ v. Answers v (record {
+    subst (λ v. IsDepositAnswer v (record {
       grid = b.grid;
       block = b.block;
       rows = set b.rows n.gauge c.place.new.self;

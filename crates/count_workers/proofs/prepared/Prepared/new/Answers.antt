@@ -1,5 +1,5 @@
 use Rattle.std.proofs.Common.{rules, refl, ◌≡◌, ◌+◌, ◌++◌, true, length, take, drop, sym, subst}
-use Rattle.block_workers.proofs.Lists.{all_written}
+use Rattle.lemmas.proofs.Lists.{all_written}
 use Rattle.count_workers.specs.Preparing.{NewWorker}
 use Rattle.count_workers.proofs.Preparation.{Preparing, prepared_none, prepared_more, rests_first}
 use Rattle.count_workers.proofs.prepared.Prepared.new.Goals as goal

@@ -1,8 +1,9 @@
 use Rattle.std.proofs.Common.{length, ap, arith}
 use Rattle.std.specs.Fmt.{decimal}
 use Rattle.held_samples.specs.declared.line.TheConstants.{MAX_LINE_BYTES}
-use Rattle.held_samples.proofs.LineLengths.{number-short, more, front-long}
+use Rattle.held_samples.proofs.LineLengths.{more, front-long}
 use Rattle.held_samples.proofs.line.HeldLine.held.Goals as goal
+use Rattle.lemmas.proofs.Lists.{length-decimal_word as number-short}
 
 pub push_number-requires : goal.push_number-requires
 push_number-requires c =

@@ -1,6 +1,7 @@
 use Rattle.std.proofs.Common.{◌≡◌, ◌+◌, ◌≤◌, length, take, sym, refl, ap, ◌∙◌, arith, length-take}
-use Rattle.monitor.proofs.FiguresTaken.{all_kinds, points_below, figures_more}
+use Rattle.monitor.proofs.FiguresTaken.{points_below, figures_more}
 use Rattle.monitor.proofs.figures.Figures.take.Goals as goal
+use Rattle.report.proofs.Counted.{all_kinds}
 
 pub slice_bounds-piece-end : goal.slice_bounds-piece-end
 slice_bounds-piece-end c =

@@ -1,0 +1,14 @@
+//! Limits that the configuration of a site shares with the rounds of counting, the store and the
+//! printed texts.
+
+/// The most gauges of a site.
+pub const MAX_GAUGES: u16 = 32;
+
+/// The most bytes of the name of a gauge or a detail.
+pub const MAX_NAME_BYTES: usize = 32;
+
+/// The most samples of a block.
+pub const MAX_BLOCK: u32 = 4096;
+
+/// The most workers of a round.
+pub const MAX_WORKERS: u8 = 8;
