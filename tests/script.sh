@@ -149,6 +149,37 @@ fresh
 echo 'no folder' >"$top/crates/monitor_main/out"
 check 'no place for the program' '70' "$(run "$kit")"
 check 'no place: one line' '1' "$(wc -l <"$room/told" | tr -d ' ')"
+# What stands in the way can't be removed, or is no file: after a build, and in a fresh checkout.
+for it in monitor_main made_of build.log; do
+    for before in built fresh; do
+        fresh
+        [ "$before" = fresh ] || run "$kit" >/dev/null
+        rm -rf "$top/crates/monitor_main/out/$it"
+        mkdir -p "$top/crates/monitor_main/out/$it/full"
+        # (a program that stands needs no log)
+        [ "$it $before" = 'build.log built' ] && wanted='ran|3 0' || wanted='70 1'
+        check "$before, a folder in the place of $it" "$wanted" "$(run "$kit") $(wc -l <"$room/told" | tr -d ' ')"
+    done
+done
+if [ "$(id -u)" = 0 ]; then
+    echo 'script: a checkout that may not be written was not tried, since root may write everywhere'
+else
+    fresh
+    chmod -R a-w "$top"
+    check 'may not be written, without a program' '70 1' "$(run "$kit") $(wc -l <"$room/told" | tr -d ' ')"
+    chmod -R u+w "$top"
+    run "$kit" >/dev/null
+    chmod -R a-w "$top"
+    check 'may not be written, with a program' 'ran|3 0' "$(run "$kit") $(wc -l <"$room/told" | tr -d ' ')"
+    chmod u+w "$top/crates/low/src" "$top/crates/low/src/lib.rt"
+    echo 'fn low() { 4 }' >"$top/crates/low/src/lib.rt"
+    check 'may not be written, with a changed source' '70 1' "$(run "$kit") $(wc -l <"$room/told" | tr -d ' ')"
+    chmod -R u+w "$top"
+    rm "$top/crates/monitor_main/out"/*
+    chmod a-w "$top/crates/monitor_main/out"
+    check 'an empty place that may not be written' '70 1' "$(run "$kit") $(wc -l <"$room/told" | tr -d ' ')"
+    chmod -R u+w "$top"
+fi
 fresh
 rm "$top/crates.txt"
 check 'no crates.txt' '70' "$(run "$kit")"
