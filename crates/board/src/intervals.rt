@@ -56,7 +56,7 @@ impl Intervals {
         self.start
     }
 
-    /// Empties the row, and gives it the window from its start.
+    // Empties the row, and gives it the window from its start.
     fn begin(&mut self, gauge: u16, start: u64)
         requires { start ≤ MAX_SAMPLES }
         ensures { RowBegun gauge start self.old self.new }
@@ -85,7 +85,7 @@ impl Intervals {
     }
 }
 
-/// Takes all samples out of each segment.
+// Takes all samples out of each segment.
 fn empty_all(slots: &mut [Segment], gauge: u16, start: u64)
     requires { start ≤ MAX_SAMPLES }
     ensures { AllEmptied gauge start slots.old slots.new }

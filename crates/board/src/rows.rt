@@ -7,7 +7,7 @@ ghost use Rattle.board.specs.Board.{IsRow};
 use segment::Segment;
 use segment_rules::Name;
 
-/// Makes a segment another one. It keeps the number of samples that it may come to.
+// Makes a segment another one. It keeps the number of samples that it may come to.
 fn copy(slot: &mut Segment, seg: &Segment)
     requires grid { slot.old.grid ≡ seg.now.grid }
     requires longest { seg.now.to - seg.now.from ≤ slot.old.longest }
@@ -18,7 +18,7 @@ fn copy(slot: &mut Segment, seg: &Segment)
     let _ = slot.join(seg);
 }
 
-/// Joins a segment that goes on where the first one ends.
+// Joins a segment that goes on where the first one ends.
 fn join(slot: &mut Segment, seg: &Segment)
     requires grid { slot.old.grid ≡ seg.now.grid }
     requires next { IsNextTo slot.old seg.now }
@@ -29,7 +29,7 @@ fn join(slot: &mut Segment, seg: &Segment)
     let _ = slot.join(seg);
 }
 
-/// Takes all samples out of a segment.
+// Takes all samples out of a segment.
 fn empty(slot: &mut Segment)
     ensures { IsEmptied slot.old slot.new }
 {
@@ -44,7 +44,7 @@ fn is_empty(slot: &Segment) -> bool
     name.to <= name.from
 }
 
-/// The last place up to `k` at which an interval begins.
+// The last place up to `k` at which an interval begins.
 fn last_up_to(slots: &[Segment], k: usize) -> Option<usize>
     requires { k < length slots.now }
     ensures { Before slots.now k result }
@@ -58,7 +58,7 @@ fn last_up_to(slots: &[Segment], k: usize) -> Option<usize>
     None
 }
 
-/// Puts the segment at a place.
+// Puts the segment at a place.
 fn put(slots: &mut [Segment], k: usize, seg: &Segment)
     requires at { k < length slots.old }
     requires grid { (d : SegmentValue) → (slice_index_or slots.old k d).grid ≡ seg.now.grid }
@@ -69,7 +69,7 @@ fn put(slots: &mut [Segment], k: usize, seg: &Segment)
     copy(&mut slots[k], seg);
 }
 
-/// Joins the segment behind the one at a place.
+// Joins the segment behind the one at a place.
 fn extend(slots: &mut [Segment], j: usize, seg: &Segment)
     requires at { j < length slots.old }
     requires grid { (d : SegmentValue) → (slice_index_or slots.old j d).grid ≡ seg.now.grid }
@@ -81,8 +81,8 @@ fn extend(slots: &mut [Segment], j: usize, seg: &Segment)
     join(&mut slots[j], seg);
 }
 
-/// Joins the segment at a later place behind the one at a place, which leaves the later place
-/// empty.
+// Joins the segment at a later place behind the one at a place, which leaves the later place
+// empty.
 fn merge(slots: &mut [Segment], j: usize, k: usize)
     requires at { (j < k) × (k < length slots.old) }
     requires grid { (d : SegmentValue) →
@@ -99,7 +99,7 @@ fn merge(slots: &mut [Segment], j: usize, k: usize)
     empty(&mut right[0]);
 }
 
-/// Whether the interval at `k + 1`, if there is one, begins where the one at `j` ends.
+// Whether the interval at `k + 1`, if there is one, begins where the one at `j` ends.
 fn touches_next(slots: &[Segment], j: usize, k: usize) -> bool
     requires at { (j ≤ k) × (k < length slots.now) }
     ensures touches { OnTrue result (Touches slots.now j (k + 1)) }
@@ -112,7 +112,7 @@ fn touches_next(slots: &[Segment], j: usize, k: usize) -> bool
     next.from < next.to && slots[j].name().to == next.from
 }
 
-/// Joins the interval that begins behind a block to the one that ends with it.
+// Joins the interval that begins behind a block to the one that ends with it.
 fn close(slots: &mut [Segment], j: usize, k: usize)
     requires at { (j ≤ k) × (k < length slots.old) }
     requires grid { (d : SegmentValue) → k + 1 < length slots.old →

@@ -57,7 +57,7 @@ impl Model for Board {
         }) };
 }
 
-/// The number of the name among the blocks of a window, where it is one.
+// The number of the name among the blocks of a window, where it is one.
 fn number_in(start: u64, block: u32, gauges: usize, name: Name) -> Option<u64>
     requires start { start ≤ MAX_SAMPLES }
     requires block { (1 ≤ block) × (block ≤ MAX_BLOCK) }

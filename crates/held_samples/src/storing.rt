@@ -80,7 +80,7 @@ pub fn store_front<K: Station>(
     }
 }
 
-/// Stores and acknowledges the front of a gauge, unless it is empty.
+// Stores and acknowledges the front of a gauge, unless it is empty.
 fn store_gauge<K: Station>(
     store: &mut Store,
     station: &mut K,

@@ -60,7 +60,7 @@ fn some_difference(what: What, held: u64, found: u64) -> Option<Difference>
     Some(Difference { what, held, found })
 }
 
-/// The first pair whose half units are others in a segment than in a tally, and both.
+// The first pair whose half units are others in a segment than in a tally, and both.
 fn first_other_cell(seg: &Segment, found: &Tally) -> Option<Difference>
     requires classes { found.now.classes ≡ seg.now.grid.classes }
     ensures { MatchOption result
@@ -79,7 +79,7 @@ fn first_other_cell(seg: &Segment, found: &Tally) -> Option<Difference>
     None
 }
 
-/// The first level above `lo` at which a row has other half units than a tally.
+// The first level above `lo` at which a row has other half units than a tally.
 fn first_other(row: &[u64], found: &Tally, lo: u16) -> Option<u16>
     requires level { lo < found.now.classes }
     requires classes { length row.now ≡ found.now.classes }

@@ -71,7 +71,7 @@ pub fn count_again<S: Source>(
     })
 }
 
-/// Takes so many samples from a source, piece by piece, into a count of none.
+// Takes so many samples from a source, piece by piece, into a count of none.
 fn take_samples<S: Source>(
     src: &mut S,
     classifier: &Classifier,

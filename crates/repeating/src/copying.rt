@@ -6,7 +6,7 @@ ghost use Rattle.segment.specs.Segment.{IsSegment};
 use segment::Segment;
 use tally::Tally;
 
-/// Adds the full cycles of the pairs with this lower level. The row is a buffer for them.
+// Adds the full cycles of the pairs with this lower level. The row is a buffer for them.
 fn add_row(tally: &mut Tally, segment: &Segment, lo: u16, row: &mut [u64])
     requires rules { IsSegment segment.now }
     requires held { IsCounts segment.now.tally }

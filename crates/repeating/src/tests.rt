@@ -64,7 +64,7 @@ fn count(rt: &impl Abort, repeating: &mut Repeating, segment: &Segment) {
     repeating.of(segment);
 }
 
-/// These cycles in this order, and no others.
+// These cycles in this order, and no others.
 fn assert_cycles(rt: &impl Abort, repeating: &Repeating, expected: &[(u16, u16, u64)]) {
     let (mut lo, mut hi) = (0, 0);
     for &(low, high, n) in expected {
@@ -114,12 +114,12 @@ fn counts_over_the_fewest_and_the_most_classes(rt: HostRuntime) -> Result<(), Fa
     Ok(())
 }
 
-/// The next number of a plain generator.
+// The next number of a plain generator.
 fn draw(seed: u32) -> u32 {
     ((u64::from(seed) * 1_103_515_245 + 12_345) % (1 << 31)) as u32
 }
 
-/// Makes a history of fewer than 50 samples, and gives the seed of the next one.
+// Makes a history of fewer than 50 samples, and gives the seed of the next one.
 fn make(rt: &impl Abort, segment: &mut Segment, gain: &Gain, trial: u32, mut seed: u32) -> u32 {
     let levels = 2 + (trial % 15) as u16;
     segment.clear(0, 0);
@@ -135,7 +135,7 @@ fn mixed(sum: u32, number: u64) -> u32 {
     ((u64::from(sum) * 1_000_003 + number % 1_000) % (1 << 31)) as u32
 }
 
-/// Mixes all cycles into the sum.
+// Mixes all cycles into the sum.
 fn add_cycles(rt: &impl Abort, repeating: &Repeating, mut sum: u32) -> u32 {
     let mut found = repeating.next(0, 0);
     for _ in 0..120 {

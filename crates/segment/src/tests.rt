@@ -113,7 +113,7 @@ fn take_all(rt: &impl Abort, segment: &mut Segment, raws: &[i32], gain: &Gain) {
     }
 }
 
-/// Takes the samples of a gauge from a place on, one at a time.
+// Takes the samples of a gauge from a place on, one at a time.
 fn taken(
     rt: &impl Abort,
     alloc: Global,
@@ -129,7 +129,7 @@ fn taken(
     Ok(segment)
 }
 
-/// Takes those of gauge 0 as one block.
+// Takes those of gauge 0 as one block.
 fn counted(
     rt: &impl Abort,
     alloc: Global,
@@ -153,7 +153,7 @@ fn join(rt: &impl Abort, left: &mut Segment, right: &Segment) -> Result<(), Join
     left.join(right)
 }
 
-/// Joins the part that comes next, taken a sample at a time.
+// Joins the part that comes next, taken a sample at a time.
 fn put_behind(
     rt: &impl Abort,
     alloc: Global,
@@ -165,7 +165,7 @@ fn put_behind(
     Ok(join(rt, whole, &next)?)
 }
 
-/// Joins the part that comes before, counted as a block.
+// Joins the part that comes before, counted as a block.
 fn put_before(
     rt: &impl Abort,
     alloc: Global,
@@ -180,7 +180,7 @@ fn put_before(
     Ok(front)
 }
 
-/// The first two parts are joined first. With room for few pairs the cycles are a log.
+// The first two parts are joined first. With room for few pairs the cycles are a log.
 fn joined_from_the_left(
     rt: &impl Abort,
     alloc: Global,
@@ -194,7 +194,7 @@ fn joined_from_the_left(
     Ok(whole)
 }
 
-/// The last two parts are joined first. With room for each pair the cycles are a table.
+// The last two parts are joined first. With room for each pair the cycles are a table.
 fn joined_from_the_right(
     rt: &impl Abort,
     alloc: Global,

@@ -25,7 +25,7 @@ use simple_counts::Simple;
 use std::alloc::{AllocError, Global};
 use tally::{Cell, Tally, room_for};
 
-/// A tally of these cells, with the room of so many samples.
+// A tally of these cells, with the room of so many samples.
 fn tally_of(alloc: Global, grid: &Grid, longest: u64, cells: &[Cell]) -> Result<Tally, AllocError>
     requires cells { AreCells grid.now.classes cells.now }
     requires total { total_of cells.now ≤ MAX_TOTAL }
@@ -44,7 +44,7 @@ fn tally_of(alloc: Global, grid: &Grid, longest: u64, cells: &[Cell]) -> Result<
     Ok(tally)
 }
 
-/// The crossings of the parts.
+// The crossings of the parts.
 fn crossings_of(alloc: Global, grid: &Grid, parts: &Parts) -> Result<Crossings, AllocError>
     requires { CanCross grid.now.classes (end_points parts.now.ends) parts.now.crossings }
     ensures grid { IfOk result (λ x.
@@ -58,7 +58,7 @@ fn crossings_of(alloc: Global, grid: &Grid, parts: &Parts) -> Result<Crossings, 
     Ok(crossings)
 }
 
-/// The peaks, valleys and simple ranges of the parts.
+// The peaks, valleys and simple ranges of the parts.
 fn simple_of(alloc: Global, grid: &Grid, parts: &Parts) -> Result<Simple, AllocError>
     requires { CanLoad grid.now.classes grid.now.reference (end_points parts.now.ends)
         parts.now.peaks parts.now.valleys parts.now.ranges }
@@ -81,7 +81,7 @@ fn simple_of(alloc: Global, grid: &Grid, parts: &Parts) -> Result<Simple, AllocE
     Ok(simple)
 }
 
-/// The most samples of a segment of this name.
+// The most samples of a segment of this name.
 fn longest_of(name: Name) -> u64
     requires { name.from ≤ name.to }
     ensures { result ≡ longest_of name }
