@@ -5,6 +5,7 @@ pub mod Parts
 pub mod Standing
 pub mod Loading
 pub mod Joining
+pub mod Faults
 pub mod Readings
 pub mod Figures
 pub use Rattle.turning_points.specs.Points

@@ -1,4 +1,4 @@
-ghost use Rattle.std.specs.Prelude.{◌≡◌, ℕ, ℤ, List, ◌∷◌, ◌++◌, ◌+◌, ◌-◌, ◌≤◌, OnErr, OnOk};
+ghost use Rattle.std.specs.Prelude.{◌≡◌, ℕ, ℤ, List, Some, ◌∷◌, ◌++◌, ◌+◌, ◌-◌, ◌≤◌, OnErr, OnOk};
 ghost use Rattle.calibration.specs.Gain.{GainValue};
 ghost use Rattle.segment.specs.Segment.{AddsReadings, SameStart, SegmentValue, Stands, StandsFor};
 ghost use Rattle.segment.specs.Joining.{IsJoinAnswer};
@@ -6,6 +6,8 @@ ghost use Rattle.segment.specs.Figures.{SameKept};
 
 use super::Segment;
 use residue_join::join_residue;
+use std::error::Error;
+use std::fmt;
 
 /// Why a segment was not joined.
 #[derive(Clone, Copy, Debug, PartialEq, Eq, Drop)]
@@ -15,6 +17,25 @@ pub enum JoinRefusal {
     /// It does not begin where the left one ends.
     NotNext { to: u64, from: u64 },
 }
+
+impl fmt::Display for JoinRefusal {
+    ghost use Rattle.segment.specs.Faults.{refusal_text};
+
+    ghost output = { λ refusal. Some (refusal_text refusal) };
+
+    fn fmt<W: fmt::Write>(&self, f: &mut fmt::Formatter<W>) -> fmt::Result {
+        match self {
+            JoinRefusal::OtherGauge(left, right) => {
+                write!(f, "gauge {right} in place of {left}")
+            }
+            JoinRefusal::NotNext { to, from } => {
+                write!(f, "begins at sample {from} in place of {to}")
+            }
+        }
+    }
+}
+
+impl Error for JoinRefusal {}
 
 impl Segment {
     // Appends the part that comes next.
