@@ -1,7 +1,11 @@
-ghost use Rattle.std.specs.Prelude.{◌≡◌};
+ghost use Rattle.std.specs.Prelude.{◌≡◌, Some};
+ghost use Rattle.segment_bytes.specs.Faults.{bytes_text};
 ghost use Rattle.segment_bytes.specs.declared.fault.BytesFault.TheVariants.{OutOfMemory};
 
+use segment_rules::BrokenRule;
 use std::alloc::{AllocError, AllocFailed};
+use std::error::Error;
+use std::fmt;
 
 /// Why bytes are no body: the first fault, in this order.
 #[derive(Clone, Copy, Debug, PartialEq, Eq)]
@@ -33,3 +37,22 @@ impl<T: Drop> From<AllocFailed<T>> for BytesFault {
         BytesFault::OutOfMemory
     }
 }
+
+impl fmt::Display for BytesFault {
+    ghost output = { λ fault. Some (bytes_text fault) };
+
+    fn fmt<W: fmt::Write>(&self, f: &mut fmt::Formatter<W>) -> fmt::Result {
+        match *self {
+            BytesFault::Short { need, have } => write!(f, "ends after {have} of {need} bytes"),
+            BytesFault::Trailing { rest } => write!(f, "{rest} bytes behind the body"),
+            BytesFault::Order { list, index } => {
+                write!(f, "{}", BrokenRule::Order { list, index })
+            }
+            BytesFault::Sum { rule } => write!(f, "{}", BrokenRule::Sum { rule }),
+            BytesFault::Residue { rule } => write!(f, "{}", BrokenRule::Residue { rule }),
+            BytesFault::OutOfMemory => f.write_str("out of memory"),
+        }
+    }
+}
+
+impl Error for BytesFault {}
