@@ -51,11 +51,20 @@ fn add_row(cells: &mut Vec<Cell>, row: &Row) -> Result<(), AllocError>
     Ok(())
 }
 
+// How many cells the rows have, for what is reserved: nothing else hangs on it.
+fn len_of(rows: &[Row]) -> usize {
+    let mut len = 0usize;
+    for row in rows {
+        len = len.saturating_add(row.bins.len());
+    }
+    len
+}
+
 /// The cells of the rows.
 pub(crate) fn cells_of(alloc: Global, rows: &[Row]) -> Result<Vec<Cell>, AllocError>
     ensures { IfOk result (λ cells. cells.items ≡ cells_of (see_rows rows.now)) }
 {
-    let mut cells = Vec::new(alloc);
+    let mut cells = Vec::with_capacity(alloc, len_of(rows))?;
     for row in rows {
         add_row(&mut cells, row)?;
     }
