@@ -4,7 +4,8 @@ use Rattle.segment_store.specs.declared.fault.ResumeFault.{ResumeFault}
 use Rattle.config_reading.specs.Reading.{IsRefusal}
 use Rattle.status.specs.declared.status.Status.{Status}
 use Rattle.status.specs.declared.status.Status.TheVariants.{Usage}
-use Rattle.report_command.specs.Answers.{IsReporting, store_status}
+use Rattle.status.specs.Refused.{store_status}
+use Rattle.report_command.specs.Answers.{IsReporting}
 use Rattle.report_command.proofs.AnswerKinds.{kind_of_store}
 use Rattle.audit_command.specs.Answers.{IsAuditing}
 

@@ -37,8 +37,9 @@ use Rattle.status.specs.declared.status.RecordingFault.{RecordingFault}
 use Rattle.status.specs.declared.status.Status.{Status}
 use Rattle.status.specs.declared.status.Status.TheVariants.{Done, Usage, Config as BadConfig, Store as BadStore, Recording, Torn, ReadFault, WriteFault, DiskFault, OutOfMemory, TooLong, Differs}
 use Rattle.config_reading.specs.Reading.{MeansAs, IsRefusal}
-use Rattle.report_command.specs.Answers.{ReadsAs, store_status}
-use Rattle.report_command.specs.Printing.{IsPrinting}
+use Rattle.status.specs.Printing.{IsPrinting}
+use Rattle.status.specs.Refused.{store_status}
+use Rattle.report_command.specs.Answers.{ReadsAs}
 use Rattle.config_reading.proofs.Refusing.{by_refusal}
 use Rattle.audit_command.specs.Recounted.{IsRecounting}
 use Rattle.audit_command.specs.Audited.{Meant, IsItem, HasKept, IsStanding, IsOther, AllSame, Finds, first_samples}

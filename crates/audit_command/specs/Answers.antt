@@ -16,7 +16,8 @@ use Rattle.recorded.specs.Recorded.{recorded}
 use Rattle.site_lanes.specs.Answers.{AllOpened, FaultOf}
 use Rattle.status.specs.declared.status.Status.{Status}
 use Rattle.status.specs.declared.status.Status.TheVariants.{Done, Config as BadConfig, Store as BadStore, Recording, ReadFault, WriteFault, DiskFault, OutOfMemory, Differs}
-use Rattle.report_command.specs.Answers.{IsRefused, ReadsAs, store_status}
+use Rattle.status.specs.Refused.{IsRefused, store_status}
+use Rattle.report_command.specs.Answers.{ReadsAs}
 use Rattle.audit_command.specs.Audited.{Meant, HasKept, AllSame, Finds, first_samples}
 
 -- nothing is wrong with any recording, and the comparison finds this

@@ -11,7 +11,7 @@ ghost use Rattle.recorded.specs.Asked.{AsksFirst, file_names, names_in};
 ghost use Rattle.fault_lines.specs.FaultLine.{fault_line, name_by, name_for};
 ghost use Rattle.fault_lines.specs.Telling.{TellsAtMost};
 ghost use Rattle.status.specs.declared.status.Status.TheVariants.{Done, Usage, ReadFault, WriteFault, DiskFault, OutOfMemory};
-ghost use Rattle.report_command.specs.Printing.{IsPrinting};
+ghost use Rattle.status.specs.Printing.{IsPrinting};
 ghost use Rattle.audit_command.specs.Audited.{Finds, IsStanding, first_samples};
 ghost use Rattle.audit_command.specs.Answers.{MayAnswerOver, AuditAnswers, IsAudited, IsSound};
 ghost use Rattle.audit_command.specs.Printing.{Prints};
@@ -20,11 +20,10 @@ use crate::audited::audit_held;
 use config_reading::read_config;
 use fault_lines::{FaultLine, name_in, tell_fault, tell_no_memory};
 use outside::{Sink, Site, Source};
-use report_command::status_of;
 use segment_store::Store;
 use site_config::{Config, MAX_NAME_BYTES};
 use station::Station;
-use status::Status;
+use status::{Status, status_of};
 use std::alloc::Global;
 
 /// Counts the held samples of a site's recordings again, and compares them with what its store

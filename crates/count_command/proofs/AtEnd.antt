@@ -29,20 +29,23 @@ use Rattle.site_lanes.specs.Ending.{lane_fault, NoFaultBelow}
 use Rattle.site_lanes.specs.Lanes.{Stood, AreLanes, AreHeldTo, HasEnded, HasNotFailed, IsWhole}
 use Rattle.held_rounds.specs.Telling.{HasTold}
 use Rattle.count_command.specs.Holding.{HoldsBy, HeldAt, HeldCut, LeavesStore, whole, cut}
-use Rattle.count_command.specs.Printed.{AllStandFor, Prints, IsPrinting, figures_by}
+use Rattle.count_command.specs.Printed.{AllStandFor, Prints}
 use Rattle.segment_store.specs.Opening.{Resumes}
 use Rattle.segment_store.specs.declared.fault.ResumeFault.{ResumeFault}
 use Rattle.segment_store.specs.declared.fault.ResumeFault.TheVariants as fault
-use Rattle.count_command.specs.Answer.{ReadsAs, IsRefused, store_fault, EndAnswers, RunAnswers, IsEnding, IsRunning, IsCounting, MayAnswerOver, CountAnswers}
+use Rattle.count_command.specs.Answer.{ReadsAs, EndAnswers, RunAnswers, IsEnding, IsRunning, IsCounting, MayAnswerOver, CountAnswers}
 use Rattle.store_head.specs.Head.{HeadValue}
 use Rattle.site_config.specs.declared.fault.ConfigFault.{ConfigFault}
 use Rattle.status.specs.declared.status.Status.{Status}
 use Rattle.status.specs.declared.status.Status.TheVariants.{Done, Usage, Config as BadConfig, Store as BadStore, Recording, Torn, ReadFault, WriteFault, DiskFault, OutOfMemory, TooLong, Differs}
+use Rattle.status.specs.Printing.{IsPrinting}
+use Rattle.status.specs.Refused.{IsRefused, store_status}
+use Rattle.status.proofs.Printing.{by_printing}
 use Rattle.segment_store.proofs.HeldStand.{held_stand}
 use Rattle.segment_store.proofs.Holding.{held_is}
 use Rattle.report.specs.Figures.{Agree, figures, figures_of}
 use Rattle.report.proofs.SegmentFigures.{figures_stand}
-use Rattle.site_report.specs.Report.{Agrees}
+use Rattle.site_report.specs.Report.{Agrees, figures_by}
 use Rattle.calibration.specs.Grid.{GridValue}
 use Rattle.held_samples.proofs.Going.{stored_holds, same_lines}
 use Rattle.held_rounds.proofs.RoundOf.{any_of}
@@ -100,20 +103,6 @@ agrees c w held stand g d lt rules =
     let v = slice_index_or held g d in
     subst (λ (x : GridValue). Agree x (figures_of v) (figures x (gain_at c.setup g) (w g))) here.0
     (figures_stand v (gain_at c.setup g) (w g) here.1 rules)
-
-by_printing : (P : Status → Type 0) → P Done → P WriteFault → (s : Status) → IsPrinting s → P s
-by_printing P d w Done is = d
-by_printing P d w WriteFault is = w
-by_printing P d w Usage is = absurd is
-by_printing P d w (BadConfig f) is = absurd is
-by_printing P d w (BadStore f) is = absurd is
-by_printing P d w (Recording g f) is = absurd is
-by_printing P d w (Torn g b) is = absurd is
-by_printing P d w ReadFault is = absurd is
-by_printing P d w DiskFault is = absurd is
-by_printing P d w OutOfMemory is = absurd is
-by_printing P d w (TooLong g) is = absurd is
-by_printing P d w (Differs g x y z) is = absurd is
 
 -- the answer of a lane is one of three
 pub by_fault : (P : Status → Type 0) (g : ℕ) → ((b : ℕ) → P (Torn g b)) → P ReadFault → P (TooLong g) → (e : End) (s : Status) →
@@ -325,7 +314,7 @@ refused setup image see fault.DiskFault h = tt
 refused setup image see fault.OutOfMemory h = tt
 
 pub over_refused : (c : Config) (image : Image) (files : Files) (f : ResumeFault) → IsRefused c.setup image f →
-    MayAnswerOver c image files (store_fault f)
+    MayAnswerOver c image files (store_status f)
 over_refused c image files fault.NotAStore h = (fault.NotAStore, refl, h)
 over_refused c image files (fault.Version v) h = (fault.Version v, refl, h)
 over_refused c image files (fault.Differs field kept found) h = (fault.Differs field kept found, refl, h)

@@ -25,7 +25,8 @@ use Rattle.site_lanes.specs.Opening.{head_fault}
 use Rattle.site_lanes.specs.Answers.{AllOpened, AllSound, HeadsFit}
 use Rattle.site_lanes.proofs.Opened.{fault_by-none, not_both}
 use Rattle.config_reading.specs.Reading.{MeansAs, IsRefusal}
-use Rattle.count_command.specs.Answer.{RunAnswers, IsRunning, IsComplete, store_fault}
+use Rattle.count_command.specs.Answer.{RunAnswers, IsRunning, IsComplete}
+use Rattle.status.specs.Refused.{store_status}
 use Rattle.status.specs.declared.status.Status.{Status}
 use Rattle.status.specs.declared.status.Status.TheVariants.{Done, Usage, Config as BadConfig, Store as BadStore, Recording, Torn, ReadFault, WriteFault, DiskFault, OutOfMemory, TooLong, Differs}
 use Rattle.lemmas.proofs.Lists.{get_or-zeros}
@@ -97,7 +98,7 @@ run_complete c heads n files opened sound (BadConfig f) k a = k
 run_complete c heads n files opened sound (BadStore f) k a = k
 run_complete c heads n files opened sound (Differs g w x y) k a = k
 
-pub complete_resume : (f : ResumeFault) → IsUnharmed {X = StoreValue} (Err f) → IsComplete (store_fault f)
+pub complete_resume : (f : ResumeFault) → IsUnharmed {X = StoreValue} (Err f) → IsComplete (store_status f)
 complete_resume resume.NotAStore is = is
 complete_resume (resume.Version v) is = is
 complete_resume (resume.Differs x y z) is = is

@@ -2,7 +2,6 @@
 -- the outside has a clause of its own, and want of memory none.
 --   EndAnswers     after all recordings were opened
 --   RunAnswers     after the store was resumed
---   store_fault    the answer for a store that is refused
 --   MayAnswerOver  over what a read of the store gives
 --   CountAnswers   by the configuration
 --   IsEnding, IsRunning, IsCounting   the answers that can come at all, by stage
@@ -15,16 +14,14 @@ use Rattle.calibration.specs.declared.setup.Setup.{Setup}
 use Rattle.segment_rules.specs.Parts.{PartsValue}
 use Rattle.store_head.specs.Head.{HeadValue}
 use Rattle.segment_store.specs.Image.{Reads}
-use Rattle.segment_store.specs.Opening.{Resumes}
 use Rattle.segment_store.specs.declared.fault.ResumeFault.{ResumeFault}
-use Rattle.segment_store.specs.declared.fault.ResumeFault.TheVariants as resume
 use Rattle.site_config.specs.declared.config.Config.{Config}
 use Rattle.site_config.specs.declared.fault.ConfigFault.{ConfigFault}
 use Rattle.site_config.specs.Valid.{file_of}
 use Rattle.recorded.specs.Recorded.{body_in}
-use Rattle.status.specs.declared.status.StoreFault.TheVariants as store
 use Rattle.status.specs.declared.status.Status.{Status}
 use Rattle.status.specs.declared.status.Status.TheVariants.{Done, Config as BadConfig, Store as BadStore, Recording, Torn, ReadFault, WriteFault, DiskFault, OutOfMemory, TooLong}
+use Rattle.status.specs.Refused.{IsRefused, store_status}
 use Rattle.site_lanes.specs.Answers.{FaultOf, AllOpened, AllSound, end_of}
 
 -- the recording of a gauge ends so, and those of the gauges below it end soundly
@@ -51,18 +48,6 @@ RunAnswers c heads n files DiskFault = Unit {0}
 RunAnswers c heads n files OutOfMemory = Unit {0}
 RunAnswers c heads n files status = AllOpened c heads n files (length c.gauges) × EndAnswers c files status
 
-abbrev pub store_fault : ResumeFault → Status
-store_fault resume.NotAStore = BadStore store.NotAStore
-store_fault (resume.Version v) = BadStore (store.Version v)
-store_fault (resume.Differs field kept found) = BadStore (store.Differs field kept found)
-store_fault (resume.Damaged index damage) = BadStore (store.Damaged index damage)
-store_fault resume.DiskFault = DiskFault
-store_fault resume.OutOfMemory = OutOfMemory
-
--- the first thing wrong with a store, in the order of the file
-abbrev pub IsRefused : Setup → Image → ResumeFault → Type 0
-IsRefused setup image fault = Resumes {X = ℕ × List ℕ} setup image (λ x. x) (Err fault)
-
 -- an image reads as a store of this setup, which holds so many samples of each gauge
 pub record ReadsAs (setup : Setup) (head : HeadValue) (n : List ℕ) (image : Image) : Type 0 where
   pub of_setup : head.setup ≡ setup
@@ -71,7 +56,7 @@ pub record ReadsAs (setup : Setup) (head : HeadValue) (n : List ℕ) (image : Im
 
 abbrev pub MayAnswerOver : Config → Image → Files → Status → Type 0
 MayAnswerOver c image files (BadStore fault) =
-    (f : ResumeFault) × (store_fault f ≡ BadStore fault) × IsRefused c.setup image f
+    (f : ResumeFault) × (store_status f ≡ BadStore fault) × IsRefused c.setup image f
 MayAnswerOver c image files ReadFault = Unit {0}
 MayAnswerOver c image files DiskFault = Unit {0}
 MayAnswerOver c image files OutOfMemory = Unit {0}

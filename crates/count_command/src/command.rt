@@ -15,7 +15,8 @@ ghost use Rattle.fault_lines.specs.Telling.{EndsIn, TellsAtMost};
 ghost use Rattle.status.specs.declared.status.Status.TheVariants.{Done, ReadFault, WriteFault, DiskFault, OutOfMemory};
 ghost use Rattle.count_command.specs.Holding.{HeldAt, HeldCut, LeavesStore};
 ghost use Rattle.count_command.specs.Answer.{CountAnswers};
-ghost use Rattle.count_command.specs.Printed.{Prints, IsPrinting};
+ghost use Rattle.count_command.specs.Printed.{Prints};
+ghost use Rattle.status.specs.Printing.{IsPrinting};
 
 use crate::stored::count_by;
 use config_reading::read_config;

@@ -13,9 +13,10 @@ ghost use Rattle.held_samples.specs.Told.{Acknowledges};
 ghost use Rattle.site_lanes.specs.Lanes.{AreLanes, AreHeldTo, HasSource, IsFaulty, HasNotFailed};
 ghost use Rattle.site_report.specs.Room.{HasRoom};
 ghost use Rattle.status.specs.declared.status.Status.TheVariants.{Done, ReadFault, WriteFault, DiskFault};
+ghost use Rattle.status.specs.Printing.{IsPrinting};
 ghost use Rattle.count_command.specs.Holding.{HeldAt, HeldCut, LeavesStore};
 ghost use Rattle.count_command.specs.Answer.{EndAnswers, IsEnding};
-ghost use Rattle.count_command.specs.Printed.{AllStandFor, Prints, IsPrinting};
+ghost use Rattle.count_command.specs.Printed.{AllStandFor, Prints};
 
 use board::Board;
 use count_workers::{Lane, Plan, Prepared};

@@ -24,18 +24,19 @@ ghost use Rattle.held_samples.specs.Told.{Acknowledges};
 ghost use Rattle.site_lanes.specs.Answers.{HeadsFit, AllSound};
 ghost use Rattle.site_lanes.specs.Lanes.{HasSource, IsFaulty, HasNotFailed};
 ghost use Rattle.status.specs.declared.status.Status.TheVariants.{Done, ReadFault, WriteFault, DiskFault};
+ghost use Rattle.status.specs.Printing.{IsPrinting};
 ghost use Rattle.count_command.specs.Holding.{HeldAt, HeldCut, LeavesStore};
-ghost use Rattle.count_command.specs.Answer.{store_fault, RunAnswers, MayAnswerOver, IsRunning, IsCounting, IsComplete};
-ghost use Rattle.count_command.specs.Printed.{Prints, IsPrinting};
+ghost use Rattle.count_command.specs.Answer.{RunAnswers, MayAnswerOver, IsRunning, IsCounting, IsComplete};
+ghost use Rattle.count_command.specs.Printed.{Prints};
 
 use crate::opened::count_opened;
 use count_workers::Lane;
 use outside::{Gate, Sink, Site};
-use segment_store::{ResumeFault, Store};
+use segment_store::Store;
 use site_config::Config;
 use site_lanes::{give_back, open_lanes};
 use station::Station;
-use status::{Status, StoreFault};
+use status::{Status, status_of};
 use std::sync::Wait;
 use std::thread::Threads;
 
@@ -126,23 +127,6 @@ fn count_stored<
         out,
         gate,
     )
-}
-
-fn status_of(fault: ResumeFault) -> Status
-    ensures { result ≡ store_fault fault }
-{
-    match fault {
-        ResumeFault::NotAStore => Status::Store(StoreFault::NotAStore),
-        ResumeFault::Version(version) => Status::Store(StoreFault::Version(version)),
-        ResumeFault::Differs { field, kept, found } => {
-            Status::Store(StoreFault::Differs { field, kept, found })
-        }
-        ResumeFault::Damaged { index, damage } => {
-            Status::Store(StoreFault::Damaged { index, damage })
-        }
-        ResumeFault::DiskFault => Status::DiskFault,
-        ResumeFault::OutOfMemory => Status::OutOfMemory,
-    }
 }
 
 /// Counts by a configuration. All sources are back at the site when the call returns.

@@ -1,11 +1,7 @@
 -- What `demo` may answer.
 use Rattle.status.specs.declared.status.Status.{Status}
-use Rattle.status.specs.declared.status.Status.TheVariants.{Done, WriteFault, OutOfMemory}
-
-abbrev pub IsPrinting : Status → Type 0
-IsPrinting Done = Unit {0}
-IsPrinting WriteFault = Unit {0}
-IsPrinting status = ⊥
+use Rattle.status.specs.declared.status.Status.TheVariants.{OutOfMemory}
+use Rattle.status.specs.Printing.{IsPrinting}
 
 -- nothing is read, so no source fails
 abbrev pub IsDemoAnswer : Status → Type 0

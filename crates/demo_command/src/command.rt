@@ -2,7 +2,8 @@ ghost use Rattle.std.specs.Prelude.{◌≡◌, ◌≢◌, ◌≤◌, ◌++◌, L
 ghost use Rattle.outside.specs.Fault.{Rose};
 ghost use Rattle.outside.specs.Sink.{AppendsPrefix};
 ghost use Rattle.demo_command.specs.Summary.{IsSummary};
-ghost use Rattle.demo_command.specs.Answer.{IsDemoAnswer, IsPrinting};
+ghost use Rattle.status.specs.Printing.{IsPrinting};
+ghost use Rattle.demo_command.specs.Answer.{IsDemoAnswer};
 ghost use Rattle.demo_command.specs.declared.TheConstants.{MAX_SEED, MAX_DEMO_SAMPLES};
 ghost use Rattle.round_making.specs.declared.TheConstants.{MAX_WORKERS};
 ghost use Rattle.status.specs.declared.status.Status.TheVariants.{Done, WriteFault};

@@ -8,7 +8,7 @@ use Rattle.recorded.specs.Recorded.{recorded}
 use Rattle.recorded.specs.Asked.{AsksFirst, names_in}
 use Rattle.status.specs.declared.status.Status.{Status}
 use Rattle.status.specs.declared.status.Status.TheVariants.{Done, Usage, ReadFault, WriteFault, DiskFault, OutOfMemory}
-use Rattle.report_command.specs.Printing.{IsPrinting}
+use Rattle.status.specs.Printing.{IsPrinting}
 use Rattle.audit_command.specs.Answers.{AuditAnswers, IsSound}
 use Rattle.audit_command.specs.Audited.{Finds, IsStanding, first_samples}
 use Rattle.audit_command.specs.Printing.{Prints}

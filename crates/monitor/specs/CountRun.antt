@@ -12,9 +12,10 @@ use Rattle.held_samples.specs.Told.{Acknowledges}
 use Rattle.site_lanes.specs.Answers.{HeadsFit, AllSound}
 use Rattle.status.specs.declared.status.Status.{Status}
 use Rattle.status.specs.declared.status.Status.TheVariants.{Done, Usage, ReadFault, WriteFault, DiskFault, OutOfMemory}
+use Rattle.status.specs.Printing.{IsPrinting}
 use Rattle.count_command.specs.Holding.{HeldAt, HeldCut, LeavesStore}
 use Rattle.count_command.specs.Answer.{CountAnswers}
-use Rattle.count_command.specs.Printed.{Prints, IsPrinting}
+use Rattle.count_command.specs.Printed.{Prints}
 use Rattle.fault_lines.specs.FaultLine.{fault_line}
 use Rattle.monitor.specs.Shown.{Shown, Tells, Ends}
 use Rattle.monitor.specs.InitRun.{line_for}

@@ -4,7 +4,8 @@ use Rattle.outside.specs.Fault.{Rose}
 use Rattle.outside.specs.Sink.{AppendsPrefix}
 use Rattle.status.specs.declared.status.Status.{Status}
 use Rattle.status.specs.declared.status.Status.TheVariants.{Done, WriteFault}
-use Rattle.demo_command.specs.Answer.{IsDemoAnswer, IsPrinting}
+use Rattle.status.specs.Printing.{IsPrinting}
+use Rattle.demo_command.specs.Answer.{IsDemoAnswer}
 use Rattle.demo_command.specs.Summary.{IsSummary}
 
 -- With this seed and so many samples. Whether the output tells its content, what it shows and its count of faults,

@@ -8,7 +8,8 @@ use Rattle.site_config.specs.declared.config.Config.{Config}
 use Rattle.fault_lines.specs.FaultLine.{fault_line}
 use Rattle.status.specs.declared.status.Status.{Status}
 use Rattle.status.specs.declared.status.Status.TheVariants.{Done, ReadFault, WriteFault, DiskFault, OutOfMemory}
-use Rattle.report_command.specs.Printing.{IsPrinting, held_of}
+use Rattle.status.specs.Printing.{IsPrinting}
+use Rattle.report_command.specs.Printing.{held_of}
 use Rattle.report_command.specs.Answers.{IsSound, ReportAnswers, IsReporting}
 use Rattle.repeat_command.specs.Printing.{Prints}
 use Rattle.monitor.specs.Shown.{Shown, Tells, Ends}

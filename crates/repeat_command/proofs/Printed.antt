@@ -18,7 +18,7 @@ use Rattle.site_config.specs.declared.config.Config.{Config}
 use Rattle.config_reading.specs.Reading.{IsRefusal}
 use Rattle.config_reading.proofs.Refusing.{by_refusal}
 use Rattle.status.specs.declared.status.Status.{Status}
-use Rattle.report_command.specs.Answers.{store_status}
+use Rattle.status.specs.Refused.{store_status}
 use Rattle.repeat_command.specs.Printing.{Prints, cycles_by, text_of_gauge}
 
 pub refused_prints : (f : ResumeFault) (c : Config) (w : ℕ → List ℤ) (old : List ℕ) → Prints (store_status f) c w old old

@@ -8,7 +8,8 @@ ghost use Rattle.site_config.specs.declared.config.Config.{Config};
 ghost use Rattle.fault_lines.specs.FaultLine.{fault_line};
 ghost use Rattle.fault_lines.specs.Telling.{TellsAtMost};
 ghost use Rattle.status.specs.declared.status.Status.TheVariants.{Done, ReadFault, WriteFault, DiskFault, OutOfMemory};
-ghost use Rattle.report_command.specs.Printing.{IsPrinting, held_of};
+ghost use Rattle.status.specs.Printing.{IsPrinting};
+ghost use Rattle.report_command.specs.Printing.{held_of};
 ghost use Rattle.report_command.specs.Answers.{IsSound, ReadsAs, ReportAnswers, MayAnswerOver, IsReporting};
 ghost use Rattle.repeat_command.specs.Printing.{Prints};
 
@@ -18,11 +19,10 @@ use fault_lines::{FaultLine, tell_fault, tell_no_memory};
 use outside::{Sink, Source};
 use repeating::Repeating;
 use report::Page;
-use report_command::status_of;
 use segment_store::Store;
 use site_config::{Config, MAX_NAME_BYTES};
 use station::Station;
-use status::Status;
+use status::{Status, status_of};
 use std::alloc::Global;
 
 /// Prints what the store of a site holds of each gauge as a history that repeats. Whatever else

@@ -5,10 +5,10 @@ ghost use Rattle.calibration.specs.Gain.{GainValue};
 ghost use Rattle.calibration.specs.History.{history};
 ghost use Rattle.repeating.specs.Repeating.{repeating_cycles};
 ghost use Rattle.report.specs.Repeat as texts;
-ghost use Rattle.report_command.specs.Printing.{IsPrinting};
 ghost use Rattle.segment.specs.Segment.{Stands};
 ghost use Rattle.site_config.specs.Valid.{IsConfig};
 ghost use Rattle.status.specs.declared.status.Status.TheVariants.{WriteFault};
+ghost use Rattle.status.specs.Printing.{IsPrinting};
 ghost use Rattle.repeat_command.specs.Printing.{AllHeldStand, Prints, repeat_texts};
 ghost use Rattle.calibration.specs.declared.limits.TheConstants.{MAX_NAME_BYTES};
 

@@ -5,8 +5,9 @@ use Rattle.segment_store.specs.declared.fault.ResumeFault.TheVariants as resume
 use Rattle.config_reading.specs.Reading.{IsRefusal}
 use Rattle.status.specs.declared.status.Status.{Status}
 use Rattle.status.specs.declared.status.Status.TheVariants.{Done, Usage, Config, Store, Recording, Torn, ReadFault, WriteFault, DiskFault, OutOfMemory, TooLong, Differs}
-use Rattle.report_command.specs.Answers.{IsReporting, store_status}
-use Rattle.report_command.specs.Printing.{IsPrinting}
+use Rattle.status.specs.Printing.{IsPrinting}
+use Rattle.status.specs.Refused.{store_status}
+use Rattle.report_command.specs.Answers.{IsReporting}
 
 store_kind : (f : ResumeFault) → IsReporting (store_status f)
 store_kind resume.NotAStore = tt

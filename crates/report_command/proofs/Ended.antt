@@ -17,23 +17,11 @@ use Rattle.config_reading.specs.Reading.{MeansAs, IsRefusal}
 use Rattle.config_reading.proofs.Refusing.{by_refusal}
 use Rattle.status.specs.declared.status.Status.{Status}
 use Rattle.status.specs.declared.status.Status.TheVariants.{Done, Usage, Config as BadConfig, Store as BadStore, Recording, Torn, ReadFault, WriteFault, DiskFault, OutOfMemory, TooLong, Differs}
-use Rattle.report_command.specs.Printing.{Prints, IsPrinting}
-use Rattle.report_command.specs.Answers.{store_status, MayAnswerOver, ReadsAs, ReportAnswers, IsSound}
-
--- of an answer of printing
-pub by_printing : (P : Status → Type 0) → P Done → P WriteFault → (s : Status) → IsPrinting s → P s
-by_printing P d w Done is = d
-by_printing P d w WriteFault is = w
-by_printing P d w Usage is = absurd is
-by_printing P d w (BadConfig f) is = absurd is
-by_printing P d w (BadStore f) is = absurd is
-by_printing P d w (Recording g f) is = absurd is
-by_printing P d w (Torn g b) is = absurd is
-by_printing P d w ReadFault is = absurd is
-by_printing P d w DiskFault is = absurd is
-by_printing P d w OutOfMemory is = absurd is
-by_printing P d w (TooLong g) is = absurd is
-by_printing P d w (Differs g x y z) is = absurd is
+use Rattle.status.specs.Printing.{IsPrinting}
+use Rattle.status.specs.Refused.{store_status}
+use Rattle.status.proofs.Printing.{by_printing}
+use Rattle.report_command.specs.Printing.{Prints}
+use Rattle.report_command.specs.Answers.{MayAnswerOver, ReadsAs, ReportAnswers, IsSound}
 
 pub refused_prints : (f : ResumeFault) (c : Config) (figures : ℕ → Figures) (old : List ℕ) → Prints (store_status f) c figures old old
 refused_prints fault.NotAStore c figures old = refl

@@ -26,9 +26,9 @@ use Rattle.report.specs.Figures.{Agree, Figures, figures, figures_of}
 use Rattle.report.proofs.SegmentFigures.{figures_stand}
 use Rattle.report.proofs.Counted.{same_counts}
 use Rattle.site_config.specs.declared.config.Config.{Config}
-use Rattle.site_report.specs.Report.{Agrees}
+use Rattle.site_report.specs.Report.{Agrees, figures_by}
 use Rattle.status.specs.declared.status.Status.{Status}
-use Rattle.report_command.specs.Printing.{IsKept, Prints, PrintsKept, figures_by, held_of}
+use Rattle.report_command.specs.Printing.{IsKept, Prints, PrintsKept, held_of}
 
 module _ (s : StoreValue) (bodies : List PartsValue) (seen : Image) (leaves : Image → Type 0) (on : IsOn s bodies seen leaves) where
   grid_is : (g : ℕ) (d : SegmentValue) → g < length s.held → (get_or s.held g d).grid ≡ s.head.setup.grid

@@ -1,6 +1,5 @@
 -- Which answer `report` has. Each has its cause in the configuration and the store; a fault of the outside has a clause
 -- of its own, and want of memory none.
---   store_status   the answer for a store that is not resumed
 --   MayAnswerOver  over what a read of the store gives
 --   ReportAnswers  by the configuration
 --   IsSound        the configuration is sound, and the store is one of its setup
@@ -11,26 +10,12 @@ use Rattle.calibration.specs.declared.setup.Setup.{Setup}
 use Rattle.segment_rules.specs.Parts.{PartsValue}
 use Rattle.store_head.specs.Head.{HeadValue}
 use Rattle.segment_store.specs.Image.{Reads}
-use Rattle.segment_store.specs.Opening.{Resumes}
 use Rattle.segment_store.specs.declared.fault.ResumeFault.{ResumeFault}
-use Rattle.segment_store.specs.declared.fault.ResumeFault.TheVariants as resume
 use Rattle.site_config.specs.declared.config.Config.{Config}
 use Rattle.site_config.specs.declared.fault.ConfigFault.{ConfigFault}
-use Rattle.status.specs.declared.status.StoreFault.TheVariants as store
 use Rattle.status.specs.declared.status.Status.{Status}
 use Rattle.status.specs.declared.status.Status.TheVariants.{Done, Config as BadConfig, Store as BadStore, ReadFault, WriteFault, DiskFault, OutOfMemory}
-
-abbrev pub store_status : ResumeFault → Status
-store_status resume.NotAStore = BadStore store.NotAStore
-store_status (resume.Version v) = BadStore (store.Version v)
-store_status (resume.Differs field kept found) = BadStore (store.Differs field kept found)
-store_status (resume.Damaged index damage) = BadStore (store.Damaged index damage)
-store_status resume.DiskFault = DiskFault
-store_status resume.OutOfMemory = OutOfMemory
-
--- the first thing wrong with a store, in the order of the file
-abbrev pub IsRefused : Setup → Image → ResumeFault → Type 0
-IsRefused setup image fault = Resumes {X = ℕ × List ℕ} setup image (λ x. x) (Err fault)
+use Rattle.status.specs.Refused.{IsRefused, store_status}
 
 -- an image reads as a store of this setup
 pub record ReadsAs (setup : Setup) (image : Image) : Type 0 where

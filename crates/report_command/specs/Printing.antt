@@ -1,17 +1,14 @@
 -- Of which figures the printed report is.
 --   held_of       of each gauge the first samples, as many as are held
---   figures_by    the figures of each gauge's samples
 --   IsKept        figures whose samples, pairs and ranges are what some bodies of a gauge keep
 --   Prints        what a command has written whose text is the report of these figures
 --   PrintsKept    the same of figures that the bodies keep
---   IsPrinting    the answers of printing
 use Rattle.std.specs.Prelude.{◌≡◌, ◌<◌, ◌-◌, ◌++◌, ℕ, ℤ, List, length, take, slice_index, sum_by}
 use Rattle.outside.specs.Sink.{AppendsPrefix}
 use Rattle.three_point.specs.Sums.{sum_at_range}
 use Rattle.segment_rules.specs.Parts.{PartsValue}
-use Rattle.segment_store.specs.Holds.{gain_at}
 use Rattle.segment_store.specs.Keeps.{bodies_of, kept_halves, last_end}
-use Rattle.report.specs.Figures.{Figures, figures}
+use Rattle.report.specs.Figures.{Figures}
 use Rattle.site_config.specs.declared.config.Config.{Config}
 use Rattle.site_report.specs.Report.{IsReport}
 use Rattle.status.specs.declared.status.Status.{Status}
@@ -19,9 +16,6 @@ use Rattle.status.specs.declared.status.Status.TheVariants.{Done, WriteFault}
 
 abbrev pub held_of : (ℕ → List ℤ) → List ℕ → ℕ → List ℤ
 held_of w n g = take (slice_index n g) (w g)
-
-abbrev pub figures_by : Config → (ℕ → List ℤ) → ℕ → Figures
-figures_by c w g = figures c.setup.grid (gain_at c.setup g) (w g)
 
 pub record IsKept (classes : ℕ) (bodies : List PartsValue) (f : Figures) : Type 0 where
   pub samples : f.samples.samples ≡ last_end bodies
@@ -39,8 +33,3 @@ Prints status c figures old new = new ≡ old
 abbrev pub PrintsKept : Status → Config → List PartsValue → List ℕ → List ℕ → Type 0
 PrintsKept status c bodies old new = (figures : ℕ → Figures) × ((g : ℕ) → g < length c.gauges
     → IsKept c.setup.grid.classes (bodies_of g bodies) (figures g)) × Prints status c figures old new
-
-abbrev pub IsPrinting : Status → Type 0
-IsPrinting Done = Unit {0}
-IsPrinting WriteFault = Unit {0}
-IsPrinting status = ⊥

@@ -11,11 +11,12 @@ ghost use Rattle.site_config.specs.declared.config.Config.{Config};
 ghost use Rattle.fault_lines.specs.FaultLine.{fault_line};
 ghost use Rattle.fault_lines.specs.Telling.{TellsAtMost};
 ghost use Rattle.status.specs.declared.status.Status.TheVariants.{Done, ReadFault, WriteFault, DiskFault, OutOfMemory};
-ghost use Rattle.report_command.specs.Printing.{Prints, PrintsKept, IsPrinting, figures_by, held_of};
+ghost use Rattle.status.specs.Printing.{IsPrinting};
+ghost use Rattle.site_report.specs.Report.{figures_by};
+ghost use Rattle.report_command.specs.Printing.{Prints, PrintsKept, held_of};
 ghost use Rattle.report_command.specs.Answers.{IsSound, ReadsAs, ReportAnswers, MayAnswerOver, IsReporting};
 
 use crate::held::print_held;
-use crate::refusal::status_of;
 use config_reading::read_config;
 use fault_lines::{FaultLine, tell_fault, tell_no_memory};
 use outside::{Sink, Source};
@@ -23,7 +24,7 @@ use segment_store::Store;
 use site_config::{Config, MAX_NAME_BYTES};
 use site_report::Report;
 use station::Station;
-use status::Status;
+use status::{Status, status_of};
 use std::alloc::Global;
 
 /// Prints the report of what the store of a site holds. Whatever else than `Done` is answered is

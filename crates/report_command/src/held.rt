@@ -5,7 +5,8 @@ ghost use Rattle.site_config.specs.Valid.{IsConfig};
 ghost use Rattle.site_report.specs.Report.{Agrees};
 ghost use Rattle.site_report.specs.Room.{HasRoom};
 ghost use Rattle.status.specs.declared.status.Status.TheVariants.{WriteFault};
-ghost use Rattle.report_command.specs.Printing.{Prints, IsPrinting};
+ghost use Rattle.status.specs.Printing.{IsPrinting};
+ghost use Rattle.report_command.specs.Printing.{Prints};
 
 use outside::Sink;
 use segment_store::Store;

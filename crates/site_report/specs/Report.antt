@@ -1,19 +1,24 @@
 -- The report of a site.
+--   figures_by    the figures of each gauge's samples
 --   gauge_lines   the texts of all gauges, by the figures of each
 --   detail_lines  the lines of the details, by the damage of each
 --   IsReport      a text is the report of these figures
 --   Agrees        the segment of each gauge has these figures wherever a number is printed
 --   IsPrinted     so much of a text is written, and this is left of it
-use Rattle.std.specs.Prelude.{◌≡◌, ◌<◌, ℕ, List, [], ◌∷◌, ◌++◌, length, slice_index_or}
+use Rattle.std.specs.Prelude.{◌≡◌, ◌<◌, ℕ, ℤ, List, [], ◌∷◌, ◌++◌, length, slice_index_or}
 use Rattle.exact_frac.specs.declared.frac.Frac.{Frac}
-use Rattle.report.specs.Figures.{Figures, Agree, figures_of}
+use Rattle.report.specs.Figures.{Figures, Agree, figures, figures_of}
 use Rattle.report.specs.Lines.{lines_from}
 use Rattle.report.specs.Texts.{gauge_text, detail_text}
 use Rattle.segment.specs.Segment.{SegmentValue, IsSegment}
+use Rattle.segment_store.specs.Holds.{gain_at}
 use Rattle.site_config.specs.declared.config.Config.{Config}
 use Rattle.site_config.specs.declared.config.NamedDetail.{NamedDetail}
 use Rattle.site_config.specs.Valid.{name_of}
 use Rattle.site_report.specs.Damages.{AreDamages}
+
+abbrev pub figures_by : Config → (ℕ → List ℤ) → ℕ → Figures
+figures_by c w g = figures c.setup.grid (gain_at c.setup g) (w g)
 
 abbrev pub text_of_gauge : Config → (ℕ → Figures) → ℕ → List ℕ
 text_of_gauge c figures g = gauge_text c.setup.grid (name_of c g) (figures g)

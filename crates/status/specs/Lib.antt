@@ -1,1 +1,3 @@
 pub mod Status
+pub mod Refused
+pub mod Printing

@@ -1,4 +1,4 @@
-use Rattle.count_command.specs.Printed.{figures_by}
+use Rattle.site_report.specs.Report.{figures_by}
 use Rattle.count_command.proofs.AtEnd.{agrees}
 use Rattle.count_command.proofs.opened.print_held.Goals as goal
 

@@ -3,8 +3,9 @@ use Rattle.segment_store.specs.Moments.{StoreValue}
 use Rattle.segment_store.proofs.Quiet.{quiet_starts}
 use Rattle.status.specs.declared.status.Status.{Status}
 use Rattle.status.specs.declared.status.Status.TheVariants.{Done, OutOfMemory}
-use Rattle.report_command.specs.Answers.{store_status}
-use Rattle.report_command.specs.Printing.{PrintsKept, figures_by, held_of}
+use Rattle.status.specs.Refused.{store_status}
+use Rattle.site_report.specs.Report.{figures_by}
+use Rattle.report_command.specs.Printing.{PrintsKept, held_of}
 use Rattle.report_command.proofs.Ended.{refused_prints, refused_complete, printed_answer, printed_complete, printing_other, reads_as}
 use Rattle.report_command.proofs.HeldFigures.{agrees_held, agrees_kept, are_kept, kept_figures, kept_unprinted}
 use Rattle.report_command.proofs.AnswerKinds.{kind_of_store, kind_of_print}

@@ -6,8 +6,9 @@ use Rattle.site_config.specs.declared.config.Config.{Config}
 use Rattle.fault_lines.specs.FaultLine.{fault_line}
 use Rattle.fault_lines.proofs.Telling.{quiet_tells}
 use Rattle.status.specs.declared.status.Status.TheVariants.{OutOfMemory}
+use Rattle.site_report.specs.Report.{figures_by}
 use Rattle.report_command.specs.Answers.{ReadsAs}
-use Rattle.report_command.specs.Printing.{Prints, PrintsKept, figures_by, held_of}
+use Rattle.report_command.specs.Printing.{Prints, PrintsKept, held_of}
 use Rattle.report_command.proofs.Ended.{unread_prints, over_config}
 use Rattle.report_command.proofs.HeldFigures.{kept_figures, kept_unprinted}
 use Rattle.report_command.proofs.Told.{last_after}

@@ -1,8 +1,8 @@
 ghost use Rattle.std.specs.Prelude.{◌≡◌};
-ghost use Rattle.report_command.specs.Answers.{store_status};
+ghost use Rattle.status.specs.Refused.{store_status};
 
+use crate::status::{Status, StoreFault};
 use segment_store::ResumeFault;
-use status::{Status, StoreFault};
 
 /// The answer for a store that was not resumed.
 pub fn status_of(fault: ResumeFault) -> Status
