@@ -15,6 +15,7 @@ use Rattle.tally.specs.Counts.{total_of}
 use Rattle.calibration.specs.Grid.{GridValue, IsGrid}
 use Rattle.calibration.specs.declared.grid.TheConstants.{MAX_CLASSES}
 use Rattle.turning_points.specs.EndPoints.{EndPoints}
+use Rattle.lemmas.proofs.Naturals.{few_cases}
 use Rattle.tables.specs.Bins.{AreBinsFrom, sum_of}
 use Rattle.segment_rules.specs.Parts.{PartsValue}
 use Rattle.segment_rules.specs.Rules.{IsEnded, IsSegment}
@@ -190,9 +191,6 @@ level_fits k l i b a = by (cases_lt i (length l))
     by : ((i < length l) ⊎ (length l ≤ i)) → (slice_index l i) < 2 ^ 16
     by (inl lt) = let h = a i 0 lt in omega (arith, h, b)
     by (inr le) = let h = get_or_past l i 0 le in omega (arith, h)
-
-few_cases : (n : ℕ) → (n ≡ 0) ⊎ ((n ≡ 1) ⊎ (2 ≤ n))
-few_cases n = grind arith
 
 ends_fit : (k : ℕ) (e : EndPoints) (l : List ℕ) → k ≤ MAX_CLASSES → e.points < 2 ^ 64 → All (λ x. x < k) l → IsEnded k e l → FitsEnds e
 ends_fit k e l b few a i = by (few_cases e.points)

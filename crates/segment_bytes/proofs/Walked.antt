@@ -6,8 +6,11 @@ use Rattle.std.proofs.lemmas.Bool.Decides.{nat_tests}
 use Rattle.tally.specs.declared.cells.Cell.{Cell}
 use Rattle.tally.specs.declared.cells.Bin.{Bin}
 use Rattle.tally.specs.Counts.{Before, count_of}
+use Rattle.tally.proofs.AddEntries.{further as one_behind, one_further}
+use Rattle.tally.proofs.Walk.{count_here, count_other}
 use Rattle.segment_rules.proofs.CellsFrom.{IsFrom, AreCellsFrom}
 use Rattle.segment.specs.Parts.{bins_from}
+use Rattle.segment.proofs.TableSums.{none as listed_none, some as listed_some}
 use Rattle.segment_bytes.specs.Rows.{cell_in, rows_of}
 use Rattle.segment_bytes.specs.Writing.{cells_after, row_of}
 use Rattle.segment_bytes.proofs.Rows.{cells_again, row_again, rows_from}
@@ -31,12 +34,6 @@ after_all lo hi k (c ∷ cs) a = keep lo hi c cs a.0
 pub after_start : (k : ℕ) (cs : List Cell) → AreCellsFrom 0 0 k cs → cells_after 0 0 cs ≡ cs
 after_start k cs a = after_all 0 0 k cs a
 
-count_here : (c : Cell) (cs : List Cell) (lo hi : ℕ) → c.lo ≡ lo → c.hi ≡ hi → count_of (c ∷ cs) lo hi ≡ c.n
-count_here c cs lo hi e f = grind (arith, nat_tests)
-
-count_past : (c : Cell) (cs : List Cell) (lo hi : ℕ) → ((c.lo ≡ lo) × (c.hi ≡ hi) → ⊥) → count_of (c ∷ cs) lo hi ≡ count_of cs lo hi
-count_past c cs lo hi n = grind (arith, nat_tests)
-
 not_here : (a b lo hi x y : ℕ) → (a < x) ⊎ ((a ≡ x) × (b ≤ y)) → Before lo hi a b → (x ≡ lo) × (y ≡ hi) → ⊥
 not_here a b lo hi x y h g e = grind arith
 
@@ -47,7 +44,7 @@ further a b lo hi x y h g = grind arith
 count_none : (a b k lo hi : ℕ) (cs : List Cell) → AreCellsFrom a b k cs → Before lo hi a b → count_of cs lo hi ≡ 0
 count_none a b k lo hi [] o h = refl
 count_none a b k lo hi (c ∷ cs) o h =
-    count_past c cs lo hi (not_here a b lo hi c.lo c.hi o.0 h)
+    count_other c cs lo hi (not_here a b lo hi c.lo c.hi o.0 h)
     ∙ count_none c.lo (c.hi + 1) k lo hi cs o.2 (further a b lo hi c.lo c.hi o.0 h)
 
 -- what stands at a pair, and the cells behind it
@@ -60,12 +57,6 @@ before_from lo hi a b h = grind arith
 
 before_next : (lo hi a b : ℕ) → Before lo hi a b → (lo < a) ⊎ ((lo ≡ a) × (hi + 1 ≤ b))
 before_next lo hi a b h = grind arith
-
-one_more : (a b lo hi : ℕ) → Before a b lo hi → Before a b lo (hi + 1)
-one_more a b lo hi h = grind arith
-
-before_itself : (a b : ℕ) → Before a b a (b + 1)
-before_itself a b = grind arith
 
 same_cell : (c : Cell) (lo hi n : ℕ) → c.lo ≡ lo → c.hi ≡ hi → n ≡ c.n → c ≡ record { lo = lo; hi = hi; n = n }
 same_cell c lo hi n e f g = ap (λ x. made x c.hi c.n) e ∙ ap (λ x. made lo x c.n) f ∙ ap (made lo hi) (sym g)
@@ -87,7 +78,7 @@ next_by a b k lo hi c cs o rest (inr (inl e)) =
     let past : cells_after lo (hi + 1) (c ∷ cs) ≡ cs =
     subst (λ x. cells_after x (hi + 1) (c ∷ cs) ≡ cs) e.0
     (subst (λ y. cells_after c.lo (y + 1) (c ∷ cs) ≡ cs) e.1
-    (skip c.lo (c.hi + 1) c cs (before_itself c.lo c.hi) ∙ after_all c.lo (c.hi + 1) k cs o.2)) in
+    (skip c.lo (c.hi + 1) c cs (one_further c.lo c.hi) ∙ after_all c.lo (c.hi + 1) k cs o.2)) in
     record {
       none = λ z. absurd (omega (arith, z, n, p));
       some = λ g.
@@ -96,14 +87,14 @@ next_by a b k lo hi c cs o rest (inr (inl e)) =
           ∙ ap (λ (l : List Cell). record { lo = lo; hi = hi; n = count_of (c ∷ cs) lo hi } ∷ l) (sym past);
     }
 next_by a b k lo hi c cs o rest (inr (inr h)) =
-    let n = count_past c cs lo hi (differ c.lo c.hi lo hi h) in
+    let n = count_other c cs lo hi (differ c.lo c.hi lo hi h) in
     record {
-      none = λ z. skip lo hi c cs h ∙ rest.none (sym n ∙ z) ∙ sym (skip lo (hi + 1) c cs (one_more c.lo c.hi lo hi h));
+      none = λ z. skip lo hi c cs h ∙ rest.none (sym n ∙ z) ∙ sym (skip lo (hi + 1) c cs (one_behind c.lo c.hi lo hi h));
       some = λ g.
           skip lo hi c cs h ∙ rest.some (omega (arith, g, n))
           ∙ ap (λ m. record { lo = lo; hi = hi; n = m } ∷ cells_after lo (hi + 1) cs) (sym n)
           ∙ ap (λ (l : List Cell). record { lo = lo; hi = hi; n = count_of (c ∷ cs) lo hi } ∷ l)
-          (sym (skip lo (hi + 1) c cs (one_more c.lo c.hi lo hi h)));
+          (sym (skip lo (hi + 1) c cs (one_behind c.lo c.hi lo hi h)));
     }
   where
     differ : (a b x y : ℕ) → Before a b x y → (a ≡ x) × (b ≡ y) → ⊥
@@ -130,15 +121,6 @@ row_ended a b k lo hi (c ∷ cs) o h =
         (nat_lt (lo + 1) x || ((lo + 1) == x && nat_le 0 y))
     same lo hi k x y w h = grind (arith, nat_tests)
 
-empty : (n : ℕ) (x y : List Bin) → n ≡ 0 → (if n == 0 then x else y) ≡ x
-empty n x y e = ap (λ m. if m == 0 then x else y) e
-
-not_zero : (n : ℕ) → 0 < n → (n == 0) ≡ false
-not_zero n lt = grind (arith, nat_tests)
-
-full : (n : ℕ) (x y : List Bin) → 0 < n → (if n == 0 then x else y) ≡ y
-full n x y lt = ap (λ b. if b then x else y) (not_zero n lt)
-
 module _ (k lo : ℕ) (cs : List Cell) (o : AreCellsFrom 0 0 k cs) where
   row_by : (hi keys : ℕ) → ((0 < count_of cs lo hi) ⊎ (count_of cs lo hi ≤ 0))
       → cells_after lo (hi + 1) cs ≡ map (cell_in lo) (bins_from (count_of cs lo) (hi + 1) keys) ++ cells_after (lo + 1) 0 cs
@@ -147,12 +129,12 @@ module _ (k lo : ℕ) (cs : List Cell) (o : AreCellsFrom 0 0 k cs) where
       (next_cell 0 0 k lo hi cs o).some lt
       ∙ ap (λ (l : List Cell). record { lo = lo; hi = hi; n = count_of cs lo hi } ∷ l) next
       ∙ ap (λ (l : List Bin). map (cell_in lo) l ++ cells_after (lo + 1) 0 cs)
-      (sym (full (count_of cs lo hi) (bins_from (count_of cs lo) (hi + 1) keys)
+      (sym (listed_some (count_of cs lo hi) (bins_from (count_of cs lo) (hi + 1) keys)
       (record { key = hi; n = count_of cs lo hi } ∷ bins_from (count_of cs lo) (hi + 1) keys) lt))
   row_by hi keys (inr le) next =
       (next_cell 0 0 k lo hi cs o).none (omega (arith, le)) ∙ next
       ∙ ap (λ (l : List Bin). map (cell_in lo) l ++ cells_after (lo + 1) 0 cs)
-      (sym (empty (count_of cs lo hi) (bins_from (count_of cs lo) (hi + 1) keys)
+      (sym (listed_none (count_of cs lo hi) (bins_from (count_of cs lo) (hi + 1) keys)
       (record { key = hi; n = count_of cs lo hi } ∷ bins_from (count_of cs lo) (hi + 1) keys) (omega (arith, le))))
 
   row_from : (hi keys : ℕ) → hi + keys ≡ k → cells_after lo hi cs ≡ map (cell_in lo) (bins_from (count_of cs lo) hi keys) ++ cells_after
