@@ -5,3 +5,4 @@ pub mod Sheet
 pub mod Recording
 pub mod Back
 pub mod Writers
+pub mod FaultText

@@ -1,4 +1,4 @@
-ghost use Rattle.std.specs.Prelude.{◌≡◌, length};
+ghost use Rattle.std.specs.Prelude.{◌≡◌, length, Some};
 ghost use Rattle.csv.specs.Records.{fields_of};
 ghost use Rattle.csv_recording.specs.Column as spec;
 ghost use Rattle.csv_recording.specs.Column.{Gives, column_of};
@@ -9,6 +9,8 @@ use crate::cells::cell_sample;
 use crate::rows::{next_row, reader_over};
 use csv::ByteRecord;
 use std::alloc::{AllocError, AllocFailed, Global};
+use std::error::Error;
+use std::fmt;
 
 /// Why a column has no samples. Rows are numbered from 0, behind the record of the names.
 #[derive(Clone, Copy, Debug, PartialEq, Eq)]
@@ -38,6 +40,23 @@ impl<T: Drop> From<AllocFailed<T>> for ColumnFault {
         ColumnFault::OutOfMemory
     }
 }
+
+impl fmt::Display for ColumnFault {
+    ghost use Rattle.csv_recording.specs.FaultText.{column_fault_text};
+
+    ghost output = { λ fault. Some (column_fault_text fault) };
+
+    fn fmt<W: fmt::Write>(&self, f: &mut fmt::Formatter<W>) -> fmt::Result {
+        match self {
+            ColumnFault::NoColumn => f.write_str("no column"),
+            ColumnFault::ShortRow { row, fields } => write!(f, "row {row} has {fields} fields"),
+            ColumnFault::Cell { row } => write!(f, "row {row} is no number"),
+            ColumnFault::OutOfMemory => f.write_str("out of memory"),
+        }
+    }
+}
+
+impl Error for ColumnFault {}
 
 /// The samples in the column of a name.
 ///
