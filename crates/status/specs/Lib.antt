@@ -1,3 +1,4 @@
 pub mod Status
 pub mod Refused
 pub mod Printing
+pub mod FaultText

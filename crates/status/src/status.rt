@@ -1,9 +1,11 @@
-ghost use Rattle.std.specs.Prelude.{◌≡◌};
+ghost use Rattle.std.specs.Prelude.{◌≡◌, Some};
 ghost use Rattle.status.specs.Status.{code_of};
 
 use recount::What;
 use segment_store::Damage;
 use site_config::ConfigFault;
+use std::error::Error;
+use std::fmt;
 use store_head::Field;
 
 /// What is wrong with a recording.
@@ -31,6 +33,30 @@ pub enum RecordingFault {
     Cell { row: u64 },
 }
 
+impl fmt::Display for RecordingFault {
+    ghost use Rattle.status.specs.FaultText.{recording_fault_text};
+
+    ghost output = { λ fault. Some (recording_fault_text fault) };
+
+    // An id is told by none of its bytes.
+    fn fmt<W: fmt::Write>(&self, f: &mut fmt::Formatter<W>) -> fmt::Result {
+        match self {
+            RecordingFault::Short => f.write_str("shorter than 32 bytes"),
+            RecordingFault::Magic => f.write_str("no SGRC at the front"),
+            RecordingFault::Version(version) => write!(f, "version {version} in place of 1"),
+            RecordingFault::NotZero => f.write_str("a reserved byte that is not 0"),
+            RecordingFault::Id { .. } => f.write_str("another id than the one that is kept"),
+            RecordingFault::Period { kept, found } => write!(f, "period was {kept}, is {found}"),
+            RecordingFault::Fewer { held, there } => write!(f, "{held} held, {there} there"),
+            RecordingFault::NoColumn => f.write_str("no column"),
+            RecordingFault::ShortRow { row, fields } => write!(f, "row {row} has {fields} fields"),
+            RecordingFault::Cell { row } => write!(f, "row {row} is no number"),
+        }
+    }
+}
+
+impl Error for RecordingFault {}
+
 /// What is wrong with a store.
 #[derive(Clone, Copy, Debug, PartialEq, Eq)]
 pub enum StoreFault {
@@ -45,6 +71,36 @@ pub enum StoreFault {
     /// A store is to be made where so many bytes are.
     NotEmpty { size: u64 },
 }
+
+impl fmt::Display for StoreFault {
+    ghost use Rattle.status.specs.FaultText.{store_fault_text};
+
+    ghost output = { λ fault. Some (store_fault_text fault) };
+
+    fn fmt<W: fmt::Write>(&self, f: &mut fmt::Formatter<W>) -> fmt::Result {
+        match self {
+            StoreFault::NotAStore => f.write_str("not a store"),
+            StoreFault::Version(version) => write!(f, "version {version}"),
+            StoreFault::Differs { field, kept, found } => {
+                match field {
+                    Field::Gauges => f.write_str("gauges")?,
+                    Field::Classes => f.write_str("classes")?,
+                    Field::Width => f.write_str("width")?,
+                    Field::Low => f.write_str("low")?,
+                    Field::Reference => f.write_str("reference")?,
+                    Field::Num(gauge) => write!(f, "num {gauge}")?,
+                    Field::Den(gauge) => write!(f, "den {gauge}")?,
+                    Field::Offset(gauge) => write!(f, "offset {gauge}")?,
+                }
+                write!(f, " was {kept}, is {found}")
+            }
+            StoreFault::Damaged { index, .. } => write!(f, "damaged at {index}"),
+            StoreFault::NotEmpty { size } => write!(f, "not empty, {size} bytes"),
+        }
+    }
+}
+
+impl Error for StoreFault {}
 
 /// How a command ended. Gauges are numbered from 0, and the gauge of `table` is 0.
 #[derive(Clone, Copy, Debug, PartialEq, Eq)]
