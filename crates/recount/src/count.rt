@@ -1,4 +1,4 @@
-ghost use Rattle.std.specs.Prelude.{◌≡◌, ◌≢◌, ◌≤◌, ◌<◌, ℕ, ℤ, List, [], IfOk, OnOk, Err, length, take};
+ghost use Rattle.std.specs.Prelude.{◌≡◌, ◌≢◌, ◌≤◌, ◌<◌, ℕ, ℤ, List, [], Some, IfOk, OnOk, Err, length, take};
 ghost use Rattle.outside.specs.Fault.{Rose};
 ghost use Rattle.recording.specs.Samples.{samples as samples_of};
 ghost use Rattle.recording.specs.declared.TheConstants.{MAX_SAMPLES, PIECE};
@@ -13,6 +13,8 @@ use recording::{FillEnd, PIECE, fill};
 use report::SampleCounts;
 use residue_join::PairCounter;
 use std::alloc::{AllocError, Global};
+use std::error::Error;
+use std::fmt;
 
 /// What was found of a recording's samples: how many are of each kind, and the half units of each
 /// pair of levels.
@@ -39,6 +41,22 @@ impl From<AllocError> for RecountFault {
         RecountFault::OutOfMemory
     }
 }
+
+impl fmt::Display for RecountFault {
+    ghost use Rattle.recount.specs.FaultText.{recount_fault_text};
+
+    ghost output = { λ fault. Some (recount_fault_text fault) };
+
+    fn fmt<W: fmt::Write>(&self, f: &mut fmt::Formatter<W>) -> fmt::Result {
+        match self {
+            RecountFault::Fewer { there } => write!(f, "only {there} samples there"),
+            RecountFault::ReadFault => f.write_str("a read failed"),
+            RecountFault::OutOfMemory => f.write_str("out of memory"),
+        }
+    }
+}
+
+impl Error for RecountFault {}
 
 /// Counts the first `samples` samples that a source gives, in the classes of a grid under a gain,
 /// by the run of ASTM E1049-85, 5.4.4. Besides 96 KiB for a piece it takes the memory of a tally
