@@ -133,16 +133,17 @@ static uint64_t astm(void) {
 /* ---- crossings and simple counts, by the points of blocks and by levels ---- */
 
 #define LEVELS (1 << 17)
+#define MANY (1 << 21) /* where there are many units */
 #define BLOCK 1024
 #define PASSES 16
 #define REFERENCE 64
 
-static uint16_t signal_levels[LEVELS], block[BLOCK];
+static uint16_t signal_levels[MANY], block[BLOCK];
 
 static void make_signal(int kind) {
     uint64_t x = 0;
     int32_t level = 64, a = 15000, b = 0;
-    for (int i = 0; i < LEVELS; i++) {
+    for (int i = 0; i < MANY; i++) {
         x = x * 6364136223846793005u + 1442695040888963407u;
         a -= b >> 5;
         b += a >> 5;
@@ -485,25 +486,44 @@ static uint64_t segment_digest(const Segment *s) {
     return state;
 }
 
-static int32_t signal_raws[LEVELS];
+static int32_t signal_raws[MANY];
 static Classifier classifier;
 
-static uint64_t segment_by_blocks(size_t length) {
-    Segment *whole = calloc(1, sizeof *whole), *unit = calloc(1, sizeof *unit);
-    for (size_t i = 0; i < LEVELS; i += length) {
+#define UNITS 512
+
+/* which stay from run to run */
+static Segment *whole, *units[UNITS];
+
+static void make_units(void) {
+    whole = calloc(1, sizeof *whole);
+    for (int i = 0; i < UNITS; i++) units[i] = calloc(1, sizeof *units[i]);
+}
+
+static void whole_clear(void) {
+    segment_clear(whole);
+    memset(whole->cycles.counts, 0, sizeof whole->cycles.counts);
+}
+
+static uint64_t segment_by_blocks(size_t samples, size_t length, size_t turns) {
+    size_t turn = 0;
+    whole_clear();
+    for (size_t i = 0; i < samples; i += length) {
+        Segment *unit = units[turn];
+        turn = turn + 1 == turns ? 0 : turn + 1;
         segment_clear(unit);
         count_block(unit, &classifier, signal_raws + i, length);
         segment_join(whole, unit);
     }
-    uint64_t digest = segment_digest(whole);
-    free(whole);
-    free(unit);
-    return digest;
+    return segment_digest(whole);
 }
 
-static uint64_t segment_by_blocks_of_1024(void) { return segment_by_blocks(1024); }
+static uint64_t segment_by_blocks_of_1024(void) { return segment_by_blocks(LEVELS, 1024, 1); }
 
-static uint64_t segment_by_blocks_of_4096(void) { return segment_by_blocks(4096); }
+static uint64_t segment_by_blocks_of_4096(void) { return segment_by_blocks(LEVELS, 4096, 1); }
+
+static uint64_t segment_by_blocks_of_1024_in_512_units(void) { return segment_by_blocks(MANY, 1024, UNITS); }
+
+static uint64_t segment_by_blocks_of_4096_in_512_units(void) { return segment_by_blocks(MANY, 4096, UNITS); }
 
 __attribute__((noinline)) static void segment_take(Segment *s, const Classifier *c, int32_t raw) {
     unsigned class;
@@ -516,11 +536,9 @@ __attribute__((noinline)) static void segment_take(Segment *s, const Classifier 
 }
 
 static uint64_t segment_by_samples(void) {
-    Segment *whole = calloc(1, sizeof *whole);
+    whole_clear();
     for (size_t i = 0; i < LEVELS; i++) segment_take(whole, &classifier, signal_raws[i]);
-    uint64_t digest = segment_digest(whole);
-    free(whole);
-    return digest;
+    return segment_digest(whole);
 }
 
 static long long now(void) {
@@ -538,9 +556,11 @@ static const struct { const char *name; uint64_t (*run)(void); } COUNTS[] = {
     { "crossings_by_levels", crossings_by_levels }, { "simple_by_levels", simple_by_levels },
 };
 
-static const struct { const char *name; uint64_t (*run)(void); } SEGMENTS[] = {
-    { "segment_by_blocks_of_1024", segment_by_blocks_of_1024 }, { "segment_by_blocks_of_4096", segment_by_blocks_of_4096 },
-    { "segment_by_samples", segment_by_samples },
+static const struct { const char *name; uint64_t (*run)(void); long long samples; } SEGMENTS[] = {
+    { "segment_by_blocks_of_1024", segment_by_blocks_of_1024, LEVELS }, { "segment_by_blocks_of_4096", segment_by_blocks_of_4096, LEVELS },
+    { "segment_by_blocks_of_1024_in_512_units", segment_by_blocks_of_1024_in_512_units, MANY },
+    { "segment_by_blocks_of_4096_in_512_units", segment_by_blocks_of_4096_in_512_units, MANY },
+    { "segment_by_samples", segment_by_samples, LEVELS },
 };
 
 static void show(const char *name, const char *behind, uint64_t (*run)(void), int is_timed, long long samples) {
@@ -569,10 +589,11 @@ int main(int argc, char **argv) {
     }
     /* which the compiler is not to know */
     classifier = classifier_of(argc > 9 ? 210 : 1000, 0, argc > 9 ? 500 : 1000);
+    make_units();
     for (int kind = 0; kind < 3; kind++) {
         make_signal(kind);
-        for (int i = 0; i < LEVELS; i++) signal_raws[i] = signal_levels[i];
-        for (size_t i = 0; i < sizeof SEGMENTS / sizeof *SEGMENTS; i++) show(SEGMENTS[i].name, SIGNALS[kind], SEGMENTS[i].run, is_timed, LEVELS);
+        for (int i = 0; i < MANY; i++) signal_raws[i] = signal_levels[i];
+        for (size_t i = 0; i < sizeof SEGMENTS / sizeof *SEGMENTS; i++) show(SEGMENTS[i].name, SIGNALS[kind], SEGMENTS[i].run, is_timed, SEGMENTS[i].samples);
     }
     return 0;
 }

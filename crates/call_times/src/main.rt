@@ -2,8 +2,8 @@
 //! what it answers, and with the word `time` also its processor time, in hundredths of a nanosecond
 //! to the sample. `bench/src/calls.c` prints the same digests. Crossings and simple counts are
 //! taken of a walk, noise and a sine, by the points of blocks of 1,024 levels (each block 16 times)
-//! and by levels. Segments of the same signals are made by blocks, each counted and joined to those
-//! before it, and by samples.
+//! and by levels. Segments of the same signals are made by blocks, each counted by one segment, or
+//! by 512 in turn, and joined to those before it, and by samples.
 //!
 //! Only safety is proved here. What the calls answer is said by their own contracts; the digests
 //! show that the C program beside them does the same work.
@@ -18,7 +18,7 @@ mod signal;
 use calibration::Grid;
 use calls::{Call, Recording, answer};
 use counts::{Count, counted_by};
-use segments::{Way, segment_by};
+use segments::{MANY_SAMPLES, Maker, Way};
 use signal::{Signal, levels_of, raws_of};
 use std::rt::Env;
 use std::time::CpuClock;
@@ -82,11 +82,13 @@ fn show_segments<R: CpuClock + AllocGlobal + Print>(rt: &R, is_timed: bool) -> i
         return Ok(());
     };
     for signal in Signal::ALL {
-        let raws = raws_of(rt.alloc(), &levels_of(rt.alloc(), signal, LEVELS)?)?;
+        let raws = raws_of(rt.alloc(), &levels_of(rt.alloc(), signal, MANY_SAMPLES)?)?;
         for way in Way::ALL {
-            let digest = segment_by(rt.alloc(), way, &grid, &raws)?;
+            let few = &raws[..raws.len().min(way.samples() as usize)];
+            let mut maker = Maker::new(rt.alloc(), way, &grid)?;
+            let digest = maker.make(few);
             if is_timed {
-                let hundredths = time_of_segment(rt, way, &grid, &raws)?;
+                let hundredths = time_of_segment(rt, &mut maker, few)?;
                 println!(rt; "{way}_{signal} {digest} {hundredths}")?;
             } else {
                 println!(rt; "{way}_{signal} {digest}")?;
@@ -97,16 +99,11 @@ fn show_segments<R: CpuClock + AllocGlobal + Print>(rt: &R, is_timed: bool) -> i
 }
 
 // The least processor time of a way to make a segment, in hundredths of a nanosecond to the sample.
-fn time_of_segment<R: CpuClock + AllocGlobal>(
-    rt: &R,
-    way: Way,
-    grid: &Grid,
-    raws: &[i32],
-) -> io::Result<u128> {
+fn time_of_segment<R: CpuClock>(rt: &R, maker: &mut Maker, raws: &[i32]) -> io::Result<u128> {
     let mut least = u128::MAX;
     for _ in 0..REPEATS {
         let start = rt.process_cpu_time()?;
-        segment_by(rt.alloc(), way, grid, raws)?;
+        maker.make(raws);
         let end = rt.process_cpu_time()?;
         if end >= start {
             least = least.min((end - start).as_nanos());

@@ -10,36 +10,112 @@ use std::fmt;
 /// A way to make the segment of a history.
 #[derive(Clone, Copy, Debug, PartialEq, Eq)]
 pub enum Way {
-    BlocksOf1024,
-    BlocksOf4096,
+    /// By blocks of so many samples, which so many units count in turn.
+    Blocks { length: u16, units: u16 },
+    /// By samples, one after another.
     Samples,
 }
 
 impl Way {
-    pub const ALL: [Way; 3] = [Way::BlocksOf1024, Way::BlocksOf4096, Way::Samples];
+    pub const ALL: [Way; 5] = [
+        Way::Blocks {
+            length: 1024,
+            units: 1,
+        },
+        Way::Blocks {
+            length: 4096,
+            units: 1,
+        },
+        Way::Blocks {
+            length: 1024,
+            units: 512,
+        },
+        Way::Blocks {
+            length: 4096,
+            units: 512,
+        },
+        Way::Samples,
+    ];
+
+    // The samples of a unit's block; where there are no blocks, of a unit that counts nothing.
+    fn length(self) -> u16 {
+        match self {
+            Way::Blocks { length, .. } => length.max(1),
+            Way::Samples => 1,
+        }
+    }
+
+    fn units(self) -> u16 {
+        match self {
+            Way::Blocks { units, .. } => units,
+            Way::Samples => 0,
+        }
+    }
+
+    /// How many samples are taken: where there are many units, so many that each counts a block.
+    pub fn samples(self) -> u32 {
+        if self.units() > 1 {
+            MANY_SAMPLES
+        } else {
+            MANY_SAMPLES / 16
+        }
+    }
 }
 
 impl fmt::Display for Way {
     fn fmt<W: fmt::Write>(&self, f: &mut fmt::Formatter<W>) -> fmt::Result {
-        f.write_str(match self {
-            Way::BlocksOf1024 => "segment_by_blocks_of_1024",
-            Way::BlocksOf4096 => "segment_by_blocks_of_4096",
-            Way::Samples => "segment_by_samples",
-        })
+        match self {
+            Way::Blocks { length, units: 1 } => write!(f, "segment_by_blocks_of_{length}"),
+            Way::Blocks { length, units } => {
+                write!(f, "segment_by_blocks_of_{length}_in_{units}_units")
+            }
+            Way::Samples => f.write_str("segment_by_samples"),
+        }
     }
 }
 
-/// The most samples that a segment comes to. Samples beyond are left out.
-const LONGEST: u64 = 1 << 20;
+/// The most samples of a history.
+pub const MANY_SAMPLES: u32 = 1 << 21;
 
-/// A digest of the segment of a history whose raw values are its levels.
-pub fn segment_by(alloc: Global, way: Way, grid: &Grid, raws: &[i32]) -> Result<u64, AllocError> {
-    let whole = match way {
-        Way::BlocksOf1024 => joined(alloc, grid, raws, 1024)?,
-        Way::BlocksOf4096 => joined(alloc, grid, raws, 4096)?,
-        Way::Samples => taken(alloc, grid, raws)?,
-    };
-    Ok(digest(&whole))
+/// What the segment of a history is made with.
+#[derive(Drop)]
+pub struct Maker {
+    way: Way,
+    whole: Segment,
+    units: Vec<Segment>,
+    levels: Vec<u16>,
+}
+
+impl Maker {
+    pub fn new(alloc: Global, way: Way, grid: &Grid) -> Result<Maker, AllocError> {
+        let mut units = Vec::new(alloc);
+        for _ in 0..way.units() {
+            units.push(Segment::new(alloc, grid, 0, 0, u64::from(way.length()))?)?;
+        }
+        Ok(Maker {
+            way,
+            whole: Segment::new(alloc, grid, 0, 0, u64::from(MANY_SAMPLES))?,
+            units,
+            levels: vec![in alloc; 0; usize::from(way.length())]?,
+        })
+    }
+
+    /// A digest of the segment of a history whose raw values are its levels. Samples beyond the
+    /// most are left out.
+    pub fn make(&mut self, raws: &[i32]) -> u64 {
+        self.whole.clear(0, 0);
+        match self.way {
+            Way::Blocks { length, .. } => join_blocks(
+                &mut self.whole,
+                &mut self.units,
+                raws,
+                length.max(1),
+                &mut self.levels,
+            ),
+            Way::Samples => take_samples(&mut self.whole, raws),
+        }
+        digest(&self.whole)
+    }
 }
 
 // 1 N/mm² to the raw unit, from -64 N/mm².
@@ -56,15 +132,18 @@ fn join_block(
     whole: &mut Segment,
     unit: &mut Segment,
     raws: &[i32],
+    grid: &Grid,
     classifier: &Classifier,
     levels: &mut [u16],
 )
-    requires grid { classifier.now.grid ≡ unit.old.grid }
-    ensures grid { unit.new.grid ≡ unit.old.grid }
+    requires { classifier.now.grid ≡ grid.now }
 {
     let more = raws.len() as u64;
     let name = whole.name();
-    if whole.grid() != unit.grid() || raws.len() > levels.len() || more > unit.longest() {
+    if whole.grid() != *grid || unit.grid() != *grid || raws.len() > levels.len() {
+        return;
+    }
+    if more > unit.longest() {
         return;
     }
     if more > MAX_SAMPLES - name.to || more > whole.longest() - (name.to - name.from) {
@@ -75,29 +154,38 @@ fn join_block(
     let _answer = whole.join(unit);
 }
 
-fn joined(alloc: Global, grid: &Grid, raws: &[i32], block: u16) -> Result<Segment, AllocError>
-    requires { 1 ≤ block }
+// Counts block after block by the units in turn, and joins each behind the whole.
+fn join_blocks(
+    whole: &mut Segment,
+    units: &mut [Segment],
+    raws: &[i32],
+    length: u16,
+    levels: &mut [u16],
+)
+    requires { 1 ≤ length }
 {
-    let classifier = Classifier::new(&gain(), grid);
-    let mut whole = Segment::new(alloc, grid, 0, 0, LONGEST)?;
-    let mut unit = Segment::new(alloc, grid, 0, 0, u64::from(block))?;
-    let mut levels = vec![in alloc; 0; usize::from(block)]?;
-    for part in raws.chunks(usize::from(block)) {
-        join_block(&mut whole, &mut unit, part, &classifier, &mut levels);
+    let grid = whole.grid();
+    let classifier = Classifier::new(&gain(), &grid);
+    let mut turn = 0;
+    for part in raws.chunks(usize::from(length)) {
+        if turn >= units.len() {
+            turn = 0;
+        }
+        if let Some(unit) = units.get_mut(turn) {
+            join_block(whole, unit, part, &grid, &classifier, levels);
+            turn += 1;
+        }
     }
-    Ok(whole)
 }
 
-fn taken(alloc: Global, grid: &Grid, raws: &[i32]) -> Result<Segment, AllocError> {
+fn take_samples(whole: &mut Segment, raws: &[i32]) {
     let gain = gain();
-    let mut whole = Segment::new(alloc, grid, 0, 0, LONGEST)?;
     for &raw in raws {
         let name = whole.name();
         if name.to < MAX_SAMPLES && name.to - name.from < whole.longest() {
             whole.take(raw, &gain);
         }
     }
-    Ok(whole)
 }
 
 // The cycles of the pairs of which this is the lower level, and what crosses or turns at it.
