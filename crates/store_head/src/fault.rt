@@ -1,3 +1,9 @@
+ghost use Rattle.std.specs.Prelude.{Some};
+ghost use Rattle.store_head.specs.FaultText.{field_text, head_text};
+
+use std::error::Error;
+use std::fmt;
+
 /// A part of the setup, with the gauge's number where it is of a gauge.
 #[derive(Clone, Copy, Debug, PartialEq, Eq)]
 pub enum Field {
@@ -22,3 +28,36 @@ pub enum HeadFault {
     /// The store has this number, and the setup that one.
     Differs { field: Field, kept: i64, found: i64 },
 }
+
+impl fmt::Display for Field {
+    ghost output = { λ field. Some (field_text field) };
+
+    fn fmt<W: fmt::Write>(&self, f: &mut fmt::Formatter<W>) -> fmt::Result {
+        match *self {
+            Field::Gauges => f.write_str("gauges"),
+            Field::Classes => f.write_str("classes"),
+            Field::Width => f.write_str("width"),
+            Field::Low => f.write_str("low"),
+            Field::Reference => f.write_str("reference"),
+            Field::Num(gauge) => write!(f, "num {gauge}"),
+            Field::Den(gauge) => write!(f, "den {gauge}"),
+            Field::Offset(gauge) => write!(f, "offset {gauge}"),
+        }
+    }
+}
+
+impl fmt::Display for HeadFault {
+    ghost output = { λ fault. Some (head_text fault) };
+
+    fn fmt<W: fmt::Write>(&self, f: &mut fmt::Formatter<W>) -> fmt::Result {
+        match *self {
+            HeadFault::NotAStore => f.write_str("not a store"),
+            HeadFault::Version(version) => write!(f, "version {version} in place of 1 or 2"),
+            HeadFault::Differs { field, kept, found } => {
+                write!(f, "{field} was {kept}, is {found}")
+            }
+        }
+    }
+}
+
+impl Error for HeadFault {}
