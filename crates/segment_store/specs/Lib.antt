@@ -1,4 +1,5 @@
 pub mod Beginning
+pub mod FaultText
 pub mod Held
 pub mod Holds
 pub mod Image
