@@ -1,3 +1,4 @@
 pub mod FileState
 pub mod Answer
 pub mod Run
+pub mod FaultText

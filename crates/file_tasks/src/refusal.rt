@@ -1,9 +1,11 @@
-ghost use Rattle.std.specs.Prelude.{◌≡◌};
+ghost use Rattle.std.specs.Prelude.{◌≡◌, Some};
 ghost use Rattle.file_tasks.specs.declared.refusal.Refusal.TheVariants.{OutOfMemory};
 
 use recording::HeadFault;
 use status::{RecordingFault, Status};
 use std::alloc::AllocError;
+use std::error::Error;
+use std::fmt;
 
 /// Why a recording is refused, or can't be read.
 #[derive(Clone, Copy, Debug, PartialEq, Eq)]
@@ -59,3 +61,21 @@ impl From<AllocError> for Refusal {
         Refusal::OutOfMemory
     }
 }
+
+impl fmt::Display for Refusal {
+    ghost use Rattle.file_tasks.specs.FaultText.{refusal_text};
+
+    ghost output = { λ refusal. Some (refusal_text refusal) };
+
+    fn fmt<W: fmt::Write>(&self, f: &mut fmt::Formatter<W>) -> fmt::Result {
+        match self {
+            Refusal::Head(fault) => write!(f, "{fault}"),
+            Refusal::Torn(bytes) => write!(f, "ends in {bytes} odd bytes"),
+            Refusal::TooLong => f.write_str("too long"),
+            Refusal::ReadFault => f.write_str("a read failed"),
+            Refusal::OutOfMemory => f.write_str("out of memory"),
+        }
+    }
+}
+
+impl Error for Refusal {}
