@@ -2,3 +2,4 @@ pub mod Opening
 pub mod Answers
 pub mod Lanes
 pub mod Ending
+pub mod FaultText

@@ -7,6 +7,8 @@ ghost use Rattle.site_lanes.specs.declared.opening.OpenFault.TheVariants.{ReadFa
 use outside::Source;
 use recording::{FillEnd, Head, HeadFault, read_head, skip};
 use status::RecordingFault;
+use std::error::Error;
+use std::fmt;
 
 /// Why a recording can't be counted.
 #[derive(Clone, Copy, Debug, PartialEq, Eq)]
@@ -16,6 +18,21 @@ pub enum OpenFault {
     /// A read failed.
     ReadFault,
 }
+
+impl fmt::Display for OpenFault {
+    ghost use Rattle.site_lanes.specs.FaultText.{open_fault_text};
+
+    ghost output = { λ fault. Some (open_fault_text fault) };
+
+    fn fmt<W: fmt::Write>(&self, f: &mut fmt::Formatter<W>) -> fmt::Result {
+        match self {
+            OpenFault::Recording(fault) => write!(f, "{fault}"),
+            OpenFault::ReadFault => f.write_str("a read failed"),
+        }
+    }
+}
+
+impl Error for OpenFault {}
 
 fn open_fault(fault: HeadFault) -> OpenFault
     ensures { result ≡ open_fault fault }
