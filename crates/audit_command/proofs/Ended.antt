@@ -39,10 +39,11 @@ use Rattle.status.specs.declared.status.Status.TheVariants.{Done, Usage, Config 
 use Rattle.config_reading.specs.Reading.{MeansAs, IsRefusal}
 use Rattle.status.specs.Printing.{IsPrinting}
 use Rattle.status.specs.Refused.{store_status}
+use Rattle.report_command.specs.Printing.{held_of}
 use Rattle.report_command.specs.Answers.{ReadsAs}
 use Rattle.config_reading.proofs.Refusing.{by_refusal}
 use Rattle.audit_command.specs.Recounted.{IsRecounting}
-use Rattle.audit_command.specs.Audited.{Meant, IsItem, HasKept, IsStanding, IsOther, AllSame, Finds, first_samples}
+use Rattle.audit_command.specs.Audited.{Meant, IsItem, HasKept, IsStanding, IsOther, AllSame, Finds}
 use Rattle.audit_command.specs.Answers.{HeldAnswers, CountedAnswers, MayAnswerOver, AuditAnswers, IsSound, IsAuditing}
 use Rattle.audit_command.specs.Printing.{Prints}
 use Rattle.audit_command.proofs.Audits.{differ_clash, finds_by}
@@ -128,10 +129,10 @@ auditing_no_disk = by_auditing (λ s. s ≢ DiskFault) (λ e. absurd cc) (λ e. 
     (by_other (λ s. s ≢ DiskFault) (λ g w x y e. absurd cc))
 
 pub finds_of : (c : Config) (heads : List Head) (meant : Meant) (ends : List ℕ) (files : Files) (s : Status) → IsAuditing s
-    → HeldAnswers c heads meant ends files s → Finds c meant (first_samples (recorded c files).samples ends) s
+    → HeldAnswers c heads meant ends files s → Finds c meant (held_of (recorded c files).samples ends) s
 finds_of c heads meant ends files s is a =
     let P : Status → Type 0 = λ x. HeldAnswers c heads meant ends files x →
-    Finds c meant (first_samples (recorded c files).samples ends) x in
+    Finds c meant (held_of (recorded c files).samples ends) x in
     by_auditing P (λ b. b.1) (λ b. b.1) (by_recounting P (λ g f b. tt) (λ b. tt) (λ b. tt)) (by_other P (λ g w x y b. b.1)) s is a
 
 -- over a store that was read, by the setup of the configuration
@@ -147,7 +148,7 @@ module _ (c : Config) (heads : List Head) (from to : Meant) (ends : List ℕ) (f
   pub answers_by : (s : Status) → IsAuditing s → HeldAnswers c heads from ends files s → HeldAnswers c heads to ends files s
   answers_by s is a =
       let P : Status → Type 0 = λ x. HeldAnswers c heads from ends files x → HeldAnswers c heads to ends files x in
-      let found = finds_by c from to (first_samples (recorded c files).samples ends) leads in
+      let found = finds_by c from to (held_of (recorded c files).samples ends) leads in
       by_auditing P (λ b. (b.0, found Done b.1)) (λ b. (b.0, found WriteFault b.1)) (by_recounting P (λ g f b. b) (λ b. tt) (λ b. tt))
       (by_other P (λ g v x y b. (b.0, found (Differs g v x y) b.1))) s is a
 
@@ -168,7 +169,7 @@ module _ (s : StoreValue) (bodies : List PartsValue) (seen : Image) (leaves : Im
   items_keep g v lt is = subst (HasKept bodies g) (sym is.0) (held_keep s bodies seen leaves on g v lt (subst IsSegment is.0 is.1))
 
   pub items_stand : (c : Config) (w : ℕ → List ℤ) → s.head.setup ≡ c.setup → AllStand c.setup w bodies → (g : ℕ) (v : SegmentValue)
-      → g < length s.held → IsItem s.held g v → IsStanding c (first_samples w (ends_of s.held)) g v
+      → g < length s.held → IsItem s.held g v → IsStanding c (held_of w (ends_of s.held)) g v
   items_stand c w same all g v lt is =
       subst (λ (x : Setup). Stands v (gain_at x g) (take (get_or (ends_of s.held) g 0) (w g))) same
       (subst (λ (x : SegmentValue). Stands x (gain_at s.head.setup g) (take (get_or (ends_of s.held) g 0) (w g))) (sym is.0)
@@ -202,7 +203,7 @@ refused_unprinted fault.OutOfMemory c old = refl
 
 pub held_complete : (c : Config) (heads : List Head) (bodies : List PartsValue) (ends : List ℕ) (files : Files) (s : Status)
     → HeldAnswers c heads (HasKept bodies) ends files s → AllOpened c heads (slice_index ends) files (length c.gauges)
-    → AllSame c (HasKept bodies) (first_samples (recorded c files).samples ends) (length c.gauges) → s ≢ ReadFault → s ≢ WriteFault
+    → AllSame c (HasKept bodies) (held_of (recorded c files).samples ends) (length c.gauges) → s ≢ ReadFault → s ≢ WriteFault
     → (s ≡ Done) ⊎ (s ≡ OutOfMemory)
 held_complete c heads bodies ends files Done a opened same r w = inl refl
 held_complete c heads bodies ends files OutOfMemory a opened same r w = inr refl
@@ -214,8 +215,8 @@ held_complete c heads bodies ends files (Differs g x y z) a opened same r w =
     let other = a.1.2 in
     let none = same g a.1.0 in
     absurd (differ_clash other.0 none.0 (bodies_of g bodies) c.setup.grid
-    (counts_of c.setup.grid (gain_at c.setup g) (first_samples (recorded c files).samples ends g))
-    (three_point (history c.setup.grid (gain_at c.setup g) (first_samples (recorded c files).samples ends g)))
+    (counts_of c.setup.grid (gain_at c.setup g) (held_of (recorded c files).samples ends g))
+    (three_point (history c.setup.grid (gain_at c.setup g) (held_of (recorded c files).samples ends g)))
     (record { what = x; held = y; found = z }) other.1 none.1 other.2 none.2 other.3 none.3)
 held_complete c heads bodies ends files Usage a opened same r w = absurd a
 held_complete c heads bodies ends files (BadConfig f) a opened same r w = absurd a

@@ -6,7 +6,7 @@
 --   AuditsGauge    the first difference of a gauge, or none
 --   AllSame        no gauge below this one has any
 --   Finds          what an answer says that comes after all were compared
-use Rattle.std.specs.Prelude.{◌≡◌, ◌<◌, ℕ, ℤ, List, length, take, slice_index, slice_index_or, Option, Some, None}
+use Rattle.std.specs.Prelude.{◌≡◌, ◌<◌, ℕ, ℤ, List, length, slice_index_or, Option, Some, None}
 use Rattle.calibration.specs.History.{history}
 use Rattle.three_point.specs.Run.{three_point}
 use Rattle.segment_rules.specs.Parts.{PartsValue}
@@ -31,10 +31,6 @@ HasKept bodies g v = Keeps v (bodies_of g bodies)
 
 abbrev pub IsStanding : Config → (ℕ → List ℤ) → Meant
 IsStanding c w g v = Stands v (gain_at c.setup g) (w g)
-
--- of each gauge the first samples, as many as are held
-abbrev pub first_samples : (ℕ → List ℤ) → List ℕ → ℕ → List ℤ
-first_samples w n g = take (slice_index n g) (w g)
 
 -- used, missing and refused samples, and the half units of each pair, are compared with those of the samples w of the
 -- gauge

@@ -12,7 +12,8 @@ ghost use Rattle.fault_lines.specs.FaultLine.{fault_line, name_by, name_for};
 ghost use Rattle.fault_lines.specs.Telling.{TellsAtMost};
 ghost use Rattle.status.specs.declared.status.Status.TheVariants.{Done, Usage, ReadFault, WriteFault, DiskFault, OutOfMemory};
 ghost use Rattle.status.specs.Printing.{IsPrinting};
-ghost use Rattle.audit_command.specs.Audited.{Finds, IsStanding, first_samples};
+ghost use Rattle.report_command.specs.Printing.{held_of};
+ghost use Rattle.audit_command.specs.Audited.{Finds, IsStanding};
 ghost use Rattle.audit_command.specs.Answers.{MayAnswerOver, AuditAnswers, IsAudited, IsSound};
 ghost use Rattle.audit_command.specs.Printing.{Prints};
 
@@ -43,8 +44,8 @@ pub fn audit_command<C: Source, T: Site, K: Station, O: Sink>(
     ensures stands { K.tells → T.tells → C.tells → (conf : Config) →
         config_of_bytes (C.left config.old) ≡ Ok conf → (w : ℕ → List ℤ) (n : List ℕ) →
         Holds conf.setup w n (K.seen station.old) →
-        Finds conf (IsStanding conf (first_samples w n))
-        (first_samples (recorded conf (T.files site.old)).samples n) result }
+        Finds conf (IsStanding conf (held_of w n))
+        (held_of (recorded conf (T.files site.old)).samples n) result }
     ensures complete { K.tells → T.tells → C.tells → IsSound
         (config_of_bytes (C.left config.old)) (K.seen station.old) (T.files site.old) →
         (Rose (C.faults config.old) (C.faults config.new) → ⊥) →
@@ -110,8 +111,8 @@ fn audit_by<T: Site, K: Station, O: Sink>(
         MayAnswerOver conf.now (K.seen station.old) (T.files site.old) result }
     ensures stands { K.tells → T.tells → (w : ℕ → List ℤ) (n : List ℕ) →
         Holds conf.now.setup w n (K.seen station.old) →
-        Finds conf.now (IsStanding conf.now (first_samples w n))
-        (first_samples (recorded conf.now (T.files site.old)).samples n) result }
+        Finds conf.now (IsStanding conf.now (held_of w n))
+        (held_of (recorded conf.now (T.files site.old)).samples n) result }
     ensures complete { K.tells → T.tells →
         IsAudited conf.now (K.seen station.old) (T.files site.old) →
         (Rose (T.faults site.old) (T.faults site.new) → ⊥) →

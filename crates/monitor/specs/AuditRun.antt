@@ -9,8 +9,9 @@ use Rattle.recorded.specs.Asked.{AsksFirst, names_in}
 use Rattle.status.specs.declared.status.Status.{Status}
 use Rattle.status.specs.declared.status.Status.TheVariants.{Done, Usage, ReadFault, WriteFault, DiskFault, OutOfMemory}
 use Rattle.status.specs.Printing.{IsPrinting}
+use Rattle.report_command.specs.Printing.{held_of}
 use Rattle.audit_command.specs.Answers.{AuditAnswers, IsSound}
-use Rattle.audit_command.specs.Audited.{Finds, IsStanding, first_samples}
+use Rattle.audit_command.specs.Audited.{Finds, IsStanding}
 use Rattle.audit_command.specs.Printing.{Prints}
 use Rattle.monitor.specs.InitRun.{line_for}
 use Rattle.monitor.specs.Shown.{Shown, Tells, Ends}
@@ -28,7 +29,7 @@ pub record AuditRuns (before after : Shown) (answer : Status) : Type 0 where
   -- Where the bodies stand for samples, these are compared with what the recording begins with.
   pub stands : before.station_tells → before.site_tells → before.config_tells → (c : Config) →
       config_of_bytes before.config ≡ Ok c → (w : ℕ → List ℤ) (n : List ℕ) → Holds c.setup w n before.seen →
-      Finds c (IsStanding c (first_samples w n)) (first_samples (recorded c before.files).samples n) answer
+      Finds c (IsStanding c (held_of w n)) (held_of (recorded c before.files).samples n) answer
   -- A line for each gauge.
   pub prints : before.output_tells → before.config_tells → (c : Config) →
       config_of_bytes before.config ≡ Ok c → Prints answer c before.written after.written

@@ -2,7 +2,8 @@ use Rattle.std.proofs.Common.{List, sym, subst, slice_index}
 use Rattle.recount.specs.declared.count.Recount.{Recount}
 use Rattle.segment_store.specs.Held.{ends_of}
 use Rattle.recorded.specs.Recorded.{recorded}
-use Rattle.audit_command.specs.Audited.{IsItem, first_samples}
+use Rattle.report_command.specs.Printing.{held_of}
+use Rattle.audit_command.specs.Audited.{IsItem}
 use Rattle.audit_command.specs.Recounted.{AreOf, AreOver}
 use Rattle.audit_command.proofs.Ended.{recounting_answers, recounting_unprinted, recounting_kind, recounting_no_write, other_answers, other_unprinted, other_kind, other_no_fault}
 use Rattle.audit_command.proofs.Recounts.{are_of, are_over}
@@ -50,9 +51,9 @@ returns-in-Some-clause-answer g c = λ shows.
     let conf = c.args.conf.now in
     let files = g.T.Site.files c.args.site.now in
     let ends = ends_of c.args.store.now.held in
-    let w = first_samples (recorded c.args.conf.now (g.T.Site.files c.args.site.now)).samples (ends_of c.args.store.now.held) in
+    let w = held_of (recorded c.args.conf.now (g.T.Site.files c.args.site.now)).samples (ends_of c.args.store.now.held) in
     let are = subst (λ (l : List Recount). AreOf c.args.conf.now l
-    (first_samples (recorded c.args.conf.now (g.T.Site.files c.args.site.now)).samples (ends_of c.args.store.now.held)))
+    (held_of (recorded c.args.conf.now (g.T.Site.files c.args.site.now)).samples (ends_of c.args.store.now.held)))
     (sym c.deref.ensures.value)
     (are_of conf g.T.Site.tells (recorded conf files).samples (slice_index ends) c.recount_all.new.recounts.items
     c.recount_all.ensures.counted shows) in
@@ -65,9 +66,9 @@ returns-in-Ok-print_same-clause-answer g c = λ shows.
     let conf = c.args.conf.now in
     let files = g.T.Site.files c.args.site.now in
     let ends = ends_of c.args.store.now.held in
-    let w = first_samples (recorded c.args.conf.now (g.T.Site.files c.args.site.now)).samples (ends_of c.args.store.now.held) in
+    let w = held_of (recorded c.args.conf.now (g.T.Site.files c.args.site.now)).samples (ends_of c.args.store.now.held) in
     let are = subst (λ (l : List Recount). AreOf c.args.conf.now l
-    (first_samples (recorded c.args.conf.now (g.T.Site.files c.args.site.now)).samples (ends_of c.args.store.now.held)))
+    (held_of (recorded c.args.conf.now (g.T.Site.files c.args.site.now)).samples (ends_of c.args.store.now.held)))
     (sym c.deref.ensures.value)
     (are_of conf g.T.Site.tells (recorded conf files).samples (slice_index ends) c.recount_all.new.recounts.items
     c.recount_all.ensures.counted shows) in
@@ -78,9 +79,9 @@ returns-clause-answer g c = λ shows.
     let conf = c.args.conf.now in
     let files = g.T.Site.files c.args.site.now in
     let ends = ends_of c.args.store.now.held in
-    let w = first_samples (recorded c.args.conf.now (g.T.Site.files c.args.site.now)).samples (ends_of c.args.store.now.held) in
+    let w = held_of (recorded c.args.conf.now (g.T.Site.files c.args.site.now)).samples (ends_of c.args.store.now.held) in
     let are = subst (λ (l : List Recount). AreOf c.args.conf.now l
-    (first_samples (recorded c.args.conf.now (g.T.Site.files c.args.site.now)).samples (ends_of c.args.store.now.held)))
+    (held_of (recorded c.args.conf.now (g.T.Site.files c.args.site.now)).samples (ends_of c.args.store.now.held)))
     (sym c.deref.ensures.value)
     (are_of conf g.T.Site.tells (recorded conf files).samples (slice_index ends) c.recount_all.new.recounts.items
     c.recount_all.ensures.counted shows) in

@@ -7,9 +7,10 @@ use Rattle.recorded.specs.Asked.{file_names}
 use Rattle.recorded.proofs.Asking.{none_is_first}
 use Rattle.status.specs.declared.status.Status.{Status}
 use Rattle.status.specs.declared.status.Status.TheVariants.{Done, OutOfMemory}
+use Rattle.report_command.specs.Printing.{held_of}
 use Rattle.report_command.proofs.Ended.{refused_complete}
 use Rattle.audit_command.specs.Answers.{HeldAnswers}
-use Rattle.audit_command.specs.Audited.{Finds, HasKept, IsItem, IsStanding, first_samples}
+use Rattle.audit_command.specs.Audited.{Finds, HasKept, IsItem, IsStanding}
 use Rattle.audit_command.proofs.Audits.{finds_by}
 use Rattle.audit_command.proofs.Ended.{answers_by, answers_over, auditing_no_disk, finds_of, held_complete, items_keep, items_stand, read_as}
 use Rattle.audit_command.proofs.AnswerKinds.{audited_named, refused_named}
@@ -41,10 +42,10 @@ returns-in-Ok-clause-stands g c = λ tells shows w n h.
     let files = g.T.Site.files c.args.site.now in
     let found = c.in-Ok.ensures.reads tells h.head h.bodies n h.of_setup h.reads in
     let many : length s.held ≡ length conf.gauges = c.in-Ok.ensures.gauges ∙ c.requires.conf.gains in
-    subst (λ (e : List ℕ). Finds conf (IsStanding conf (first_samples w e)) (first_samples (recorded conf files).samples e)
+    subst (λ (e : List ℕ). Finds conf (IsStanding conf (held_of w e)) (held_of (recorded conf files).samples e)
     c.audit_held.result) found.1
-    (finds_by conf (IsItem s.held) (IsStanding conf (first_samples w (ends_of s.held)))
-    (first_samples (recorded conf files).samples (ends_of s.held))
+    (finds_by conf (IsItem s.held) (IsStanding conf (held_of w (ends_of s.held)))
+    (held_of (recorded conf files).samples (ends_of s.held))
     (λ j v lt is. items_stand s h.bodies (k.seen c.resume.new.station) (k.leaves c.resume.new.station) found.2 conf w c.in-Ok.ensures.setup
     h.stand j v (omega (arith, lt, many)) is)
     c.audit_held.result (finds_of conf s.head.heads (IsItem s.held) (ends_of s.held) files c.audit_held.result c.audit_held.ensures.kind

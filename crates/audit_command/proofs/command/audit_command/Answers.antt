@@ -13,10 +13,11 @@ use Rattle.fault_lines.specs.FaultLine.{fault_line, name_by}
 use Rattle.fault_lines.specs.Room.{FaultLineValue}
 use Rattle.fault_lines.specs.Telling.{TellsAtMost}
 use Rattle.fault_lines.proofs.Telling.{quiet_tells}
+use Rattle.report_command.specs.Printing.{held_of}
 use Rattle.report_command.proofs.Ended.{unread_other}
 use Rattle.report_command.proofs.Told.{last_after}
 use Rattle.audit_command.specs.Answers.{IsAudited}
-use Rattle.audit_command.specs.Audited.{Finds, IsStanding, first_samples}
+use Rattle.audit_command.specs.Audited.{Finds, IsStanding}
 use Rattle.audit_command.specs.Printing.{Prints}
 use Rattle.audit_command.proofs.Ended.{finds_unread, line_same, name_short, not_printed, over_config, unread_answer, unread_complete, unread_unprinted}
 use Rattle.audit_command.proofs.AnswerKinds.{unread_named}
@@ -32,7 +33,7 @@ returns-clause-answer g c = λ tells shows reads.
 
 pub returns-clause-stands : goal.returns-clause-stands
 returns-clause-stands g c = λ tells shows reads conf is w n h.
-    finds_unread conf (IsStanding conf (first_samples w n)) (first_samples (recorded conf (g.T.Site.files c.args.site.now)).samples n)
+    finds_unread conf (IsStanding conf (held_of w n)) (held_of (recorded conf (g.T.Site.files c.args.site.now)).samples n)
     c.in-Err.status
     c.in-Err.ensures.refusal
 
@@ -88,8 +89,8 @@ pub returns-in-Ok-read_config-clause-stands : goal.returns-in-Ok-read_config-cla
 returns-in-Ok-read_config-clause-stands g c = λ tells shows reads conf is w n h.
     let same = same_ok
     (c.in-Ok-read_config.ensures.meaning reads) is in
-    subst (λ (x : Config). Holds x.setup w n (g.K.Station.seen c.args.station.now) → Finds x (IsStanding x (first_samples w n))
-    (first_samples (recorded x (g.T.Site.files c.args.site.now)).samples n) c.audit_by-status.result) same
+    subst (λ (x : Config). Holds x.setup w n (g.K.Station.seen c.args.station.now) → Finds x (IsStanding x (held_of w n))
+    (held_of (recorded x (g.T.Site.files c.args.site.now)).samples n) c.audit_by-status.result) same
     (λ held. c.audit_by-status.ensures.stands tells shows w n held) h
 
 pub returns-in-Ok-read_config-clause-complete : goal.returns-in-Ok-read_config-clause-complete
