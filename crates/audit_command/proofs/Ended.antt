@@ -39,6 +39,7 @@ use Rattle.status.specs.declared.status.Status.TheVariants.{Done, Usage, Config 
 use Rattle.config_reading.specs.Reading.{MeansAs, IsRefusal}
 use Rattle.status.specs.Printing.{IsPrinting}
 use Rattle.status.specs.Refused.{store_status}
+use Rattle.status.proofs.Kinds.{by_store_status}
 use Rattle.report_command.specs.Printing.{held_of}
 use Rattle.report_command.specs.Answers.{ReadsAs}
 use Rattle.config_reading.proofs.Refusing.{by_refusal}
@@ -153,12 +154,7 @@ module _ (c : Config) (heads : List Head) (from to : Meant) (ends : List ℕ) (f
       (by_other P (λ g v x y b. (b.0, found (Differs g v x y) b.1))) s is a
 
 pub finds_refused : (c : Config) (meant : Meant) (w : ℕ → List ℤ) (f : ResumeFault) → Finds c meant w (store_status f)
-finds_refused c meant w fault.NotAStore = tt
-finds_refused c meant w (fault.Version v) = tt
-finds_refused c meant w (fault.Differs field kept found) = tt
-finds_refused c meant w (fault.Damaged index damage) = tt
-finds_refused c meant w fault.DiskFault = tt
-finds_refused c meant w fault.OutOfMemory = tt
+finds_refused c meant w = by_store_status (Finds c meant w) (λ f. tt) tt tt
 
 pub finds_unread : (c : Config) (meant : Meant) (w : ℕ → List ℤ) (s : Status) → IsRefusal s → Finds c meant w s
 finds_unread c meant w = by_refusal (Finds c meant w) (λ f. tt) tt tt
@@ -194,12 +190,7 @@ refused_answers c image files see fault.DiskFault h = tt
 refused_answers c image files see fault.OutOfMemory h = tt
 
 pub refused_unprinted : (f : ResumeFault) (c : Config) (old : List ℕ) → Prints (store_status f) c old old
-refused_unprinted fault.NotAStore c old = refl
-refused_unprinted (fault.Version v) c old = refl
-refused_unprinted (fault.Differs field kept found) c old = refl
-refused_unprinted (fault.Damaged index damage) c old = refl
-refused_unprinted fault.DiskFault c old = refl
-refused_unprinted fault.OutOfMemory c old = refl
+refused_unprinted f c old = by_store_status (λ (x : Status). Prints x c old old) (λ s. refl) refl refl f
 
 pub held_complete : (c : Config) (heads : List Head) (bodies : List PartsValue) (ends : List ℕ) (files : Files) (s : Status)
     → HeldAnswers c heads (HasKept bodies) ends files s → AllOpened c heads (slice_index ends) files (length c.gauges)

@@ -12,22 +12,17 @@ use Rattle.report.specs.Repeat.{repeat_text}
 use Rattle.report.proofs.Repeats.{repeat_text-same}
 use Rattle.segment_store.specs.Holds.{gain_at}
 use Rattle.segment_store.specs.declared.fault.ResumeFault.{ResumeFault}
-use Rattle.segment_store.specs.declared.fault.ResumeFault.TheVariants as fault
 use Rattle.site_config.specs.Valid.{name_of}
 use Rattle.site_config.specs.declared.config.Config.{Config}
 use Rattle.config_reading.specs.Reading.{IsRefusal}
 use Rattle.config_reading.proofs.Refusing.{by_refusal}
 use Rattle.status.specs.declared.status.Status.{Status}
 use Rattle.status.specs.Refused.{store_status}
+use Rattle.status.proofs.Kinds.{by_store_status}
 use Rattle.repeat_command.specs.Printing.{Prints, cycles_by, text_of_gauge}
 
 pub refused_prints : (f : ResumeFault) (c : Config) (w : ℕ → List ℤ) (old : List ℕ) → Prints (store_status f) c w old old
-refused_prints fault.NotAStore c w old = refl
-refused_prints (fault.Version v) c w old = refl
-refused_prints (fault.Differs field kept found) c w old = refl
-refused_prints (fault.Damaged index damage) c w old = refl
-refused_prints fault.DiskFault c w old = refl
-refused_prints fault.OutOfMemory c w old = refl
+refused_prints f c w old = by_store_status (λ (x : Status). Prints x c w old old) (λ s. refl) refl refl f
 
 pub unread_prints : (s : Status) → IsRefusal s → (c : Config) (w : ℕ → List ℤ) (old : List ℕ) → Prints s c w old old
 unread_prints s is c w old = by_refusal (λ (x : Status). Prints x c w old old) (λ f. refl) refl refl s is

@@ -1,21 +1,16 @@
 -- Which answers there are.
 use Rattle.std.proofs.Common.{◌≡◌, sym, subst}
 use Rattle.segment_store.specs.declared.fault.ResumeFault.{ResumeFault}
-use Rattle.segment_store.specs.declared.fault.ResumeFault.TheVariants as resume
 use Rattle.config_reading.specs.Reading.{IsRefusal}
 use Rattle.status.specs.declared.status.Status.{Status}
 use Rattle.status.specs.declared.status.Status.TheVariants.{Done, Usage, Config, Store, Recording, Torn, ReadFault, WriteFault, DiskFault, OutOfMemory, TooLong, Differs}
 use Rattle.status.specs.Printing.{IsPrinting}
 use Rattle.status.specs.Refused.{store_status}
+use Rattle.status.proofs.Kinds.{by_store_status}
 use Rattle.report_command.specs.Answers.{IsReporting}
 
 store_kind : (f : ResumeFault) → IsReporting (store_status f)
-store_kind resume.NotAStore = tt
-store_kind (resume.Version v) = tt
-store_kind (resume.Differs field kept found) = tt
-store_kind (resume.Damaged index damage) = tt
-store_kind resume.DiskFault = tt
-store_kind resume.OutOfMemory = tt
+store_kind = by_store_status IsReporting (λ f. tt) tt tt
 
 pub kind_of_store : (s : Status) (f : ResumeFault) → s ≡ store_status f → IsReporting s
 kind_of_store s f is = subst IsReporting (sym is) (store_kind f)

@@ -19,17 +19,12 @@ use Rattle.status.specs.declared.status.Status.{Status}
 use Rattle.status.specs.declared.status.Status.TheVariants.{Done, Usage, Config as BadConfig, Store as BadStore, Recording, Torn, ReadFault, WriteFault, DiskFault, OutOfMemory, TooLong, Differs}
 use Rattle.status.specs.Printing.{IsPrinting}
 use Rattle.status.specs.Refused.{store_status}
-use Rattle.status.proofs.Printing.{by_printing}
+use Rattle.status.proofs.Kinds.{by_printing, by_store_status}
 use Rattle.report_command.specs.Printing.{Prints}
 use Rattle.report_command.specs.Answers.{MayAnswerOver, ReadsAs, ReportAnswers, IsSound}
 
 pub refused_prints : (f : ResumeFault) (c : Config) (figures : ℕ → Figures) (old : List ℕ) → Prints (store_status f) c figures old old
-refused_prints fault.NotAStore c figures old = refl
-refused_prints (fault.Version v) c figures old = refl
-refused_prints (fault.Differs field kept found) c figures old = refl
-refused_prints (fault.Damaged index damage) c figures old = refl
-refused_prints fault.DiskFault c figures old = refl
-refused_prints fault.OutOfMemory c figures old = refl
+refused_prints f c figures old = by_store_status (λ (x : Status). Prints x c figures old old) (λ s. refl) refl refl f
 
 pub unread_prints : (s : Status) → IsRefusal s → (c : Config) (figures : ℕ → Figures) (old : List ℕ) → Prints s c figures old old
 unread_prints s is c figures old = by_refusal (λ (x : Status). Prints x c figures old old) (λ f. refl) refl refl s is
@@ -84,20 +79,10 @@ refused_disk X fault.DiskFault before between now d le is = omega (arith, d, le)
 refused_disk X fault.OutOfMemory before between now d le is = absurd cc
 
 pub refused_no_read : (f : ResumeFault) → store_status f ≢ ReadFault
-refused_no_read fault.NotAStore is = absurd cc
-refused_no_read (fault.Version v) is = absurd cc
-refused_no_read (fault.Differs field kept found) is = absurd cc
-refused_no_read (fault.Damaged index damage) is = absurd cc
-refused_no_read fault.DiskFault is = absurd cc
-refused_no_read fault.OutOfMemory is = absurd cc
+refused_no_read = by_store_status (λ s. s ≢ ReadFault) (λ f is. absurd cc) (λ is. absurd cc) (λ is. absurd cc)
 
 pub refused_no_write : (f : ResumeFault) → store_status f ≢ WriteFault
-refused_no_write fault.NotAStore is = absurd cc
-refused_no_write (fault.Version v) is = absurd cc
-refused_no_write (fault.Differs field kept found) is = absurd cc
-refused_no_write (fault.Damaged index damage) is = absurd cc
-refused_no_write fault.DiskFault is = absurd cc
-refused_no_write fault.OutOfMemory is = absurd cc
+refused_no_write = by_store_status (λ s. s ≢ WriteFault) (λ f is. absurd cc) (λ is. absurd cc) (λ is. absurd cc)
 
 pub printing_other : (s : Status) → IsPrinting s → (s ≢ ReadFault) × (s ≢ DiskFault)
 printing_other =
