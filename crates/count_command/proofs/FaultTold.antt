@@ -1,25 +1,16 @@
 -- The line of a fault acknowledges nothing.
 --   fault_below   no fault line is a held line
 --   safe_fault    a run goes on over it
---   name_short    there is room for the name of each gauge
-use Rattle.std.proofs.Common.{◌≡◌, ◌≤◌, ◌⊎◌, inl, inr, ⊎_elim, ℕ, List, [], ◌∷◌, ◌++◌, length, append_assoc, ◌∙◌, ap, arith}
-use Rattle.std.proofs.lemmas.Bool.{cases_lt}
-use Rattle.std.proofs.lemmas.List.{get_or_past}
+use Rattle.std.proofs.Common.{◌≡◌, ◌⊎◌, ⊎_elim, ℕ, List, [], ◌∷◌, ◌++◌, append_assoc, ◌∙◌, ap}
 use Rattle.station.specs.Station.{Image, Lines, MomentsSince}
 use Rattle.station.proofs.Moments.{continues}
-use Rattle.site_config.specs.declared.config.Config.{Config as Configuration}
-use Rattle.site_config.specs.declared.config.Gauge.{Gauge}
-use Rattle.site_config.specs.declared.limits.TheConstants.{MAX_NAME_BYTES}
-use Rattle.site_config.specs.Valid.{IsConfig, name_of, no_gauge}
 use Rattle.recorded.specs.Recorded.{Recorded}
 use Rattle.status.specs.declared.status.Status.{Status}
-use Rattle.status.specs.declared.status.Status.TheVariants.{Done, Usage, Config, Store, Recording, Torn, ReadFault, WriteFault, DiskFault, OutOfMemory, TooLong, Differs}
-use Rattle.fault_lines.specs.FaultLine.{fault_line, name_for}
+use Rattle.fault_lines.specs.FaultLine.{fault_line}
 use Rattle.fault_lines.specs.Telling.{InFault, TellsAtMost}
 use Rattle.held_samples.specs.Told.{IsBelow, AreBelow}
 use Rattle.held_samples.specs.Going.{IsKept, Safe}
 use Rattle.held_samples.proofs.Going.{all_more}
-use Rattle.held_samples.proofs.HeldLines.{is_short}
 use Rattle.fault_lines.proofs.FirstByte.{fault_line-no_h}
 
 -- no fault line acknowledges anything
@@ -47,25 +38,3 @@ safe_fault r a start mid now past between since told told2 told3 seen seen2 leav
           (λ lines c i. kept lines c i.0 i.1);
       kept = λ c has. kept told3 c tells.told_at_most (tells.none_new c has);
     }
-
--- of a gauge that a configuration doesn't have, the name is empty
-name_of_short : (conf : Configuration) → IsConfig conf → (g : ℕ) → length (name_of conf g) ≤ MAX_NAME_BYTES
-name_of_short conf is g = elim (cases_lt g (length conf.gauges)) [
-  | inl lt ↦ is_short (name_of conf g) (is.names g lt)
-  | inr past ↦ let e : length (name_of conf g) ≡ 0 = ap (λ (x : Gauge). length x.name) (get_or_past conf.gauges g no_gauge past) in
-      omega (arith, e)
-]
-
-pub name_short : (conf : Configuration) → IsConfig conf → (s : Status) → length (name_for conf s) ≤ MAX_NAME_BYTES
-name_short conf is Done = omega arith
-name_short conf is Usage = omega arith
-name_short conf is (Config f) = omega arith
-name_short conf is (Store f) = omega arith
-name_short conf is (Recording g f) = name_of_short conf is g
-name_short conf is (Torn g b) = name_of_short conf is g
-name_short conf is ReadFault = omega arith
-name_short conf is WriteFault = omega arith
-name_short conf is DiskFault = omega arith
-name_short conf is OutOfMemory = omega arith
-name_short conf is (TooLong g) = name_of_short conf is g
-name_short conf is (Differs g w x y) = name_of_short conf is g
