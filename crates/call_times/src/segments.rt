@@ -38,7 +38,9 @@ impl Way {
     ];
 
     // The samples of a unit's block; where there are no blocks, of a unit that counts nothing.
-    fn length(self) -> u16 {
+    fn length(self) -> u16
+        ensures { 1 ≤ result }
+    {
         match self {
             Way::Blocks { length, .. } => length.max(1),
             Way::Samples => 1,
