@@ -91,12 +91,10 @@ pub fn column(alloc: Global, bytes: &[u8], name: &[u8]) -> Result<Samples, Colum
 fn place_of(name: &[u8], header: &ByteRecord) -> Option<usize>
     ensures { result ≡ spec.place_of name.now (fields_of header.now) }
 {
-    let mut place = 0;
-    while let Some(field) = header.get(place) {
+    for (place, field) in header.iter().enumerate() {
         if field == name {
             return Some(place);
         }
-        place += 1;
     }
     None
 }
