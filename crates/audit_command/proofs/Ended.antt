@@ -39,7 +39,7 @@ use Rattle.status.specs.declared.status.Status.TheVariants.{Done, Usage, Config 
 use Rattle.config_reading.specs.Reading.{MeansAs, IsRefusal}
 use Rattle.status.specs.Printing.{IsPrinting}
 use Rattle.status.specs.Refused.{store_status}
-use Rattle.status.proofs.Kinds.{by_store_status}
+use Rattle.status.proofs.AnswerCases.{by_store_status}
 use Rattle.report_command.specs.Printing.{held_of}
 use Rattle.report_command.specs.Answers.{ReadsAs}
 use Rattle.config_reading.proofs.Refusing.{by_refusal}

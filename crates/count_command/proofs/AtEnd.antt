@@ -40,7 +40,7 @@ use Rattle.status.specs.declared.status.Status.{Status}
 use Rattle.status.specs.declared.status.Status.TheVariants.{Done, Usage, Config as BadConfig, Store as BadStore, Recording, Torn, ReadFault, WriteFault, DiskFault, OutOfMemory, TooLong, Differs}
 use Rattle.status.specs.Printing.{IsPrinting}
 use Rattle.status.specs.Refused.{IsRefused, store_status}
-use Rattle.status.proofs.Kinds.{by_printing}
+use Rattle.status.proofs.AnswerCases.{by_printing}
 use Rattle.segment_store.proofs.HeldStand.{held_stand}
 use Rattle.segment_store.proofs.Holding.{held_is}
 use Rattle.report.specs.Figures.{Agree, figures, figures_of}

@@ -27,7 +27,8 @@ use Rattle.status.specs.declared.status.StoreFault.{StoreFault}
 use Rattle.status.specs.declared.status.StoreFault.TheVariants as store
 use Rattle.status.specs.declared.status.Status.{Status}
 use Rattle.status.specs.declared.status.Status.TheVariants.{Done, Usage, Config, Store, Recording, Torn, ReadFault, WriteFault, DiskFault, OutOfMemory, TooLong, Differs}
-use Rattle.fault_lines.specs.FaultLine.{digest_digits, id_digits, field_text, damage_text, store_text, recording_text, what_text, differs_text, torn_text, recording_line, fault_line}
+use Rattle.store_head.specs.FaultText.{field_text}
+use Rattle.fault_lines.specs.FaultLine.{digest_digits, id_digits, damage_text, store_text, recording_text, what_text, differs_text, torn_text, recording_line, fault_line}
 use Rattle.fault_lines.specs.declared.line.TheConstants.{MAX_BYTES_BESIDE_NAME}
 use Rattle.lemmas.proofs.Lists.{length-append-le as appended, length-cond-le as either}
 

@@ -1,6 +1,6 @@
 -- The line that is told of a status.
 --   digest_digits, id_digits             in hexadecimal
---   field_text, damage_text, store_text   of a store
+--   damage_text, store_text               of a store
 --   recording_text                        of a recording
 --   what_text                             what an audit compared
 --   fault_line                            the whole, with the name of the gauge or of the file
@@ -13,8 +13,7 @@ use Rattle.site_config.specs.FaultText.{config_fault_text}
 use Rattle.site_config.specs.declared.config.Config.{Config as Configuration}
 use Rattle.site_config.specs.Valid.{name_of}
 use Rattle.site_config.specs.declared.fault.ConfigFault.{ConfigFault}
-use Rattle.store_head.specs.declared.fault.Field.{Field}
-use Rattle.store_head.specs.declared.fault.Field.TheVariants as field
+use Rattle.store_head.specs.FaultText.{field_text}
 use Rattle.segment_store.specs.declared.damage.Damage.{Damage}
 use Rattle.segment_store.specs.declared.damage.Damage.TheVariants.{Digest}
 use Rattle.recount.specs.declared.compare.What.{What}
@@ -32,16 +31,6 @@ digest_digits bytes = encode_lower (take 32 bytes)
 
 abbrev pub id_digits : List ℕ → List ℕ
 id_digits bytes = encode_lower (take 16 bytes)
-
-abbrev pub field_text : Field → List ℕ
-field_text field.Gauges = codes "gauges"
-field_text field.Classes = codes "classes"
-field_text field.Width = codes "width"
-field_text field.Low = codes "low"
-field_text field.Reference = codes "reference"
-field_text (field.Num gauge) = codes "num " ++ decimal gauge
-field_text (field.Den gauge) = codes "den " ++ decimal gauge
-field_text (field.Offset gauge) = codes "offset " ++ decimal gauge
 
 -- both digests, where these are what is wrong
 abbrev pub damage_text : Damage → List ℕ

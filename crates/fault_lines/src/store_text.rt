@@ -1,7 +1,8 @@
 ghost use Rattle.std.specs.Prelude.{◌≡◌, ◌++◌, codes};
 ghost use Rattle.std.specs.Fmt.{decimal};
 ghost use Rattle.line_room.specs.Room.{Fits, with_text};
-ghost use Rattle.fault_lines.specs.FaultLine.{digest_digits, field_text, damage_text, store_text};
+ghost use Rattle.store_head.specs.FaultText.{field_text};
+ghost use Rattle.fault_lines.specs.FaultLine.{digest_digits, damage_text, store_text};
 
 use line_room::LineRoom;
 use segment_store::{Damage, Field};

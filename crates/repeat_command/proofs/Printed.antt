@@ -18,7 +18,7 @@ use Rattle.config_reading.specs.Reading.{IsRefusal}
 use Rattle.config_reading.proofs.Refusing.{by_refusal}
 use Rattle.status.specs.declared.status.Status.{Status}
 use Rattle.status.specs.Refused.{store_status}
-use Rattle.status.proofs.Kinds.{by_store_status}
+use Rattle.status.proofs.AnswerCases.{by_store_status}
 use Rattle.repeat_command.specs.Printing.{Prints, cycles_by, text_of_gauge}
 
 pub refused_prints : (f : ResumeFault) (c : Config) (w : ℕ → List ℤ) (old : List ℕ) → Prints (store_status f) c w old old

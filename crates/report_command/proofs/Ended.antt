@@ -19,7 +19,7 @@ use Rattle.status.specs.declared.status.Status.{Status}
 use Rattle.status.specs.declared.status.Status.TheVariants.{Done, Usage, Config as BadConfig, Store as BadStore, Recording, Torn, ReadFault, WriteFault, DiskFault, OutOfMemory, TooLong, Differs}
 use Rattle.status.specs.Printing.{IsPrinting}
 use Rattle.status.specs.Refused.{store_status}
-use Rattle.status.proofs.Kinds.{by_printing, by_store_status}
+use Rattle.status.proofs.AnswerCases.{by_printing, by_store_status}
 use Rattle.report_command.specs.Printing.{Prints}
 use Rattle.report_command.specs.Answers.{MayAnswerOver, ReadsAs, ReportAnswers, IsSound}
 

@@ -1,11 +1,9 @@
 -- What is told of a recording and of a store that are refused.
 --   recording_fault_text   of a recording; an id is told by none of its bytes
---   field_text             the part of the setup, with the gauge's number where it is of a gauge
 --   store_fault_text       of a store; a damaged body is told by its number
 use Rattle.std.specs.Prelude.{ℕ, List, ◌++◌, codes}
 use Rattle.std.specs.Fmt.{decimal, signed_decimal}
-use Rattle.store_head.specs.declared.fault.Field.{Field}
-use Rattle.store_head.specs.declared.fault.Field.TheVariants as field
+use Rattle.store_head.specs.FaultText.{field_text}
 use Rattle.status.specs.declared.status.RecordingFault.{RecordingFault}
 use Rattle.status.specs.declared.status.RecordingFault.TheVariants as recording
 use Rattle.status.specs.declared.status.StoreFault.{StoreFault}
@@ -25,20 +23,10 @@ recording_fault_text (recording.ShortRow row fields) =
     codes "row " ++ decimal row ++ codes " has " ++ decimal fields ++ codes " fields"
 recording_fault_text (recording.Cell row) = codes "row " ++ decimal row ++ codes " is no number"
 
-abbrev pub field_text : Field → List ℕ
-field_text field.Gauges = codes "gauges"
-field_text field.Classes = codes "classes"
-field_text field.Width = codes "width"
-field_text field.Low = codes "low"
-field_text field.Reference = codes "reference"
-field_text (field.Num gauge) = codes "num " ++ decimal gauge
-field_text (field.Den gauge) = codes "den " ++ decimal gauge
-field_text (field.Offset gauge) = codes "offset " ++ decimal gauge
-
 abbrev pub store_fault_text : StoreFault → List ℕ
 store_fault_text store.NotAStore = codes "not a store"
 store_fault_text (store.Version version) = codes "version " ++ decimal version
-store_fault_text (store.Differs part kept found) =
-    field_text part ++ codes " was " ++ signed_decimal kept ++ codes ", is " ++ signed_decimal found
+store_fault_text (store.Differs field kept found) =
+    field_text field ++ (codes " was " ++ signed_decimal kept ++ (codes ", is " ++ signed_decimal found))
 store_fault_text (store.Damaged index damage) = codes "damaged at " ++ decimal index
 store_fault_text (store.NotEmpty size) = codes "not empty, " ++ decimal size ++ codes " bytes"

@@ -82,17 +82,7 @@ impl fmt::Display for StoreFault {
             StoreFault::NotAStore => f.write_str("not a store"),
             StoreFault::Version(version) => write!(f, "version {version}"),
             StoreFault::Differs { field, kept, found } => {
-                match field {
-                    Field::Gauges => f.write_str("gauges")?,
-                    Field::Classes => f.write_str("classes")?,
-                    Field::Width => f.write_str("width")?,
-                    Field::Low => f.write_str("low")?,
-                    Field::Reference => f.write_str("reference")?,
-                    Field::Num(gauge) => write!(f, "num {gauge}")?,
-                    Field::Den(gauge) => write!(f, "den {gauge}")?,
-                    Field::Offset(gauge) => write!(f, "offset {gauge}")?,
-                }
-                write!(f, " was {kept}, is {found}")
+                write!(f, "{field} was {kept}, is {found}")
             }
             StoreFault::Damaged { index, .. } => write!(f, "damaged at {index}"),
             StoreFault::NotEmpty { size } => write!(f, "not empty, {size} bytes"),
