@@ -93,7 +93,8 @@ fn grid_of(classes: u16) -> Grid
     }
 }
 
-fn gain() -> Gain {
+/// A raw value is a step of 1 N/mm².
+pub fn gain() -> Gain {
     match Gain::new(500, 1, 0) {
         Ok(gain) => gain,
         Err(_) => unreachable!(),

@@ -1,23 +1,28 @@
 //! The bytes that are made of a full segment, and what they take: its text in a report, its body
-//! in a store, and the SHA-256 of the body, which the store has behind it; and the segment that is
-//! read from the body and joined to what is held, which has the same body. For each a digest of its
-//! bytes, and with the word `time` also the least processor time of nine calls, in microseconds,
-//! over a segment of so much noise that nearly every pair of levels was counted.
+//! in a store, and the SHA-256 of the body, which the store has behind it; the segment that is read
+//! from the body and joined to what is held, which has the same body; and a store in memory with
+//! that body, which is resumed, and whose held segment has the same body again. For each a digest
+//! of its bytes, and with the word `time` also the least processor time of nine calls, in
+//! microseconds, over a segment of so much noise that nearly every pair of levels was counted; and
+//! then the SHA-256 of the bytes of that store too.
 //!
 //! Only safety is proved here. What the calls write is said by their own contracts.
 #![tactic(auto)]
 
 mod made;
+mod stored;
 
 use made::{body_of, digest_of, join_body, noise_segment};
 use recording::MAX_SAMPLES;
 use report::{Page, gauge_text};
 use segment::Segment;
 use segment_bytes::{Layout, max_body};
+use segment_store::Store;
 use sha2::{Digest, Sha256};
 use std::rt::Env;
 use std::time::{CpuClock, Duration};
 use std::{env, fmt, io};
+use stored::{image_of, setup_of, stored};
 
 const REPEATS: u32 = 9;
 
@@ -42,8 +47,18 @@ fn show_all<R: CpuClock + AllocGlobal + Print>(
     repeats: u32,
     segment: &Segment,
 ) -> io::Result<()> {
-    for what in [What::Text, What::Body, What::Sha256, What::Joined] {
+    for what in [
+        What::Text,
+        What::Body,
+        What::Sha256,
+        What::Joined,
+        What::Resumed,
+    ] {
         show(rt, repeats, segment, what)?;
+    }
+    // Its digest is written nowhere, so that it is a measure alone.
+    if repeats > 1 {
+        show(rt, repeats, segment, What::StoreSha256)?;
     }
     Ok(())
 }
@@ -55,6 +70,8 @@ enum What {
     Body,
     Sha256,
     Joined,
+    Resumed,
+    StoreSha256,
 }
 
 impl What {
@@ -64,6 +81,8 @@ impl What {
             What::Body => time_body(rt, segment),
             What::Sha256 => time_sha256(rt, segment),
             What::Joined => time_joined(rt, segment),
+            What::Resumed => time_resumed(rt, segment),
+            What::StoreSha256 => time_store_sha256(rt, segment),
         }
     }
 }
@@ -75,6 +94,8 @@ impl fmt::Display for What {
             What::Body => "body",
             What::Sha256 => "sha256_of_body",
             What::Joined => "body_joined",
+            What::Resumed => "resumed",
+            What::StoreSha256 => "sha256_of_store",
         })
     }
 }
@@ -128,6 +149,36 @@ fn time_joined<R: CpuClock + AllocGlobal>(rt: &R, segment: &Segment) -> io::Resu
     join_body(rt.alloc(), &mut held, body);
     let end = rt.process_cpu_time()?;
     Ok((digest_of(body_of(&held, &mut buf)), nanos(start, end)))
+}
+
+// Likewise of the body of what is held after the store with the segment was resumed. Of a store
+// that is not resumed it is that of no bytes.
+fn time_resumed<R: CpuClock + AllocGlobal>(rt: &R, segment: &Segment) -> io::Result<(u64, u128)> {
+    let longest = max_body(Layout::Two, segment.grid().classes());
+    let mut buf = vec![in rt.alloc(); 0; longest]?;
+    let setup = setup_of(rt.alloc(), &segment.grid())?;
+    let mut station = stored(rt.alloc(), segment)?;
+    let start = rt.process_cpu_time()?;
+    let resumed = Store::resume(rt.alloc(), &mut station, &setup);
+    let end = rt.process_cpu_time()?;
+    let digest = match &resumed {
+        Ok(store) => digest_of(body_of(store.held(0), &mut buf)),
+        Err(_) => digest_of(&[]),
+    };
+    Ok((digest, nanos(start, end)))
+}
+
+// Likewise of the SHA-256 of the bytes of that store.
+fn time_store_sha256<R: CpuClock + AllocGlobal>(
+    rt: &R,
+    segment: &Segment,
+) -> io::Result<(u64, u128)> {
+    let station = stored(rt.alloc(), segment)?;
+    let bytes = image_of(rt.alloc(), &station)?;
+    let start = rt.process_cpu_time()?;
+    let sha256 = Sha256::digest(&bytes);
+    let end = rt.process_cpu_time()?;
+    Ok((digest_of(&sha256), nanos(start, end)))
 }
 
 // The same digest and the least time of so many calls.
