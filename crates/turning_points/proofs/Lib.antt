@@ -6,6 +6,7 @@ pub mod Extended
 pub mod TurnedSteps
 pub mod Given
 pub mod InPlace
+pub mod Directions
 pub mod Pieces
 pub mod Joining
 pub mod Put

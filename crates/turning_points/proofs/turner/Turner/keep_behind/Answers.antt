@@ -3,6 +3,7 @@ use Rattle.std.proofs.lemmas.List.{take-append-le}
 use Rattle.turning_points.specs.Points.{changes}
 use Rattle.turning_points.specs.Turned.{HasGiven}
 use Rattle.turning_points.specs.Pieces.{last_of, turns_in, recent_of}
+use Rattle.turning_points.proofs.Directions.{changes_again}
 use Rattle.turning_points.proofs.Pieces.{piece}
 use Rattle.turning_points.proofs.turner.Turner.keep_behind.Goals as goal
 
@@ -23,3 +24,9 @@ returns-clause-turned c h given t =
     subst (λ s. HasGiven (h ++ l) (given ++ take k.result (k.new.levels ++ rest)) s) (sym state)
     (subst (λ g. HasGiven (h ++ l) (given ++ g) (recent_of (last_of p (turns_in p x (changes x l))) (last_of x (changes x l)))) (sym turns)
     (piece h given p x l t))
+
+pub keep_turns-kept-requires : goal.keep_turns-kept-requires
+keep_turns-kept-requires c = record {
+  changes = subst (λ l. changes c.args.last l ≡ l) (sym c.keep_changes-count.ensures.changes)
+      (changes_again c.args.last c.args.levels.now);
+}
