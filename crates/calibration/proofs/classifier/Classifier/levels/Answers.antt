@@ -74,6 +74,12 @@ loop-from-preserved c =
       length = same_len_mid used (length levels - used) levels c.levels_of-used.new.levels kept.length ∙ c.loop-from.invariant.length;
     }
 
+pub missing_beside-missing-requires : goal.missing_beside-missing-requires
+missing_beside-missing-requires c =
+    let raws = c.args.raws.now in
+    let all : take c.loop-from.from raws ≡ raws = take_all c.loop-from.from raws (omega (arith, c.loop-from-test.false)) in
+    c.loop-from.invariant.used ∙ ap (λ l. length (history c.args.self.now.grid c.args.self.now.gain l)) all
+
 pub overflow_sub-result : goal.overflow_sub-result
 overflow_sub-result c =
     let few = few_levels c.args.self.now.gain c.args.self.now.grid (take c.loop-from.from c.args.raws.now) in
@@ -88,7 +94,7 @@ overflow_sub-result-2 c =
       arith,
       whole,
       c.loop-from.invariant.used,
-      c.missing_among-missing.ensures,
+      c.missing_beside-missing.ensures,
       ap (λ l. length (history c.args.self.now.grid c.args.self.now.gain l)) all,
     )
 
@@ -103,7 +109,7 @@ returns-clause-refused c =
       arith,
       whole,
       c.loop-from.invariant.used,
-      c.missing_among-missing.ensures,
+      c.missing_beside-missing.ensures,
       ap (λ l. length (history grid gain l)) all,
       ap (missing_count grid gain) all,
     )
