@@ -193,11 +193,11 @@ static void crossings_clear(Crossings *c) { memset(c, 0, sizeof *c); }
 static inline unsigned greater(unsigned a, unsigned b) { return a > b ? a : b; }
 static inline unsigned lesser(unsigned a, unsigned b) { return a < b ? a : b; }
 
-/* one place of a table a point, and the other halves of all bottoms and tops at the reference */
-__attribute__((noinline)) static void crossings_take(Crossings *c, const uint16_t *p, size_t n) {
+/* one place of a table a point, and the other halves of all bottoms and tops at the reference; the peaks and valleys are read off the inner points */
+__attribute__((noinline)) static void crossings_take(Crossings *c, uint64_t *extremes, const uint16_t *p, size_t n) {
+    memset(extremes, 0, CLASSES * sizeof *extremes);
     if (n >= 2) {
         unsigned first = p[0] + 1u, last = p[n - 1] + 1u;
-        if (p[0] < p[1]) c->begins[greater(first, REFERENCE)]++; else c->stops[lesser(first, REFERENCE)]++;
         size_t bottoms = 0;
         for (size_t i = 1; i + 1 < n; i++) {
             int bottom = p[i] < p[i - 1];
@@ -205,6 +205,8 @@ __attribute__((noinline)) static void crossings_take(Crossings *c, const uint16_
             table[p[i] + 1]++;
             bottoms += (size_t)bottom;
         }
+        for (int i = 0; i < CLASSES; i++) extremes[i] = i >= REFERENCE ? c->stops[i + 1] : c->begins[i + 1];
+        if (p[0] < p[1]) c->begins[greater(first, REFERENCE)]++; else c->stops[lesser(first, REFERENCE)]++;
         c->begins[REFERENCE] += bottoms;
         c->stops[REFERENCE] += n - 2 - bottoms;
         if (p[n - 1] < p[n - 2]) c->begins[lesser(last, REFERENCE)]++; else c->stops[greater(last, REFERENCE)]++;
@@ -241,6 +243,7 @@ static uint64_t crossings_digest(const Crossings *c) {
 }
 
 static Crossings crossings;
+static uint64_t extremes[CLASSES];
 
 static uint64_t crossings_by_points(void) {
     begin();
@@ -251,7 +254,7 @@ static uint64_t crossings_by_points(void) {
         for (int pass = 0; pass < PASSES; pass++)
             if (are_below(block, n)) {
                 crossings_clear(&crossings);
-                crossings_take(&crossings, block, n);
+                crossings_take(&crossings, extremes, block, n);
             }
         take(crossings_digest(&crossings));
     }
@@ -271,11 +274,9 @@ static void simple_clear(Simple *s) { memset(s, 0, sizeof *s); }
 
 static inline int is_extreme(unsigned a, unsigned b, unsigned c) { return REFERENCE <= b ? a < b && c < b : b < a && b < c; }
 
-__attribute__((noinline)) static void simple_take(Simple *s, const uint16_t *p, size_t n) {
-    for (size_t i = 2; i < n; i++) {
-        s->decided[range(p[i - 2], p[i - 1])]++;
-        s->extremes[p[i - 1]] += (REFERENCE <= p[i - 1]) == (p[i] < p[i - 1]);
-    }
+__attribute__((noinline)) static void simple_take(Simple *s, Crossings *c, const uint16_t *p, size_t n) {
+    crossings_take(c, s->extremes, p, n);
+    for (size_t i = 2; i < n; i++) s->decided[range(p[i - 2], p[i - 1])]++;
     s->points = n;
     s->first[0] = n ? p[0] : 0;
     s->first[1] = n > 1 ? p[1] : 0;
@@ -324,7 +325,8 @@ static uint64_t simple_by_points(void) {
         for (int pass = 0; pass < PASSES; pass++)
             if (are_below(block, n)) {
                 simple_clear(&simple);
-                simple_take(&simple, block, n);
+                crossings_clear(&crossings);
+                simple_take(&simple, &crossings, block, n);
             }
         take(simple_digest(&simple));
     }
@@ -422,8 +424,7 @@ static void count_block(Segment *s, const Classifier *c, const int32_t *raws, si
     s->missing = missing;
     s->refused = n - used - missing;
     size_t points = points_of(list, used);
-    crossings_take(&s->crossings, list, points);
-    simple_take(&s->simple, list, points);
+    simple_take(&s->simple, &s->crossings, list, points);
     reduce_points(&s->residue, &s->cycles, list, points);
 }
 

@@ -1,6 +1,7 @@
 ghost use Rattle.std.specs.Prelude.{◌≡◌, ◌≤◌, ◌<◌, ◌^◌, All, IfOk, IsTrue, length, ℕ};
 ghost use Rattle.turning_points.specs.Points.{points};
 ghost use Rattle.level_crossing.specs.Crossings.{count_at};
+ghost use Rattle.call_times.specs.Counts.{SameGrid};
 
 use crate::digest::Digest;
 use calibration::Grid;
@@ -77,28 +78,32 @@ fn are_below(levels: &[u16], classes: u16) -> bool
     true
 }
 
-// The crossings of points, in place of what was counted before.
-fn cross(crossings: &mut Crossings, list: &[u16], classes: u16)
+// The crossings and the extremes of points, in place of what was counted before.
+fn cross(crossings: &mut Crossings, extremes: &mut Vec<u64>, list: &[u16], classes: u16)
     requires classes { crossings.old.classes ≡ classes }
+    requires places { length extremes.old.items ≡ classes }
     requires own { points list.now ≡ list.now }
     requires few { length list.now ≤ 2 ^ 20 }
-    ensures { crossings.new.classes ≡ classes }
+    ensures classes { crossings.new.classes ≡ classes }
+    ensures places { length extremes.new.items ≡ classes }
 {
     if are_below(list, classes) {
         crossings.clear();
-        crossings.take_points(list);
+        crossings.take_points(list, extremes);
     }
 }
 
 // The same of a block of levels, whose points are found first.
-fn cross_block(crossings: &mut Crossings, block: &mut [u16], classes: u16)
+fn cross_block(crossings: &mut Crossings, extremes: &mut Vec<u64>, block: &mut [u16], classes: u16)
     requires classes { crossings.old.classes ≡ classes }
+    requires places { length extremes.old.items ≡ classes }
     requires few { length block.old ≤ 2 ^ 20 }
-    ensures { crossings.new.classes ≡ classes }
+    ensures classes { crossings.new.classes ≡ classes }
+    ensures places { length extremes.new.items ≡ classes }
 {
     let count = keep_points(block);
     for _ in 0..PASSES {
-        cross(crossings, &block[..count], classes);
+        cross(crossings, extremes, &block[..count], classes);
     }
 }
 
@@ -106,9 +111,10 @@ fn crossings_by_points(alloc: Global, grid: &Grid, levels: &[u16]) -> Result<u64
     let mut digest = Digest::new();
     let mut crossings = Crossings::new(alloc, grid)?;
     let classes = grid.classes();
+    let mut extremes = vec![in alloc; 0; usize::from(classes)]?;
     for i in 0..levels.len() / BLOCK {
         let mut block = levels[i * BLOCK..(i + 1) * BLOCK].to_vec(alloc)?;
-        cross_block(&mut crossings, &mut block, classes);
+        cross_block(&mut crossings, &mut extremes, &mut block, classes);
         digest.take(crossings_digest(&crossings, grid));
     }
     Ok(digest.value())
@@ -139,38 +145,49 @@ fn crossings_of(alloc: Global, grid: &Grid, levels: &[u16]) -> Result<Crossings,
     Ok(crossings)
 }
 
-// The simple counts of points, in place of what was counted before.
-fn count_simple(simple: &mut Simple, list: &[u16], classes: u16)
+// The simple counts and the crossings of points, in place of what was counted before.
+fn count_simple(simple: &mut Simple, crossings: &mut Crossings, list: &[u16], classes: u16)
     requires classes { simple.old.classes ≡ classes }
+    requires same { SameGrid simple.old crossings.old }
     requires own { points list.now ≡ list.now }
     requires few { length list.now ≤ 2 ^ 20 }
-    ensures { simple.new.classes ≡ classes }
+    ensures classes { simple.new.classes ≡ classes }
+    ensures same { SameGrid simple.new crossings.new }
 {
     if are_below(list, classes) {
         simple.clear();
-        simple.take_points(list);
+        crossings.clear();
+        simple.take_points(list, crossings);
     }
 }
 
 // The same of a block of levels, whose points are found first.
-fn count_simple_block(simple: &mut Simple, block: &mut [u16], classes: u16)
+fn count_simple_block(
+    simple: &mut Simple,
+    crossings: &mut Crossings,
+    block: &mut [u16],
+    classes: u16,
+)
     requires classes { simple.old.classes ≡ classes }
+    requires same { SameGrid simple.old crossings.old }
     requires few { length block.old ≤ 2 ^ 20 }
-    ensures { simple.new.classes ≡ classes }
+    ensures classes { simple.new.classes ≡ classes }
+    ensures same { SameGrid simple.new crossings.new }
 {
     let count = keep_points(block);
     for _ in 0..PASSES {
-        count_simple(simple, &block[..count], classes);
+        count_simple(simple, crossings, &block[..count], classes);
     }
 }
 
 fn simple_by_points(alloc: Global, grid: &Grid, levels: &[u16]) -> Result<u64, AllocError> {
     let mut digest = Digest::new();
     let mut simple = Simple::new(alloc, grid)?;
+    let mut crossings = Crossings::new(alloc, grid)?;
     let classes = grid.classes();
     for i in 0..levels.len() / BLOCK {
         let mut block = levels[i * BLOCK..(i + 1) * BLOCK].to_vec(alloc)?;
-        count_simple_block(&mut simple, &mut block, classes);
+        count_simple_block(&mut simple, &mut crossings, &mut block, classes);
         digest.take(simple_digest(&simple, classes));
     }
     Ok(digest.value())

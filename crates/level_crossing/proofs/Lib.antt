@@ -4,6 +4,7 @@ pub mod Halves
 pub mod Settled
 pub mod Steps
 pub mod Counted
+pub mod Extremes
 pub mod Filled
 pub mod Loaded
 pub mod Once

@@ -32,7 +32,7 @@ crossings_next r l p i j e h =
       ap (λ k. step_crossings r l (get_or p i 0) (get_or p k 0)) a,
     )
 
-turn_here : (p : List ℕ) (i : ℕ) → IsZigzag p → 1 ≤ i → i + 1 < length p → Turn (get_or p (i - 1) 0) (get_or p i 0) (get_or p (i + 1) 0)
+pub turn_here : (p : List ℕ) (i : ℕ) → IsZigzag p → 1 ≤ i → i + 1 < length p → Turn (get_or p (i - 1) 0) (get_or p i 0) (get_or p (i + 1) 0)
 turn_here p i z o h =
     let t = turn_at p (i - 1) z (omega arith) in
     let a : suc (i - 1) ≡ i = omega arith in
@@ -40,10 +40,10 @@ turn_here p i z o h =
     subst (λ k. Turn (get_or p (i - 1) 0) (get_or p i 0) (get_or p k 0)) b
     (subst (λ k. Turn (get_or p (i - 1) 0) (get_or p k 0) (get_or p (suc (suc (i - 1))) 0)) a t)
 
-bottom_is : (y x z : ℕ) → Turn y x z → ltb x y ≡ true → (x < y) × (x < z)
+pub bottom_is : (y x z : ℕ) → Turn y x z → ltb x y ≡ true → (x < y) × (x < z)
 bottom_is y x z t e = (grind (arith, nat_tests), grind (arith, nat_tests))
 
-top_is : (y x z : ℕ) → Turn y x z → ltb x y ≡ false → (y < x) × (z < x)
+pub top_is : (y x z : ℕ) → Turn y x z → ltb x y ≡ false → (y < x) × (z < x)
 top_is y x z t e = (grind (arith, nat_tests), grind (arith, nat_tests))
 
 no_stop : (r l y x : ℕ) → x < y → last_stop r l y x ≡ 0
@@ -157,12 +157,6 @@ sum_zero [] (suc i) f = refl
 sum_zero (x ∷ t) zero f = refl
 sum_zero (x ∷ t) (suc i) f = omega (arith, f 0, sum_cons x (take i t), sum_zero t i (λ k. f (suc k)))
 
-cond_below : (t : Bool) (j k i : ℕ) → j ≡ k → cond t (below_at j i) 0 ≡ cond t (below_at k i) 0
-cond_below t j k i e = ap (λ c. cond t (below_at c i) 0) e
-
-cond_below_no : (t : Bool) (j k i : ℕ) → j ≡ k → cond t 0 (below_at j i) ≡ cond t 0 (below_at k i)
-cond_below_no t j k i e = ap (λ c. cond t 0 (below_at c i)) e
-
 two_differ : (p : List ℕ) → IsZigzag p → 2 ≤ length p → get_or p 0 0 ≢ get_or p 1 0
 two_differ [] z h = absurd (omega arith)
 two_differ (x ∷ []) z h = absurd (omega arith)
@@ -173,19 +167,14 @@ two_crossed r l [] h = absurd (omega arith)
 two_crossed r l (x ∷ []) h = absurd (omega arith)
 two_crossed r l (x ∷ y ∷ q) h = omega arith
 
-pub opened : (r : ℕ) (p b s b' s' : List ℕ) (low high : ℕ) → IsZigzag p → 2 ≤ length p → low < length b → high < length s →
-    ((k : ℕ) → get_or b k 0 ≡ 0) → ((k : ℕ) → get_or s k 0 ≡ 0) → low ≡ max (get_or p 0 0 + 1) r → high ≡ min (get_or p 0 0 + 1) r →
-    b' ≡ cond (ltb (get_or p 0 0) (get_or p 1 0)) (raise b low) b → s' ≡ cond (ltb (get_or p 0 0) (get_or p 1 0)) s (raise s high) →
-    IsOpen r b' s' 0 0 p 1
-opened r p b s b' s' low high z h lb ls f g u v q w = λ l.
+-- nothing counted is the first step but for its halves
+pub opened : (r : ℕ) (p b s : List ℕ) → IsZigzag p → 2 ≤ length p → ((k : ℕ) → get_or b k 0 ≡ 0) → ((k : ℕ) → get_or s k 0 ≡ 0) →
+    IsOpen r b s 0 0 p 1
+opened r p b s z h f g = λ l.
     omega (
       arith,
-      sum_yes b b' low (l + 1) _ lb q,
-      sum_no s s' high (l + 1) _ ls w,
       sum_zero b (l + 1) f,
       sum_zero s (l + 1) g,
-      cond_below (ltb (get_or p 0 0) (get_or p 1 0)) low _ (l + 1) u,
-      cond_below_no (ltb (get_or p 0 0) (get_or p 1 0)) high _ (l + 1) v,
       halves r l (get_or p 0 0) (get_or p 1 0) (two_differ p z h),
       two_crossed r l p h,
       none_at r l,

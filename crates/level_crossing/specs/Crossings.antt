@@ -7,6 +7,7 @@
 --   count_at        the count of a boundary
 --   IsCrossings     what holds of every `Crossings`
 --   Crosses         a value stands for a history
+--   CrossesPoints   a value has the counts of a list of points
 --   level_of, append_of   a value after one level more, and two values one after the other
 use Rattle.std.specs.Prelude.{◌≡◌, ℕ, ◌+◌, ◌-◌, ◌<◌, ◌≤◌, Bool, true, false, ◌&&◌, ◌||◌, nat_lt, nat_le, if◌then◌else◌, List, [], ◌∷◌, length, take, sum, replicate, max, min}
 use Rattle.turning_points.specs.Points.{points}
@@ -72,6 +73,14 @@ pub record Crosses (v : CrossingsValue) (h : List ℕ) : Type 0 where
   pub first : v.first ≡ first_of h
   pub last : v.last ≡ last_point h
   pub counts : (l : ℕ) → 1 ≤ l → l < v.classes → count_at v l ≡ crossings v.reference l h
+
+-- it has the grid, the ends and the counts of the points p
+pub record CrossesPoints (v : CrossingsValue) (classes reference : ℕ) (p : List ℕ) : Type 0 where
+  pub grid : (v.classes ≡ classes) × (v.reference ≡ reference)
+  pub some : v.some ≡ has_level p
+  pub first : v.first ≡ first_of p
+  pub last : v.last ≡ last_point p
+  pub counts : (l : ℕ) → count_at v l ≡ crossings reference l p
 
 -- the boundaries that the step from x to y crosses: from low to high
 abbrev pub low : ℕ → ℕ → ℕ → ℕ

@@ -1,3 +1,4 @@
 pub mod Crossings
 pub mod Halves
+pub mod Extremes
 pub mod Loading

@@ -6,6 +6,7 @@ ghost use Rattle.turning_points.specs.Ends.{end_points};
 ghost use Rattle.turning_points.specs.EndPoints.{last_point};
 ghost use Rattle.level_crossing.specs.Loading.{CanLoad, HasEnds, loaded_of};
 ghost use Rattle.level_crossing.specs.Crossings.{Crosses, IsCrossings, append_of, begin_step, between, count_at, crossings, first_of, high, has_level, level_of, low, no_crossings, stop_step};
+ghost use Rattle.level_crossing.specs.Extremes.{extremes_at};
 ghost use Rattle.turning_points.specs.declared.ends.TheConstants.{MAX_POINTS};
 
 use crate::points::{fill, first_level, has_some, last_level};
@@ -55,7 +56,7 @@ impl Model for Crossings {
     }) };
 }
 
-/// The boundaries that a step crosses.
+// The boundaries that a step crosses.
 fn crossed_from(reference: u16, x: u16, y: u16) -> usize
     ensures { result ≡ low reference x y }
 {
@@ -77,7 +78,7 @@ fn crossed_to(reference: u16, x: u16, y: u16) -> usize
     }
 }
 
-/// The step from `x` to `y`, if there is one.
+// The step from `x` to `y`, if there is one.
 fn step(begins: &mut [u64], stops: &mut [u64], yes: bool, reference: u16, x: u16, y: u16)
     requires reference { 1 ≤ reference }
     requires x { x + 1 < length begins.old }
@@ -113,7 +114,7 @@ fn step_in(begins: &mut Vec<u64>, stops: &mut Vec<u64>, yes: bool, reference: u1
     step(begins, stops, yes, reference, x, y);
 }
 
-/// The count of a boundary.
+// The count of a boundary.
 fn count_to(begins: &[u64], stops: &[u64], boundary: usize) -> u64
     requires begins { boundary < length begins.now }
     requires stops { boundary < length stops.now }
@@ -258,12 +259,15 @@ impl Crossings {
         self.append_history(right)
     }
 
-    /// Counts a history by its points. Nothing was counted before.
-    pub fn take_points(&mut self, list: &[u16])
+    /// Counts a history by its points, where nothing was counted before. How many extremes lie at
+    /// each level, peaks from the reference on and valleys below it, is read off the same pass: it
+    /// takes the place of what stood in `extremes`, which has a place for each class.
+    pub fn take_points(&mut self, list: &[u16], extremes: &mut Vec<u64>)
         requires empty { self.old ≡ no_crossings self.old.classes self.old.reference }
         requires own { points list.now ≡ list.now }
         requires below { All (λ level. level < self.old.classes) list.now }
         requires few { length list.now ≤ MAX_POINTS }
+        requires places { length extremes.old.items ≡ self.old.classes }
         ensures grid { (self.new.classes ≡ self.old.classes)
             × (self.new.reference ≡ self.old.reference) }
         ensures some { self.new.some ≡ has_level list.now }
@@ -271,11 +275,15 @@ impl Crossings {
         ensures last { self.new.last ≡ last_point list.now }
         ensures counts { (l : ℕ) → count_at self.new l ≡ crossings self.old.reference l list.now }
         ensures rules { IsCrossings self.new }
+        ensures extremes { (k : ℕ) → k < self.old.classes →
+            slice_index extremes.new.items k ≡ extremes_at self.old.reference k list.now }
+        ensures extremes_length { length extremes.new.items ≡ length extremes.old.items }
         ensures histories { (h : List ℕ) → points h ≡ list.now → Crosses self.new h }
     {
         fill(
             &mut self.begins,
             &mut self.stops,
+            extremes,
             usize::from(self.reference),
             list,
         );

@@ -1,12 +1,13 @@
-ghost use Rattle.std.specs.Prelude.{◌≡◌, ℕ, ◌+◌, ◌-◌, ◌*◌, ◌^◌, ◌<◌, ◌≤◌, ◌⊎◌, if◌then◌else◌, All, length, slice_index, sum, take};
+ghost use Rattle.std.specs.Prelude.{◌≡◌, ℕ, ◌+◌, ◌-◌, ◌*◌, ◌^◌, ◌<◌, ◌≤◌, ◌⊎◌, nat_le, if◌then◌else◌, All, length, slice_index, sum, take};
 ghost use Rattle.turning_points.specs.Points.{points};
 ghost use Rattle.turning_points.specs.EndPoints.{last_point};
 ghost use Rattle.tables.specs.Tables.{raise};
 ghost use Rattle.level_crossing.specs.Crossings.{crossings, first_of, has_level};
-ghost use Rattle.level_crossing.specs.Halves.{IsOpen, IsSettled};
+ghost use Rattle.level_crossing.specs.Halves.{HasExtremes, IsOpen, IsSettled};
+ghost use Rattle.level_crossing.specs.Extremes.{extremes_at};
 ghost use Rattle.turning_points.specs.declared.ends.TheConstants.{MAX_POINTS};
 
-/// One more in one of two tables.
+// One more in one of two tables.
 #[inline(always)]
 fn raise_either(begins: &mut [u64], stops: &mut [u64], begin: bool, low: usize, high: usize)
     requires low { low < length begins.old }
@@ -23,18 +24,19 @@ fn raise_either(begins: &mut [u64], stops: &mut [u64], begin: bool, low: usize, 
     }
 }
 
-/// Counts each inner point at the place behind it, and says how many of them are bottoms.
+// Counts each inner point at the place behind it, and says how many of them are bottoms. Nothing
+// was counted before.
 fn count_inner(begins: &mut [u64], stops: &mut [u64], reference: usize, list: &[u16]) -> usize
     requires own { points list.now ≡ list.now }
     requires below { All (λ level. level + 1 < length begins.old) list.now }
     requires same { length stops.old ≡ length begins.old }
     requires many { 2 ≤ length list.now }
     requires few { length list.now ≤ MAX_POINTS }
-    requires begins { (k : ℕ) → slice_index begins.old k ≤ 1 }
-    requires stops { (k : ℕ) → slice_index stops.old k ≤ 1 }
-    requires first { IsOpen reference begins.old stops.old 0 0 list.now 1 }
+    requires begins { (k : ℕ) → slice_index begins.old k ≡ 0 }
+    requires stops { (k : ℕ) → slice_index stops.old k ≡ 0 }
     ensures all { IsOpen reference begins.new stops.new result (length list.now - 2 - result)
         list.now (length list.now - 1) }
+    ensures extremes { HasExtremes reference begins.new stops.new list.now }
     ensures bottoms { result + 2 ≤ length list.now }
     ensures begins_length { length begins.new ≡ length begins.old }
     ensures stops_length { length stops.new ≡ length stops.old }
@@ -51,28 +53,55 @@ fn count_inner(begins: &mut [u64], stops: &mut [u64], reference: usize, list: &[
     bottoms
 }
 
-/// Counts the steps of a list of points, half by half.
-fn count_steps(begins: &mut [u64], stops: &mut [u64], reference: usize, list: &[u16])
-    requires own { points list.now ≡ list.now }
+// Reads the extremes off the tables of the inner points: tops from the reference on, and bottoms
+// below it.
+fn put_extremes(extremes: &mut [u64], begins: &[u64], stops: &[u64], reference: usize)
+    requires begins { length begins.now ≡ length extremes.old + 1 }
+    requires stops { length stops.now ≡ length extremes.old + 1 }
+    ensures extremes { (k : ℕ) → k < length extremes.new → slice_index extremes.new k ≡
+        slice_index (if nat_le reference k then stops.now else begins.now) (k + 1) }
+    ensures length { length extremes.new ≡ length extremes.old }
+{
+    for k in 0..extremes.len() {
+        extremes[k] = if reference <= k {
+            stops[k + 1]
+        } else {
+            begins[k + 1]
+        };
+    }
+}
+
+// Counts what the inner points leave: their other halves, at the reference, and the halves at both
+// ends.
+fn count_outer(
+    begins: &mut [u64],
+    stops: &mut [u64],
+    reference: usize,
+    list: &[u16],
+    bottoms: usize,
+)
     requires below { All (λ level. level + 1 < length begins.old) list.now }
     requires same { length stops.old ≡ length begins.old }
     requires reference { reference < length begins.old }
+    requires many { 2 ≤ length list.now }
     requires few { length list.now ≤ MAX_POINTS }
-    requires begins { (k : ℕ) → slice_index begins.old k ≡ 0 }
-    requires stops { (k : ℕ) → slice_index stops.old k ≡ 0 }
+    requires all { IsOpen reference begins.old stops.old bottoms (length list.now - 2 - bottoms)
+        list.now (length list.now - 1) }
+    requires bottoms { bottoms + 2 ≤ length list.now }
+    requires begins_few { (k : ℕ) → slice_index begins.old k ≤ MAX_POINTS }
+    requires stops_few { (k : ℕ) → slice_index stops.old k ≤ MAX_POINTS }
     ensures counts { (l : ℕ) → sum (take (l + 1) begins.new) ≡
         sum (take (l + 1) stops.new) + crossings reference l list.now }
     ensures begins_length { length begins.new ≡ length begins.old }
     ensures stops_length { length stops.new ≡ length stops.old }
 {
     let count = list.len();
-    if count < 2 {
-        return;
-    }
     let first = usize::from(list[0]) + 1;
     let last = usize::from(list[count - 1]) + 1;
     let rises = list[0] < list[1];
     let falls = list[count - 1] < list[count - 2];
+    begins[reference] += bottoms as u64;
+    stops[reference] += (count - 2 - bottoms) as u64;
     raise_either(
         begins,
         stops,
@@ -80,9 +109,6 @@ fn count_steps(begins: &mut [u64], stops: &mut [u64], reference: usize, list: &[
         first.max(reference),
         first.min(reference),
     );
-    let bottoms = count_inner(begins, stops, reference, list);
-    begins[reference] += bottoms as u64;
-    stops[reference] += (count - 2 - bottoms) as u64;
     raise_either(
         begins,
         stops,
@@ -92,7 +118,40 @@ fn count_steps(begins: &mut [u64], stops: &mut [u64], reference: usize, list: &[
     );
 }
 
-/// Takes out what begins and stops at one place.
+// Counts the steps of a list of points, half by half, and its extremes.
+fn count_steps(
+    begins: &mut [u64],
+    stops: &mut [u64],
+    extremes: &mut [u64],
+    reference: usize,
+    list: &[u16],
+)
+    requires own { points list.now ≡ list.now }
+    requires below { All (λ level. level + 1 < length begins.old) list.now }
+    requires same { length stops.old ≡ length begins.old }
+    requires places { length begins.old ≡ length extremes.old + 1 }
+    requires reference { reference < length begins.old }
+    requires few { length list.now ≤ MAX_POINTS }
+    requires begins { (k : ℕ) → slice_index begins.old k ≡ 0 }
+    requires stops { (k : ℕ) → slice_index stops.old k ≡ 0 }
+    ensures counts { (l : ℕ) → sum (take (l + 1) begins.new) ≡
+        sum (take (l + 1) stops.new) + crossings reference l list.now }
+    ensures extremes { (k : ℕ) → k < length extremes.new →
+        slice_index extremes.new k ≡ extremes_at reference k list.now }
+    ensures begins_length { length begins.new ≡ length begins.old }
+    ensures stops_length { length stops.new ≡ length stops.old }
+    ensures extremes_length { length extremes.new ≡ length extremes.old }
+{
+    if list.len() < 2 {
+        extremes.fill(0);
+        return;
+    }
+    let bottoms = count_inner(begins, stops, reference, list);
+    put_extremes(extremes, begins, stops, reference);
+    count_outer(begins, stops, reference, list, bottoms);
+}
+
+// Takes out what begins and stops at one place.
 fn settle(begins: &mut [u64], stops: &mut [u64])
     requires same { length stops.old ≡ length begins.old }
     ensures settled { IsSettled begins.old stops.old begins.new stops.new (length begins.new) }
@@ -106,10 +165,17 @@ fn settle(begins: &mut [u64], stops: &mut [u64])
     }
 }
 
-fn fill_slices(begins: &mut [u64], stops: &mut [u64], reference: usize, list: &[u16])
+fn fill_slices(
+    begins: &mut [u64],
+    stops: &mut [u64],
+    extremes: &mut [u64],
+    reference: usize,
+    list: &[u16],
+)
     requires own { points list.now ≡ list.now }
     requires below { All (λ level. level + 1 < length begins.old) list.now }
     requires same { length stops.old ≡ length begins.old }
+    requires places { length begins.old ≡ length extremes.old + 1 }
     requires reference { reference < length begins.old }
     requires few { length list.now ≤ MAX_POINTS }
     requires begins { (k : ℕ) → slice_index begins.old k ≡ 0 }
@@ -117,18 +183,29 @@ fn fill_slices(begins: &mut [u64], stops: &mut [u64], reference: usize, list: &[
     ensures counts { (l : ℕ) → sum (take (l + 1) begins.new) ≡
         sum (take (l + 1) stops.new) + crossings reference l list.now }
     ensures enough { (i : ℕ) → sum (take (i + 1) stops.new) ≤ sum (take i begins.new) }
+    ensures extremes { (k : ℕ) → k < length extremes.new →
+        slice_index extremes.new k ≡ extremes_at reference k list.now }
     ensures begins_length { length begins.new ≡ length begins.old }
     ensures stops_length { length stops.new ≡ length stops.old }
+    ensures extremes_length { length extremes.new ≡ length extremes.old }
 {
-    count_steps(begins, stops, reference, list);
+    count_steps(begins, stops, extremes, reference, list);
     settle(begins, stops);
 }
 
-/// Counts the crossings of a list of points in empty tables.
-pub fn fill(begins: &mut Vec<u64>, stops: &mut Vec<u64>, reference: usize, list: &[u16])
+/// Counts the crossings of a list of points in empty tables, and puts its extremes in place of
+/// what a third one has.
+pub fn fill(
+    begins: &mut Vec<u64>,
+    stops: &mut Vec<u64>,
+    extremes: &mut Vec<u64>,
+    reference: usize,
+    list: &[u16],
+)
     requires own { points list.now ≡ list.now }
     requires below { All (λ level. level + 1 < length begins.old.items) list.now }
     requires same { length stops.old.items ≡ length begins.old.items }
+    requires places { length begins.old.items ≡ length extremes.old.items + 1 }
     requires reference { reference < length begins.old.items }
     requires few { length list.now ≤ MAX_POINTS }
     requires begins { (k : ℕ) → slice_index begins.old.items k ≡ 0 }
@@ -136,10 +213,13 @@ pub fn fill(begins: &mut Vec<u64>, stops: &mut Vec<u64>, reference: usize, list:
     ensures counts { (l : ℕ) → sum (take (l + 1) begins.new.items) ≡
         sum (take (l + 1) stops.new.items) + crossings reference l list.now }
     ensures enough { (i : ℕ) → sum (take (i + 1) stops.new.items) ≤ sum (take i begins.new.items) }
+    ensures extremes { (k : ℕ) → k < length extremes.new.items →
+        slice_index extremes.new.items k ≡ extremes_at reference k list.now }
     ensures begins_length { length begins.new.items ≡ length begins.old.items }
     ensures stops_length { length stops.new.items ≡ length stops.old.items }
+    ensures extremes_length { length extremes.new.items ≡ length extremes.old.items }
 {
-    fill_slices(begins, stops, reference, list);
+    fill_slices(begins, stops, extremes, reference, list);
 }
 
 pub fn has_some(list: &[u16]) -> bool

@@ -14,6 +14,9 @@ const LEVELS: [u16; 9] = [6, 9, 5, 13, 7, 11, 4, 12, 6];
 // Its counts at each boundary: from 8 on upwards, below 8 downwards.
 const COUNTS: [u64; 16] = [0, 0, 0, 0, 0, 1, 2, 3, 4, 4, 3, 3, 2, 1, 0, 0];
 
+// Its peaks from the reference on, and its valleys below it.
+const EXTREMES: [u64; 16] = [0, 0, 0, 0, 1, 1, 0, 1, 0, 1, 0, 1, 1, 1, 0, 0];
+
 // The crossings of levels that come one at a time; a level that the grid doesn't have is left out.
 fn counted(alloc: Global, grid: &Grid, levels: &[u16]) -> Result<Crossings, AllocError>
     requires { length levels.now ≤ 2 ^ 20 }
@@ -98,7 +101,9 @@ fn loaded_from_bins(rt: HostRuntime) -> Result<(), Fail> {
 fn taken_from_points(rt: HostRuntime) -> Result<(), Fail> {
     let grid = Grid::new(16, 2, -8000, 8)?;
     let mut crossings = Crossings::new(rt.alloc(), &grid)?;
-    crossings.take_points(&LEVELS);
+    let mut extremes = vec![in rt.alloc(); 9; 16]?;
+    crossings.take_points(&LEVELS, &mut extremes);
+    assert_eq!(rt; extremes.as_slice(), EXTREMES.as_slice());
     for boundary in 0..grid.classes() {
         assert!(rt; boundary < 16);
         assert_eq!(rt;

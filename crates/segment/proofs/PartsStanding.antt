@@ -15,7 +15,8 @@ use Rattle.tables.specs.Tables.{is_at}
 use Rattle.tables.proofs.Filled.{count_above, count_below}
 use Rattle.level_crossing.specs.Crossings.{Crosses, count_at, crossings, first_of, has_level}
 use Rattle.level_crossing.proofs.OfPoints.{crosses_points, crossings_points}
-use Rattle.simple_counts.specs.Simple.{Counts, extremes_at, open_at, peak_count, range_count, peaks_at, valleys_at, valley_count}
+use Rattle.level_crossing.specs.Extremes.{extremes_at}
+use Rattle.simple_counts.specs.Simple.{Counts, open_at, peak_count, range_count, peaks_at, valleys_at, valley_count}
 use Rattle.simple_counts.proofs.Readers.{peak_counts, range_counts, valley_counts}
 use Rattle.simple_counts.proofs.Triples.{peaks_are, ranges_are, valleys_are}
 use Rattle.segment.specs.Segment.{SegmentValue, IsSegment, Stands}

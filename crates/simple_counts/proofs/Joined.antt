@@ -5,7 +5,8 @@ use Rattle.turning_points.specs.EndPoints.{EndPoints, ends_of, last_point, last_
 use Rattle.turning_points.proofs.Zigzag.{IsZigzag, zig_points}
 use Rattle.turning_points.proofs.Over.{over, over_points, over_of_points}
 use Rattle.tables.specs.Tables.{added as both}
-use Rattle.simple_counts.specs.Simple.{decide, decided_at, extremes_at, SimpleValue, Counts, IsSimple, decide_join, mark_join, join_of}
+use Rattle.simple_counts.specs.Simple.{decide, decided_at, SimpleValue, Counts, IsSimple, decide_join, mark_join, join_of}
+use Rattle.level_crossing.specs.Extremes.{extremes_at}
 use Rattle.tables.proofs.Counting.{added_at, length_added}
 use Rattle.simple_counts.proofs.PutLists.{At}
 use Rattle.simple_counts.proofs.MeetsLists.{at_zero, at_one, at_many}

@@ -1,8 +1,9 @@
 -- The tables of a list of points, point by point: each is a push.
-use Rattle.std.proofs.Common.{◌≡◌, ℕ, zero, suc, ◌+◌, ◌-◌, ◌<◌, ◌≤◌, Bool, true, false, cond, leb, ◌&&◌, List, [], ◌∷◌, ◌++◌, length, take, get_or, get_or-take, refl, sym, ap, ◌∙◌, subst, arith}
+use Rattle.std.proofs.Common.{◌≡◌, ℕ, zero, suc, ◌+◌, ◌-◌, ◌<◌, ◌≤◌, Bool, true, false, cond, leb, ◌&&◌, List, [], ◌∷◌, ◌++◌, length, take, get_or, get_or-take, replicate, refl, sym, ap, ◌∙◌, subst, arith}
 use Rattle.std.specs.Prelude.{All}
 use Rattle.std.proofs.lemmas.Bool.Decides.{nat_tests}
-use Rattle.std.proofs.lemmas.List.{take_all, take_more, length-take-le}
+use Rattle.std.proofs.lemmas.Grind.{same_number_lists}
+use Rattle.std.proofs.lemmas.List.{take_all, take_more, length-take-le, length-replicate}
 use Rattle.std.proofs.lemmas.List.Elements.{All-head, All-tail}
 use Rattle.turning_points.specs.Points.{is_turn, points}
 use Rattle.turning_points.specs.Pairs.{range}
@@ -12,10 +13,12 @@ use Rattle.turning_points.proofs.Over.{own}
 use Rattle.turning_points.proofs.PushEnds.{list_ends}
 use Rattle.turning_points.proofs.EndPlaces.{last_place, before_place}
 use Rattle.tables.specs.Tables.{raise}
-use Rattle.simple_counts.specs.Simple.{SimpleValue, Counts, Fills, IsSimple, decided_at, extremes_at, is_extreme, push_of, value_of}
+use Rattle.simple_counts.specs.Simple.{AreExtremes, HasRanges, SimpleValue, Counts, Fills, IsSimple, decided_at, push_of, value_of}
+use Rattle.level_crossing.specs.Extremes.{extremes_at, is_extreme}
 use Rattle.simple_counts.proofs.Pushed.{pushed_counted, pushed_counts}
 use Rattle.turning_points.specs.declared.ends.TheConstants.{MAX_POINTS}
-use Rattle.lemmas.proofs.Sums.{sum-zeros}
+use Rattle.lemmas.proofs.Lists.{get_or-zeros}
+use Rattle.lemmas.proofs.Sums.{get_or-le-sum, sum-zeros}
 use Rattle.calibration.specs.declared.grid.TheConstants.{MIN_CLASSES, MAX_CLASSES}
 
 -- a part of a list of points is one
@@ -180,6 +183,64 @@ fills_all k r l d m i g h =
       rules = subst (λ q. IsSimple (value_of k r q d m)) e g.rules;
       counts = subst (λ q. Counts (value_of k r q d m) q) e g.counts;
     }
+
+-- the table of extremes after the first i points
+abbrev pub marks : ℕ → ℕ → List ℕ → ℕ → List ℕ
+marks k r l zero = replicate k 0
+marks k r l (suc i) = cond (leb 2 i) (cond (is_extreme r (get_or l (i - 2) 0) (get_or l (i - 1) 0) (get_or l i 0))
+    (raise (marks k r l i) (get_or l (i - 1) 0)) (marks k r l i)) (replicate k 0)
+
+marks_none : (k r : ℕ) (l : List ℕ) → marks k r l 2 ≡ replicate k 0
+marks_none k r l = refl
+
+marks_more : (k r : ℕ) (l : List ℕ) (i : ℕ) → 2 ≤ i → marks k r l (i + 1) ≡ cond (is_extreme r (get_or l (i - 2) 0) (get_or l (i - 1) 0)
+    (get_or l i 0)) (raise (marks k r l i) (get_or l (i - 1) 0)) (marks k r l i)
+marks_more k r l i o =
+    let a : i + 1 ≡ suc i = omega arith in
+    ap (marks k r l) a ∙ ap (λ b. cond b (cond (is_extreme r (get_or l (i - 2) 0) (get_or l (i - 1) 0) (get_or l i 0))
+    (raise (marks k r l i) (get_or l (i - 1) 0)) (marks k r l i)) (replicate k 0)) (leb_true i o)
+
+-- the first i points, about any reference
+abbrev pub FillsRanges : ℕ → List ℕ → ℕ → List ℕ → Type 0
+FillsRanges k l i d = (r : ℕ) → (1 ≤ r) × (r < k) → Fills k r l i d (marks k r l i)
+
+pub ranges_none : (k : ℕ) (l d : List ℕ) → IsZigzag l → All (λ x. x < k) l → (MIN_CLASSES ≤ k) × (k ≤ MAX_CLASSES) → length d ≡ k →
+    ((j : ℕ) → get_or d j 0 ≡ 0) → FillsRanges k l 2 d
+ranges_none k l d z a c p f = λ r e. fills_none k r l d (marks k r l 2) z a c e p (ap length (marks_none k r l) ∙ length-replicate k 0) f
+    (λ j. ap (λ m. get_or m j 0) (marks_none k r l) ∙ get_or-zeros k j)
+
+pub ranges_more : (k : ℕ) (l d d' : List ℕ) (i : ℕ) → IsZigzag l → All (λ x. x < k) l → length l ≤ MAX_POINTS → 2 ≤ i → i < length l →
+    FillsRanges k l i d → d' ≡ raise d (range (get_or l (i - 2) 0) (get_or l (i - 1) 0)) → FillsRanges k l (i + 1) d'
+ranges_more k l d d' i z a f o h g p = λ r e. fills_more k r l d (marks k r l i) d' (marks k r l (i + 1)) i z a f o h (g r e) p
+    (marks_more k r l i o)
+
+all_ranges : (k : ℕ) (l d : List ℕ) (i : ℕ) → points l ≡ l → FillsRanges k l i d → length l ≤ i → (r : ℕ) (m : List ℕ) →
+    (1 ≤ r) × (r < k) → AreExtremes k r l m → Fills k r l (length l) d m
+all_ranges k l d i o g h r m e x =
+    let t = fills_all k r l d (marks k r l i) i (g r e) h in
+    let q : points (take (length l) l) ≡ l = ap points (take_all (length l) l (omega arith)) ∙ o in
+    let n = t.rules.extremes in
+    let same : marks k r l i ≡ m = same_number_lists (marks k r l i) m (n ∙ sym x.places)
+    (λ j b. let c : j < k = omega (arith, n, b) in t.counts.extremes j c ∙ ap (extremes_at r j) q ∙ sym (x.each j c)) in
+    subst (Fills k r l (length l) d) same t
+
+pub ranges_all : (k : ℕ) (l d : List ℕ) (i : ℕ) → points l ≡ l → FillsRanges k l i d → length l ≤ i → HasRanges k l d
+ranges_all k l d i o g h = record { fills = all_ranges k l d i o g h }
+
+pub few_ranges : (k : ℕ) (l d : List ℕ) (i place : ℕ) → (MIN_CLASSES ≤ k) × (k ≤ MAX_CLASSES) → FillsRanges k l i d →
+    get_or d place 0 ≤ MAX_POINTS
+few_ranges k l d i place c g =
+    let r = (g 1 (omega (arith, c), omega (arith, c))).rules in
+    omega (arith, get_or-le-sum d place, r.agrees.sum_of, r.few)
+
+-- with a table that has the extremes about q, which is r
+pub fills_with : (j k n q r : ℕ) (l d m : List ℕ) → j ≡ k → n ≡ k → q ≡ r → (1 ≤ r) × (r < k) →
+    HasRanges j l d → length m ≡ k →
+    ((i : ℕ) → i < n → get_or m i 0 ≡ extremes_at q i l) → Fills k r l (length l) d m
+fills_with j k n q r l d m e o p a f h g = subst (λ x. Fills x r l (length l) d m) e (f.fills r m (a.0, omega (arith, e, a.1)) (record {
+  places = h ∙ sym e;
+  each = λ i b. g i (omega (arith, e, o, b)) ∙ ap (λ s. extremes_at s i l) p;
+}))
 
 -- the value with the tables of all points
 pub filled : {k r : ℕ} {l d m : List ℕ} {e : EndPoints} → Fills k r l (length l) d m → e ≡ ends_of l →

@@ -10,7 +10,8 @@ use Rattle.turning_points.proofs.Over.{points_inside}
 use Rattle.turning_points.proofs.Joining.{Same, tail, last_behind, before_behind}
 use Rattle.turning_points.proofs.Push.{push_turn, push_between, push_equal, end_differs}
 use Rattle.tables.specs.Tables.{raise, is_at}
-use Rattle.simple_counts.specs.Simple.{is_extreme, decided_at, extremes_at, SimpleValue, Counts, IsSimple, push_of}
+use Rattle.simple_counts.specs.Simple.{decided_at, SimpleValue, Counts, IsSimple, push_of}
+use Rattle.level_crossing.specs.Extremes.{extremes_at, is_extreme}
 use Rattle.tables.proofs.Counting.{raise_at, sum_raise}
 use Rattle.simple_counts.proofs.Triples.{triples_join, range_side, extreme_side}
 use Rattle.simple_counts.proofs.PutLists.{range_below}

@@ -7,7 +7,8 @@ use Rattle.turning_points.specs.Pairs.{range}
 use Rattle.turning_points.specs.EndPoints.{EndPoints, ends_of, IsTurn, IsEnds, put}
 use Rattle.turning_points.proofs.Zigzag.{Added, first, equal, second, turn, between, Turn}
 use Rattle.tables.specs.Tables.{raise, lower, is_at}
-use Rattle.simple_counts.specs.Simple.{is_extreme, Agrees, decide, mark, decided_at, extremes_at}
+use Rattle.simple_counts.specs.Simple.{Agrees, decide, mark, decided_at}
+use Rattle.level_crossing.specs.Extremes.{extremes_at, is_extreme}
 use Rattle.tables.proofs.Counting.{raise_at, lower_at, sum_raise, sum_lower}
 use Rattle.turning_points.proofs.PutEnds.{case_of}
 use Rattle.turning_points.proofs.Put.{PutCase, at_none, at_equal, at_second, at_turn, at_passed, put_none, put_equal, put_second, put_turn, put_two, put_passed}

@@ -5,7 +5,8 @@ use Rattle.turning_points.specs.Points.{IsBetween}
 use Rattle.turning_points.specs.Pairs.{range}
 use Rattle.turning_points.specs.EndPoints.{EndPoints, IsTurn}
 use Rattle.tables.specs.Tables.{raise, lower}
-use Rattle.simple_counts.specs.Simple.{is_extreme, decide, mark}
+use Rattle.simple_counts.specs.Simple.{decide, mark}
+use Rattle.level_crossing.specs.Extremes.{is_extreme}
 
 pub decide_short : (x : ℕ) (e : EndPoints) (t : List ℕ) → e.points < 2 → decide x e t ≡ t
 decide_short x e t h = grind (arith, nat_tests)

@@ -5,7 +5,8 @@ use Rattle.turning_points.specs.EndPoints.{EndPoints, IsEnds, put, meets, ends_p
 use Rattle.tables.specs.Tables.{added as both, raise}
 use Rattle.simple_counts.proofs.Joined.{joined_counted}
 use Rattle.simple_counts.proofs.Pushed.{pushed_counted}
-use Rattle.simple_counts.specs.Simple.{SimpleValue, IsSimple, Agrees, none_at, decide, mark, decide_join, mark_join, turns_at, is_extreme}
+use Rattle.simple_counts.specs.Simple.{SimpleValue, IsSimple, Agrees, none_at, decide, mark, decide_join, mark_join, turns_at}
+use Rattle.level_crossing.specs.Extremes.{is_extreme}
 use Rattle.lemmas.proofs.Sums.{get_or-le-sum}
 use Rattle.tables.proofs.Counting.{added_at, sum_added, length_added}
 use Rattle.turning_points.proofs.Put.{put_first}

@@ -13,6 +13,7 @@ use Rattle.std.specs.Prelude.{◌≡◌, ℕ, ◌+◌, ◌-◌, ◌<◌, ◌≤�
 use Rattle.turning_points.specs.Points.{is_turn, points}
 use Rattle.turning_points.specs.Pairs.{range}
 use Rattle.turning_points.specs.EndPoints.{EndPoints, IsEnds, ends_of, ends_push, meets, no_ends, put}
+use Rattle.level_crossing.specs.Extremes.{extremes_at, is_extreme, triples}
 use Rattle.tables.specs.Tables.{added, is_at, lower, raise}
 use Rattle.calibration.specs.declared.grid.TheConstants.{MIN_CLASSES, MAX_CLASSES}
 use Rattle.turning_points.specs.declared.ends.TheConstants.{MAX_POINTS}
@@ -36,23 +37,9 @@ valleys_at r l (x ∷ y ∷ []) = 0
 valleys_at r l (x ∷ y ∷ z ∷ p) =
     (if y == l && nat_lt l r && (nat_lt y x && nat_lt y z) then 1 else 0) + valleys_at r l (y ∷ z ∷ p)
 
--- a sum over each three neighbours
-abbrev pub triples : (ℕ → ℕ → ℕ → ℕ) → List ℕ → ℕ
-triples w [] = 0
-triples w (x ∷ []) = 0
-triples w (x ∷ y ∷ []) = 0
-triples w (x ∷ y ∷ z ∷ p) = w x y z + triples w (y ∷ z ∷ p)
-
--- whether b, between a and c, counts: as a peak from the reference on, as a valley below it
-abbrev pub is_extreme : ℕ → ℕ → ℕ → ℕ → Bool
-is_extreme r a b c = if nat_le r b then nat_lt a b && nat_lt c b else nat_lt b a && nat_lt b c
-
--- the ranges but the last, and the extremes at l
+-- the ranges but the last
 abbrev pub decided_at : ℕ → List ℕ → ℕ
 decided_at k l = triples (λ x y z. is_at k (range x y)) l
-
-abbrev pub extremes_at : ℕ → ℕ → List ℕ → ℕ
-extremes_at r k l = triples (λ x y z. if is_extreme r x y z then is_at k y else 0) l
 
 -- the last range
 abbrev pub open_at : ℕ → EndPoints → ℕ
@@ -154,6 +141,15 @@ value_of k r l d m = record { classes = k; reference = r; ends = ends_of l; deci
 pub record Fills (k r : ℕ) (l : List ℕ) (n : ℕ) (d m : List ℕ) : Type 0 where
   pub rules : IsSimple (value_of k r (take n l) d m)
   pub counts : Counts (value_of k r (take n l) d m) (take n l)
+
+-- a table of the extremes of the points l, with a place for each level below k
+pub record AreExtremes (k r : ℕ) (l m : List ℕ) : Type 0 where
+  pub places : length m ≡ k
+  pub each : (i : ℕ) → i < k → slice_index m i ≡ extremes_at r i l
+
+-- d is the table of the ranges of the points l: about any reference, it makes the tables of l with those extremes
+pub record HasRanges (k : ℕ) (l d : List ℕ) : Type 0 where
+  pub fills : (r : ℕ) (m : List ℕ) → (1 ≤ r) × (r < k) → AreExtremes k r l m → Fills k r l (length l) d m
 
 -- the peaks, the valleys and the ranges of a history are those of its points
 pub record SameCounts (h g : List ℕ) : Type 0 where

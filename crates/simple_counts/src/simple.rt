@@ -3,14 +3,17 @@ ghost use Rattle.turning_points.specs.Points.{is_turn, points};
 ghost use Rattle.turning_points.specs.Pairs.{range};
 ghost use Rattle.turning_points.specs.EndPoints.{IsEnds, ends_of, ends_push, meets, no_ends, put};
 ghost use Rattle.turning_points.specs.Ends.{end_points};
+ghost use Rattle.level_crossing.specs.Crossings.{Crosses, CrossesPoints, IsCrossings, no_crossings};
 ghost use Rattle.tables.specs.Tables.{filled, raise};
 ghost use Rattle.tables.specs.Bins.{count_at};
 ghost use Rattle.simple_counts.specs.Loading.{CanLoad, decided_of, last_range, loaded_of};
-ghost use Rattle.simple_counts.specs.Simple.{Agrees, SimpleValue, Counts, IsSimple, decide, decide_join, extremes_at, is_extreme, join_of, mark, mark_join, none_at, nothing, peak_count, peaks_at, push_of, range_count, ranges_at, turns_at, valley_count, valleys_at};
+ghost use Rattle.simple_counts.specs.Simple.{Agrees, SimpleValue, Counts, IsSimple, decide, decide_join, join_of, mark, mark_join, none_at, nothing, peak_count, peaks_at, push_of, range_count, ranges_at, turns_at, valley_count, valleys_at};
+ghost use Rattle.level_crossing.specs.Extremes.{extremes_at, is_extreme};
 ghost use Rattle.turning_points.specs.declared.ends.TheConstants.{MAX_POINTS};
 
 use crate::points::fill;
 use calibration::Grid;
+use level_crossing::Crossings;
 use std::alloc::{AllocError, Global};
 use std::marker::Model;
 use tables::{add_to, empty, fill as fill_bins, lower, raise, raise_if};
@@ -51,16 +54,16 @@ impl Model for Simple {
     }) };
 }
 
-/// Whether `level` is greater than both, or less than both.
+// Whether `level` is greater than both, or less than both.
 fn is_turning(before: u16, level: u16, after: u16) -> bool
     ensures { result ≡ is_turn before level after }
 {
     (before < level && after < level) || (level < before && level < after)
 }
 
-/// Whether `b`, between `a` and `c`, counts as an extreme.
+// Whether `b`, between `a` and `c`, counts as an extreme.
 #[inline(always)]
-pub fn is_extreme(reference: u16, a: u16, b: u16, c: u16) -> bool
+fn is_extreme(reference: u16, a: u16, b: u16, c: u16) -> bool
     ensures { result ≡ is_extreme reference a b c }
 {
     if reference <= b {
@@ -68,16 +71,6 @@ pub fn is_extreme(reference: u16, a: u16, b: u16, c: u16) -> bool
     } else {
         b < a && b < c
     }
-}
-
-/// The same of a `b` that is known to turn. No branch is taken on the reference level, on whose
-/// side a point lies by chance.
-#[inline(always)]
-pub fn is_extreme_turn(reference: u16, a: u16, b: u16, c: u16) -> bool
-    requires turn { IsTrue (is_turn a b c) }
-    ensures { result ≡ is_extreme reference a b c }
-{
-    (a < b) == (reference <= b)
 }
 
 /// The distance of two levels.
@@ -88,7 +81,7 @@ pub fn range(a: u16, b: u16) -> usize
     usize::from(a.abs_diff(b))
 }
 
-/// What putting a level before does to the ranges.
+// What putting a level before does to the ranges.
 fn decide(decided: &mut [u64], level: u16, e: &Ends)
     requires ends { IsEnds (length decided.old) (end_points e.now) }
     requires level { level < length decided.old }
@@ -114,7 +107,7 @@ fn decide(decided: &mut [u64], level: u16, e: &Ends)
     raise(decided, range(level, e.first[1]));
 }
 
-/// What putting a level before does to the extremes.
+// What putting a level before does to the extremes.
 fn mark(extremes: &mut [u64], reference: u16, level: u16, e: &Ends)
     requires ends { IsEnds (length extremes.old) (end_points e.now) }
     requires room { (k : ℕ) → slice_index extremes.old k < 2 ^ 62 }
@@ -131,7 +124,7 @@ fn mark(extremes: &mut [u64], reference: u16, level: u16, e: &Ends)
     }
 }
 
-/// Changes the tables of two parts, added, to those of one after the other.
+// Changes the tables of two parts, added, to those of one after the other.
 fn join_tables(decided: &mut [u64], extremes: &mut [u64], reference: u16, left: &Ends, right: &Ends)
     requires left { IsEnds (length decided.old) (end_points left.now) }
     requires right { IsEnds (length decided.old) (end_points right.now) }
@@ -163,7 +156,7 @@ fn join_tables(decided: &mut [u64], extremes: &mut [u64], reference: u16, left: 
     mark(extremes, reference, before, &joined);
 }
 
-/// `join_tables` for vectors.
+// `join_tables` for vectors.
 fn join_in(
     decided: &mut Vec<u64>,
     extremes: &mut Vec<u64>,
@@ -189,14 +182,14 @@ fn join_in(
     join_tables(decided, extremes, reference, left, right);
 }
 
-/// Whether a level that comes next makes the last point a turn.
+// Whether a level that comes next makes the last point a turn.
 fn turns(level: u16, e: &Ends) -> bool
     ensures { result ≡ turns_at level (end_points e.now) }
 {
     e.points >= 2 && is_turning(e.last[0], e.last[1], level)
 }
 
-/// Whether it makes the last point an extreme.
+// Whether it makes the last point an extreme.
 fn decides_extreme(reference: u16, level: u16, e: &Ends) -> bool
     ensures { result ≡ (nat_le 2 e.now.points && is_extreme reference (end_points e.now).before
         (end_points e.now).last level) }
@@ -241,7 +234,7 @@ impl Simple {
         self.ends
     }
 
-    /// The two, one after the other; what the value is then.
+    // The two, one after the other; what the value is then.
     fn append_history(&mut self, right: &Simple)
         requires classes { self.old.classes ≡ right.now.classes }
         requires room { self.old.ends.points + right.now.ends.points ≤ MAX_POINTS }
@@ -278,7 +271,7 @@ impl Simple {
         self.append_history(right)
     }
 
-    /// One level more; what the value is then.
+    // One level more; what the value is then.
     fn push_level(&mut self, level: u16)
         requires level { level < self.old.classes }
         requires room { self.old.ends.points + 1 ≤ MAX_POINTS }
@@ -307,9 +300,11 @@ impl Simple {
         self.push_level(level)
     }
 
-    /// Counts a history by its points. Nothing was counted before.
-    pub fn take_points(&mut self, list: &[u16])
+    /// Counts a history by its points, and its crossings in the same pass. Nothing was counted
+    /// before in either.
+    pub fn take_points(&mut self, list: &[u16], crossings: &mut Crossings)
         requires empty { self.old ≡ nothing self.old.classes self.old.reference }
+        requires uncrossed { crossings.old ≡ no_crossings self.old.classes self.old.reference }
         requires own { points list.now ≡ list.now }
         requires below { All (λ level. level < self.old.classes) list.now }
         requires few { length list.now ≤ MAX_POINTS }
@@ -318,8 +313,13 @@ impl Simple {
         ensures ends { self.new.ends ≡ ends_of list.now }
         ensures rules { IsSimple self.new }
         ensures histories { (h : List ℕ) → points h ≡ list.now → Counts self.new h }
+        ensures crossings { CrossesPoints crossings.new crossings.old.classes crossings.old.reference
+            list.now }
+        ensures crossing_rules { IsCrossings crossings.new }
+        ensures crossing_histories { (h : List ℕ) → points h ≡ list.now → Crosses crossings.new h }
     {
-        fill(&mut self.decided, &mut self.extremes, self.reference, list);
+        crossings.take_points(list, &mut self.extremes);
+        fill(&mut self.decided, list);
         self.ends = ends_of(list);
     }
 

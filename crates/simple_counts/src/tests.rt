@@ -2,6 +2,7 @@ ghost use Rattle.std.specs.Prelude.{◌≡◌, IfOk};
 
 use super::*;
 use calibration::Grid;
+use level_crossing::Crossings;
 use std::alloc::{AllocError, Global};
 use std::test::Fail;
 use tally::Bin;
@@ -93,7 +94,11 @@ fn joined_at_any_cut(rt: HostRuntime) -> Result<(), Fail> {
 fn taken_from_points(rt: HostRuntime) -> Result<(), Fail> {
     let grid = Grid::new(16, 2, -8000, 8)?;
     let mut simple = Simple::new(rt.alloc(), &grid)?;
-    simple.take_points(&LEVELS);
+    let mut crossings = Crossings::new(rt.alloc(), &grid)?;
+    simple.take_points(&LEVELS, &mut crossings);
+    for (boundary, count) in [(4, 0), (5, 1), (7, 3), (8, 4), (13, 1), (14, 0)] {
+        assert_eq!(rt; crossings.at(boundary), count, "crossings of {boundary}");
+    }
     for k in 0..grid.classes() {
         assert!(rt; k < 16);
         let place = usize::from(k);

@@ -89,8 +89,7 @@ impl Segment {
         ensures histories { (h : List ℕ) →
             points h ≡ list.now → block.now.used ≡ length h → StandsFor self.new h }
     {
-        self.crossings.take_points(list);
-        self.simple.take_points(list);
+        self.simple.take_points(list, &mut self.crossings);
         push_points(&mut self.reducer, &mut self.tally, list);
         self.used = block.used as u64;
         self.missing = block.missing as u64;

@@ -1,9 +1,11 @@
 -- The grid stays.
 use Rattle.std.proofs.Common.{◌≡◌}
+use Rattle.call_times.specs.Counts.{SameGrid}
 use Rattle.call_times.proofs.counts.simple_by_points.Given as goal
 
 abbrev pub invariant-loop-i : goal.invariant-loop-i
 invariant-loop-i l = record {
   classes : l.simple.classes ≡ l.classes;
+  same : SameGrid l.simple l.crossings;
   grid : l.classes ≡ l.grid.classes;
 }
