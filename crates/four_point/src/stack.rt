@@ -24,8 +24,8 @@ fn is_cycle(a: u16, b: u16, c: u16, d: u16) -> bool
     }
 }
 
-/// Whether a level goes on in the direction from a point to the last one. Each of the three differs
-/// from the next, so that two comparisons tell it.
+// Whether a level goes on in the direction from a point to the last one. Each of the three differs
+// from the next, so that two comparisons tell it.
 #[inline(always)]
 fn lies_between(before: u16, last: u16, level: u16) -> bool
     requires direction { before ≢ last }
@@ -35,8 +35,8 @@ fn lies_between(before: u16, last: u16, level: u16) -> bool
     (before < last) == (last < level)
 }
 
-/// How many points there are with a level behind the first `len` levels, a list of points that ends
-/// at another level. The level is the last of them, and those before it stand where they stood.
+// How many points there are with a level behind the first `len` levels, a list of points that ends
+// at another level. The level is the last of them, and those before it stand where they stood.
 #[inline(always)]
 fn extended(levels: &[u16], len: usize, level: u16) -> usize
     requires within { len < length levels.now }
@@ -122,7 +122,7 @@ pub fn push(levels: &mut [u16], len: usize, level: u16, tally: &mut Tally) -> us
     delete_cycles(levels, longer, level, tally)
 }
 
-/// Whether the level at `i` goes on a residue, the levels before it.
+// Whether the level at `i` goes on a residue, the levels before it.
 fn goes_behind(levels: &[u16], i: usize, classes: u16) -> bool
     requires within { i < length levels.now }
     requires before { IsResidueBelow classes levels.now i }

@@ -59,7 +59,7 @@ impl RangeCounter for PairCounter {
     ghost holds = { λ t given. (lo hi : ℕ) → lo < hi → count_of t.cells lo hi ≡
         half_units_of_pair lo hi given };
 
-    /// Adds the half units of one range to those of its pair.
+    // Adds the half units of one range to those of its pair.
     #[inline(always)]
     fn count(&mut self, range: Range)
         requires within { IsWithin self.old.classes (counted_range_of range) }

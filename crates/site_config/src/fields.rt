@@ -17,7 +17,7 @@ pub fn entry<'a>(table: &'a Table, key: &str) -> Option<&'a Value>
     table.get(key)
 }
 
-/// The value at a key that has to be there.
+// The value at a key that has to be there.
 #[tactic(auto, unfolding(crate::specs::Fields::value_at))]
 fn value_at<'a>(table: &'a Table, key: Key) -> Result<&'a Value, ConfigFault>
     ensures { Gives (λ v. view v.now) result (value_at key (table_view table.now)) }
@@ -28,7 +28,7 @@ fn value_at<'a>(table: &'a Table, key: Key) -> Result<&'a Value, ConfigFault>
     }
 }
 
-/// The whole number of a value, within its limits.
+// The whole number of a value, within its limits.
 #[tactic(auto, unfolding(crate::specs::Fields::number_in))]
 fn number_in(value: &Value, key: Key, low: i64, high: i64) -> Result<i64, ConfigFault>
     ensures given { Gives (λ n. n) result (number_in key low high (view value.now)) }

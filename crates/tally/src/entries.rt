@@ -7,7 +7,7 @@ ghost use Rattle.calibration.specs.declared.grid.TheConstants.{MAX_CLASSES};
 
 use crate::cells::Cell;
 
-/// Whether the pair of a cell is this one.
+// Whether the pair of a cell is this one.
 #[inline(always)]
 fn has_pair(cell: &Cell, lo: u16, hi: u16) -> bool
     ensures { result ≡ is_pair lo hi (pair_of cell.now) }
@@ -15,7 +15,7 @@ fn has_pair(cell: &Cell, lo: u16, hi: u16) -> bool
     lo == cell.lo && hi == cell.hi
 }
 
-/// What a cell holds of a pair.
+// What a cell holds of a pair.
 fn part(cell: &Cell, lo: u16, hi: u16) -> u64
     ensures { result ≡ (if is_pair lo hi (pair_of cell.now) then cell.now.n else 0) }
 {
@@ -34,14 +34,14 @@ pub fn amount_in(entries: &[Cell], lo: u16, hi: u16) -> u64
     sum
 }
 
-/// Whether a cell is at or after a pair.
+// Whether a cell is at or after a pair.
 fn stands_from(cell: &Cell, lo: u16, hi: u16) -> bool
     ensures { result ≡ is_from lo hi cell.now }
 {
     lo < cell.lo || (lo == cell.lo && hi <= cell.hi)
 }
 
-/// The first cell at or after a pair, with one entry more.
+// The first cell at or after a pair, with one entry more.
 fn first_with(found: Option<Cell>, entry: &Cell, lo: u16, hi: u16) -> Option<Cell>
     requires fits { (c : Cell) → found ≡ Some c → c.n + entry.now.n < 2 ^ 64 }
     ensures { result ≡ first_with lo hi entry.now found }
@@ -77,7 +77,7 @@ pub fn first_in(entries: &[Cell], lo: u16, hi: u16) -> Option<Cell>
     found
 }
 
-/// Adds an entry to the counts of a row, if it is of it.
+// Adds an entry to the counts of a row, if it is of it.
 fn add_to_row(out: &mut [u64], lo: u16, entry: &Cell)
     requires ordered { entry.now.lo < entry.now.hi }
     requires within { entry.now.hi < lo + 1 + length out.old }
@@ -120,7 +120,7 @@ pub fn pairs_in(entries: &[Cell]) -> usize
     pairs
 }
 
-/// Puts equal pairs of an ordered list together, at its front. Says how many cells that makes.
+// Puts equal pairs of an ordered list together, at its front. Says how many cells that makes.
 fn put_together(entries: &mut [Cell]) -> usize
     requires ordered { IsNonDecreasingBy rank entries.old }
     requires each { All (IsCell MAX_CLASSES) entries.old }

@@ -34,7 +34,7 @@ impl Model for Log {
         (vec_capacity t.entries) };
 }
 
-/// Leaves at least one place free.
+// Leaves at least one place free.
 #[inline(always)]
 fn make_place(entries: &mut Vec<Cell>)
     requires each { All (IsCell MAX_CLASSES) entries.old.items }

@@ -219,7 +219,7 @@ impl Tally {
     }
 }
 
-/// Adds each entry to a log, one by one: it is put in order where it is full.
+// Adds each entry to a log, one by one: it is put in order where it is full.
 fn add_entries(log: &mut Log, entries: &[Cell])
     requires counts { IsCounts log.old }
     requires each { All (IsCell log.old.classes) entries.now }
@@ -241,7 +241,7 @@ fn add_entries(log: &mut Log, entries: &[Cell])
     }
 }
 
-/// Adds the cells of a table to a log. The table is walked from end to end.
+// Adds the cells of a table to a log. The table is walked from end to end.
 fn add_table(log: &mut Log, others: &Dense)
     requires counts { IsCounts log.old }
     requires classes { log.old.classes ≡ others.now.classes }

@@ -52,7 +52,7 @@ impl RangeCounter for HalfUnits {
     ghost holds = { λ h given.
         (k : ℕ) → k < length h → slice_index h k ≡ half_units_at_range k given };
 
-    /// Adds the half units of one range at the place of its length.
+    // Adds the half units of one range at the place of its length.
     #[inline(always)]
     fn count(&mut self, range: Range)
         requires within { IsWithin (length self.old) (counted_range_of range) }
