@@ -3,7 +3,7 @@ ghost use Rattle.turning_points.specs.Points.{points};
 ghost use Rattle.tally.specs.Counts.{count_of, total_of, HasGreatestRoom};
 ghost use Rattle.four_point.specs.Reduction.{IsFourPointResult};
 
-use crate::stack::{is_residue, push, put_first};
+use crate::stack::{is_residue, push, push_point, put_first};
 use std::alloc::{AllocError, Global};
 use std::marker::Model;
 use tally::{MAX_TOTAL, Tally};
@@ -95,6 +95,33 @@ impl Reducer {
         ensures tally_room { tally.new.room ≡ tally.old.room }
     {
         self.len = push(&mut self.levels, self.len, level, tally);
+    }
+
+    /// Takes the next level of the history where it is a point more, as the next of a list of points
+    /// is: only deletions are tested, and not whether it goes on in the last direction.
+    #[inline(always)]
+    pub fn push_point(&mut self, level: u16, tally: &mut Tally)
+        requires level { level < self.old.classes }
+        requires more { length (points (self.old.residue ++ level ∷ [])) ≡
+            length self.old.residue + 1 }
+        requires classes { self.old.classes ≡ tally.old.classes }
+        requires total { total_of tally.old.cells + length self.old.residue ≤ MAX_TOTAL }
+        requires room { HasGreatestRoom tally.old
+            ⊎ (2 * length tally.old.cells + length self.old.residue ≤ 2 * tally.old.room) }
+        ensures step { AddsCycles (points (self.old.residue ++ level ∷ []))
+            (count_of tally.old.cells)
+            self.new.residue (count_of tally.new.cells) }
+        ensures shape { IsResidue self.new.classes self.new.residue }
+        ensures bound { length self.new.residue ≤ 2 * self.new.classes - 1 }
+        ensures lengths { 2 * total_of tally.new.cells + length self.new.residue
+            ≡ 2 * total_of tally.old.cells + length self.old.residue + 1 }
+        ensures cells { 2 * length tally.new.cells + length self.new.residue
+            ≤ 2 * length tally.old.cells + length self.old.residue + 1 }
+        ensures classes { self.new.classes ≡ self.old.classes }
+        ensures tally_classes { tally.new.classes ≡ tally.old.classes }
+        ensures tally_room { tally.new.room ≡ tally.old.room }
+    {
+        self.len = push_point(&mut self.levels, self.len, level, tally);
     }
 
     /// Empties the residue.

@@ -122,6 +122,30 @@ pub fn push(levels: &mut [u16], len: usize, level: u16, tally: &mut Tally) -> us
     delete_cycles(levels, longer, level, tally)
 }
 
+/// The same of a level that is one point more behind the residue: only deletions are tested.
+#[inline(always)]
+pub fn push_point(levels: &mut [u16], len: usize, level: u16, tally: &mut Tally) -> usize
+    requires within { len < length levels.old }
+    requires residue { IsResidue tally.old.classes (take len levels.old) }
+    requires level { level < tally.old.classes }
+    requires more { length (points (take len levels.old ++ level ∷ [])) ≡ len + 1 }
+    requires total { total_of tally.old.cells + len ≤ MAX_TOTAL }
+    requires room { HasGreatestRoom tally.old
+        ⊎ (2 * length tally.old.cells + len ≤ 2 * tally.old.room) }
+    ensures within { result ≤ length levels.new }
+    ensures step { AddsCycles (points (take len levels.old ++ level ∷ []))
+        (count_of tally.old.cells)
+        (take result levels.new) (count_of tally.new.cells) }
+    ensures residue { IsResidue tally.old.classes (take result levels.new) }
+    ensures lengths { 2 * total_of tally.new.cells + result
+        ≡ 2 * total_of tally.old.cells + (len + 1) }
+    ensures cells { 2 * length tally.new.cells + result ≤ 2 * length tally.old.cells + len + 1 }
+    ensures classes { tally.new.classes ≡ tally.old.classes }
+    ensures tally_room { tally.new.room ≡ tally.old.room }
+{
+    delete_cycles(levels, len + 1, level, tally)
+}
+
 // Whether the level at `i` goes on a residue, the levels before it.
 fn goes_behind(levels: &[u16], i: usize, classes: u16) -> bool
     requires within { i < length levels.now }

@@ -44,7 +44,7 @@ pub fn points_in(raws: &[i32], classifier: &Classifier, levels: &mut [u16]) -> B
     }
 }
 
-/// Reduces a list of points. Nothing was reduced or counted before.
+/// Reduces a list of points, each of which is one point more. Nothing was reduced or counted before.
 pub fn push_points(reducer: &mut Reducer, tally: &mut Tally, list: &[u16])
     requires residue { reducer.old.residue ≡ [] }
     requires cells { tally.old.cells ≡ [] }
@@ -61,6 +61,6 @@ pub fn push_points(reducer: &mut Reducer, tally: &mut Tally, list: &[u16])
     ensures tally_room { tally.new.room ≡ tally.old.room }
 {
     for &level in list {
-        reducer.push(level, tally);
+        reducer.push_point(level, tally);
     }
 }

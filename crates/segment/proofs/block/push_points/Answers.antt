@@ -1,5 +1,8 @@
-use Rattle.std.proofs.Common.{◌≡◌, ◌+◌, ◌*◌, ◌<◌, ◌≤◌, ◌⊎◌, inl, inr, ℕ, length, refl, sym, ap, ◌∙◌, arith}
-use Rattle.tally.specs.Counts.{Counts, HasGreatestRoom, most_cells}
+use Rattle.std.proofs.Common.{◌≡◌, ◌+◌, ◌*◌, ◌<◌, ◌≤◌, ◌⊎◌, inl, inr, ℕ, List, [], ◌++◌, length, take, refl, sym, ap, ◌∙◌, arith, length-take-le}
+use Rattle.turning_points.specs.Points.{points}
+use Rattle.turning_points.proofs.Over.{own, zig_own}
+use Rattle.tally.specs.Counts.{Counts, HasGreatestRoom, most_cells, total_of}
+use Rattle.simple_counts.proofs.OfPoints.{zig_take}
 use Rattle.residue_join.proofs.Joined.{AddsCycles-one_more, length_one_more}
 use Rattle.segment.proofs.block.push_points.Goals as goal
 
@@ -8,25 +11,46 @@ room_by : (s t : Counts) (len i m : ℕ) → s.classes ≡ t.classes → s.room 
 room_by s t len i m e f k w (inl h) = inl (f ∙ h ∙ sym (ap most_cells e))
 room_by s t len i m e f k w (inr h) = inr (omega arith)
 
-pub push-requires-clause-room : goal.push-requires-clause-room
-push-requires-clause-room c =
+-- a list of points has as many points as levels, as far as it is pushed
+length-pushed : (l s : List ℕ) (i : ℕ) → l ≡ [] → points s ≡ s → i ≤ length s → length (points (l ++ take i s)) ≡ i
+length-pushed l s i e o h = ap (λ m. length (points (m ++ take i s))) e ∙ ap length (own (zig_take i (zig_own s o))) ∙ length-take-le i s h
+
+pub push_point-requires-clause-room : goal.push_point-requires-clause-room
+push_point-requires-clause-room c =
     let v = c.loop-level.invariant in
     room_by c.loop-level.tally c.args.tally.now _ c.loop-level.level-index _ v.tally_classes v.tally_room v.cells c.loop-level-test.true
     c.requires.room
 
+pub push_point-requires-clause-more : goal.push_point-requires-clause-more
+push_point-requires-clause-more c =
+    let l = c.args.reducer.now.residue in
+    let s = c.args.list.now in
+    let i = c.loop-level.level-index in
+    let w = c.loop-level-test.true in
+    omega (
+      arith,
+      length_one_more l s i _ w refl _ _ _ c.loop-level.invariant.step,
+      length-pushed l s i c.requires.residue c.requires.own (omega (arith, w)),
+      length-pushed l s (i + 1) c.requires.residue c.requires.own (omega (arith, w)),
+    )
+
 pub loop-level-preserved : goal.loop-level-preserved
 loop-level-preserved c =
     let l = c.args.reducer.now.residue in
+    let s = c.args.list.now in
     let i = c.loop-level.level-index in
     let v = c.loop-level.invariant in
     let w = c.loop-level-test.true in
+    let e = c.push_point.ensures in
+    let before = length-pushed l s i c.requires.residue c.requires.own (omega (arith, w)) in
+    let after = length-pushed l s (i + 1) c.requires.residue c.requires.own (omega (arith, w)) in
     record {
-      step = AddsCycles-one_more l c.args.list.now i _ w refl _ _ _ _ _ v.step c.push.ensures.step;
-      shape = c.push.ensures.shape;
-      lengths = omega (arith, v.lengths, c.push.ensures.lengths, length_one_more l c.args.list.now i _ w refl _ _ _ v.step);
-      room = omega (arith, v.room, c.push.ensures.room);
-      cells = omega (arith, v.cells, c.push.ensures.cells);
-      tally_room = c.push.ensures.tally_room ∙ v.tally_room;
-      classes = c.push.ensures.classes ∙ v.classes;
-      tally_classes = c.push.ensures.tally_classes ∙ v.tally_classes;
+      step = AddsCycles-one_more l s i _ w refl _ _ _ _ _ v.step e.step;
+      shape = e.shape;
+      lengths = omega (arith, v.lengths, e.lengths, before, after);
+      room = omega (arith, v.lengths, e.lengths, before, ap total_of c.requires.cells);
+      cells = omega (arith, v.cells, e.cells);
+      tally_room = e.tally_room ∙ v.tally_room;
+      classes = e.classes ∙ v.classes;
+      tally_classes = e.tally_classes ∙ v.tally_classes;
     }
