@@ -89,7 +89,3 @@ module _ {L : Type 0} (F : L → Type 0) (list0 : L → List ℕ) (list0_at : Re
       let second : body_at list0_at 0 (a ++ more) ≡ Ok (y, []) = ap (body_at list0_at 0) (c ∙ sym (append-nil (body_with list0 y)))
       ∙ body_format.again 0 y [] g in
       ap (λ (z : Body L × List ℕ). z.1) (ok_is (x, more) (y, []) (sym first ∙ second))
-
-  -- lists that were read have lengths that their counts can tell
-  pub few : (have : ℕ) (bytes : List ℕ) (x : Body L × List ℕ) → IsBytes bytes → body_at list0_at have bytes ≡ Ok x → FitsBack F x.0.1
-  few have bytes x fits e = (body_format.takes have bytes x fits e).1.1

@@ -6,6 +6,6 @@ pub mod Found
 pub mod Lengths
 pub mod Listed
 pub mod Loops
-pub mod Read
+pub mod RowReading
 pub mod Rows
 pub mod Walked

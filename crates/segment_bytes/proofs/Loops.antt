@@ -45,3 +45,58 @@ module _ {A : Type 0} where
         let all : with_front front (times one (count - i) have bytes) ≡ Ok (front, bytes) = rw k
         (ap (λ (ns : List A). Ok (ns, bytes)) (append-nil front)) in
         sym so_far ∙ all
+
+-- ---- the same, with what was read seen as something else
+
+-- what is still read, seen with what was read before
+abbrev pub seen : {A B : Type 0} → (A → B) → Result (A × List ℕ) BytesFault → Result (B × List ℕ) BytesFault
+seen f read = read >>= λ x. Ok (f x.0, x.1)
+
+abbrev failed : {B : Type 0} → BytesFault → Result B BytesFault
+failed d = Err d
+
+pub fails_seen : {A B : Type 0} (e : BytesFault) (f : A → B) (read : Result (A × List ℕ) BytesFault) → Fails e (seen f read)
+    → Fails e read
+fails_seen OutOfMemory f read h = tt
+fails_seen e f (Ok x) h = absurd cc
+fails_seen e f (Err d) h = let same : d ≡ e = cc in ap failed same
+
+pub seen_fails : {A B : Type 0} (e : BytesFault) (f : A → B) (read : Result (A × List ℕ) BytesFault) → Fails e read
+    → Fails e (seen f read)
+seen_fails OutOfMemory f read h = tt
+seen_fails e f read h = ap (seen f) h
+
+module _ {A B : Type 0} where
+  seen_one : (f g : List A → B) (n : A) → ((ns : List A) → f (n ∷ ns) ≡ g ns) → (read : Result (List A × List ℕ) BytesFault)
+      → seen f (read >>= λ x. Ok (n ∷ x.0, x.1)) ≡ seen g read
+  seen_one f g n same (Ok x) = ap (λ (v : B). Ok (v, x.1)) (same x.0)
+  seen_one f g n same (Err d) = refl
+
+  module _ (one : Reader A) (have : ℕ) where
+    pub seen_on : (f g : List A → B) (count i : ℕ) (bytes : List ℕ) (n : A) (after : List ℕ)
+        (total : Result (B × List ℕ) BytesFault) → i < count → ((ns : List A) → f (n ∷ ns) ≡ g ns)
+        → one have bytes ≡ Ok (n, after) → seen f (times one (count - i) have bytes) ≡ total
+        → seen g (times one (count - (i + 1)) have after) ≡ total
+    unfolding times
+    seen_on f g count i bytes n after total lt same h so_far =
+        let k : count - i ≡ suc (count - (i + 1)) = omega arith in
+        let one_more : seen f (times one (count - i) have bytes) ≡ seen g (times one (count - (i + 1)) have after) = rw (k, h)
+        (seen_one f g n same (times one (count - (i + 1)) have after)) in
+        sym one_more ∙ so_far
+
+    pub seen_ends : (e : BytesFault) (f : List A → B) (count i : ℕ) (bytes : List ℕ) (total : Result (B × List ℕ) BytesFault)
+        → i < count → Fails e (one have bytes) → seen f (times one (count - i) have bytes) ≡ total → Fails e total
+    unfolding times
+    seen_ends OutOfMemory f count i bytes total lt h so_far = tt
+    seen_ends e f count i bytes total lt h so_far =
+        let k : count - i ≡ suc (count - (i + 1)) = omega arith in
+        let stops : seen f (times one (count - i) have bytes) ≡ Err e = rw (k, h) refl in
+        sym so_far ∙ stops
+
+    pub seen_done : (f : List A → B) (count i : ℕ) (bytes : List ℕ) (total : Result (B × List ℕ) BytesFault) → count ≤ i
+        → seen f (times one (count - i) have bytes) ≡ total → total ≡ Ok (f [], bytes)
+    unfolding times
+    seen_done f count i bytes total le so_far =
+        let k : count - i ≡ 0 = omega arith in
+        let all : seen f (times one (count - i) have bytes) ≡ Ok (f [], bytes) = rw k refl in
+        sym so_far ∙ all

@@ -2,6 +2,7 @@ pub mod Decoding
 pub mod Faults
 pub mod Fields
 pub mod Grammar
+pub mod RowReading
 pub mod Rows
 pub mod Sizes
 pub mod Views

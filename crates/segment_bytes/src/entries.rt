@@ -1,12 +1,13 @@
 ghost use Rattle.std.specs.Prelude.{◌≡◌, ◌+◌, ◌-◌, ◌≤◌, ◌<◌, ◌^◌, length, IfOk};
 ghost use Rattle.std.specs.Int.{w16, w32};
 ghost use Rattle.segment_bytes.specs.Fields.{Gives, number_at, times, counted, both};
-ghost use Rattle.segment_bytes.specs.Grammar.{cell_at, bin_at, row_at, back_at};
-ghost use Rattle.segment_bytes.specs.Views.{lists, row_lists, four, see_row, see_rows};
+ghost use Rattle.segment_bytes.specs.Grammar.{cell_at, bin_at, back_at};
+ghost use Rattle.segment_bytes.specs.RowReading.{rows_at};
+ghost use Rattle.segment_bytes.specs.Views.{lists, row_lists, four};
 
 use crate::fault::BytesFault;
 use crate::numbers::{bin_of, cell_of, u16_at, u32_at};
-use crate::row_reading::Row;
+use crate::row_reading::{Rows, rows_of};
 use std::alloc::Global;
 use tally::{Bin, Cell};
 
@@ -74,39 +75,6 @@ fn bins_of(
     Ok((bins, rest))
 }
 
-fn row_of(alloc: Global, have: usize, bytes: &[u8]) -> Result<(Row, &[u8]), BytesFault>
-    requires within { length bytes.now ≤ have }
-    requires small { have < 2 ^ 63 }
-    ensures reads { Gives (λ x. (see_row x.0, x.1.now)) result (row_at have bytes.now) }
-    ensures rest { IfOk result (λ x. length x.1.now ≤ length bytes.now) }
-{
-    let (lo, rest) = u16_at(have, bytes)?;
-    let (bins, rest) = bins_in(alloc, have, rest)?;
-    Ok((Row { lo, bins }, rest))
-}
-
-fn rows_of(
-    alloc: Global,
-    have: usize,
-    count: u16,
-    bytes: &[u8],
-) -> Result<(Vec<Row>, &[u8]), BytesFault>
-    requires within { length bytes.now ≤ have }
-    requires small { have < 2 ^ 63 }
-    ensures reads { Gives (λ x. (see_rows x.0.items, x.1.now)) result
-        (times row_at count have bytes.now) }
-    ensures rest { IfOk result (λ x. length x.1.now ≤ length bytes.now) }
-{
-    let mut rows = Vec::with_capacity(alloc, usize::from(count).min(bytes.len() / 4))?;
-    let mut rest = bytes;
-    for _ in 0..count {
-        let (row, after) = row_of(alloc, have, rest)?;
-        rows.push(row)?;
-        rest = after;
-    }
-    Ok((rows, rest))
-}
-
 fn levels_in(alloc: Global, have: usize, bytes: &[u8]) -> Result<(Vec<u16>, &[u8]), BytesFault>
     requires within { length bytes.now ≤ have }
     requires small { have < 2 ^ 63 }
@@ -140,15 +108,20 @@ fn bins_in(alloc: Global, have: usize, bytes: &[u8]) -> Result<(Vec<Bin>, &[u8])
     bins_of(alloc, have, count, rest)
 }
 
-fn rows_in(alloc: Global, have: usize, bytes: &[u8]) -> Result<(Vec<Row>, &[u8]), BytesFault>
+fn rows_in(
+    alloc: Global,
+    have: usize,
+    classes: u16,
+    bytes: &[u8],
+) -> Result<(Rows, &[u8]), BytesFault>
     requires within { length bytes.now ≤ have }
     requires small { have < 2 ^ 63 }
-    ensures reads { Gives (λ x. (see_rows x.0.items, x.1.now)) result
-        (counted w16 row_at have bytes.now) }
+    ensures reads { Gives (λ x. ((x.0.cells.items, x.0.wrong), x.1.now)) result
+        (rows_at classes have bytes.now) }
     ensures rest { IfOk result (λ x. length x.1.now ≤ length bytes.now) }
 {
     let (count, rest) = u16_at(have, bytes)?;
-    rows_of(alloc, have, count, rest)
+    rows_of(alloc, have, classes, count, rest)
 }
 
 // The four lists at the end.
@@ -188,11 +161,11 @@ pub(crate) struct Lists {
     pub(crate) four: Four,
 }
 
-// The same with the cells in rows.
+// The same with the cells of rows, and what they have come to.
 #[derive(Drop)]
 pub(crate) struct RowLists {
     pub(crate) residue: Vec<u16>,
-    pub(crate) rows: Vec<Row>,
+    pub(crate) rows: Rows,
     pub(crate) four: Four,
 }
 
@@ -222,15 +195,16 @@ pub(crate) fn lists_of(
 pub(crate) fn row_lists_of(
     alloc: Global,
     have: usize,
+    classes: u16,
     bytes: &[u8],
 ) -> Result<(RowLists, &[u8]), BytesFault>
     requires within { length bytes.now ≤ have }
     requires small { have < 2 ^ 63 }
     ensures reads { Gives (λ x. (row_lists x.0, x.1.now)) result
-        (back_at (counted w16 row_at) have bytes.now) }
+        (back_at (rows_at classes) have bytes.now) }
 {
     let (residue, rest) = levels_in(alloc, have, bytes)?;
-    let (rows, rest) = rows_in(alloc, have, rest)?;
+    let (rows, rest) = rows_in(alloc, have, classes, rest)?;
     let (four, rest) = four_of(alloc, have, rest)?;
     let lists = RowLists {
         residue,

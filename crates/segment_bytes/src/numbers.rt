@@ -23,6 +23,7 @@ fn short(have: usize, len: usize, width: usize) -> BytesFault
     }
 }
 
+#[inline(always)]
 pub(crate) fn u16_at(have: usize, bytes: &[u8]) -> Result<(u16, &[u8]), BytesFault>
     requires within { length bytes.now ≤ have }
     requires small { have < 2 ^ 63 }
@@ -51,6 +52,7 @@ pub(crate) fn u32_at(have: usize, bytes: &[u8]) -> Result<(u32, &[u8]), BytesFau
     Ok((number, rest))
 }
 
+#[inline(always)]
 fn u64_at(have: usize, bytes: &[u8]) -> Result<(u64, &[u8]), BytesFault>
     requires within { length bytes.now ≤ have }
     requires small { have < 2 ^ 63 }
@@ -79,6 +81,7 @@ pub(crate) fn cell_of(have: usize, bytes: &[u8]) -> Result<(Cell, &[u8]), BytesF
     Ok((Cell { lo, hi, n }, rest))
 }
 
+#[inline(always)]
 pub(crate) fn bin_of(have: usize, bytes: &[u8]) -> Result<(Bin, &[u8]), BytesFault>
     requires within { length bytes.now ≤ have }
     requires small { have < 2 ^ 63 }

@@ -1,20 +1,19 @@
-ghost use Rattle.std.specs.Prelude.{◌≡◌, IfOk, length};
-ghost use Rattle.std.specs.Int.{w16, w32};
+ghost use Rattle.std.specs.Prelude.{◌≡◌, length};
+ghost use Rattle.std.specs.Int.{w32};
 ghost use Rattle.segment_rules.specs.Parts.{parts_value};
 ghost use Rattle.segment_rules.specs.Tests.{order_broken};
 ghost use Rattle.segment_bytes.specs.Fields.{Gives, counted};
-ghost use Rattle.segment_bytes.specs.Grammar.{cell_at, flat, joined, row_at};
-ghost use Rattle.segment_bytes.specs.Rows.{wrong_row};
+ghost use Rattle.segment_bytes.specs.Grammar.{cell_at};
 ghost use Rattle.segment_bytes.specs.Decoding.{all_of, or_fault, parts_in};
-ghost use Rattle.segment_bytes.specs.Views.{cells_body, rows_body, AreFewRows};
+ghost use Rattle.segment_bytes.specs.RowReading.{parts_of_rows, rows_at};
+ghost use Rattle.segment_bytes.specs.Views.{cells_body, rows_body};
 ghost use Rattle.segment_bytes.specs.declared.fault.BytesFault.TheVariants.{Trailing};
 
 use crate::fault::BytesFault;
 use crate::layout::Layout;
 use crate::reading::{RowParts, parts_of, row_parts_of};
-use crate::row_reading::{cells_of, first_wrong_row};
 use calibration::Grid;
-use segment_rules::{Cells, Parts};
+use segment_rules::Parts;
 use std::alloc::Global;
 
 // What follows a body.
@@ -38,31 +37,33 @@ fn all_cells(alloc: Global, bytes: &[u8]) -> Result<Parts, BytesFault>
 }
 
 #[tactic(auto, unfolding(crate::specs::Decoding::all_of))]
-fn all_rows(alloc: Global, bytes: &[u8]) -> Result<RowParts, BytesFault>
-    ensures reads { Gives rows_body result (all_of (counted w16 row_at) bytes.now) }
-    ensures few { IfOk result AreFewRows }
+fn all_rows(alloc: Global, classes: u16, bytes: &[u8]) -> Result<RowParts, BytesFault>
+    ensures { Gives rows_body result (all_of (rows_at classes) bytes.now) }
 {
-    let (parts, rest) = row_parts_of(alloc, bytes.len(), bytes)?;
+    let (parts, rest) = row_parts_of(alloc, bytes.len(), classes, bytes)?;
     if !rest.is_empty() {
         return Err(trailing(rest));
     }
     Ok(parts)
 }
 
-// The parts with the cells of their rows, or the first row or cell in a row that breaks the order.
-fn flattened(alloc: Global, grid: &Grid, found: RowParts) -> Result<Parts, BytesFault>
-    requires { AreFewRows found }
+// The parts of rows that are in order.
+fn ordered(found: RowParts) -> Result<Parts, BytesFault>
     ensures { Gives parts_value result
-        (or_fault (order_broken 0 (wrong_row 0 grid.now.classes 0 (rows_body found).1.1.0))
-        (joined (flat (rows_body found)))) }
+        (or_fault (order_broken 0 found.wrong) (parts_value found.parts)) }
 {
-    if let Some(index) = first_wrong_row(grid, &found.rows) {
-        return Err(BytesFault::Order { list: 0, index });
+    match found.wrong {
+        Some(index) => Err(BytesFault::Order { list: 0, index }),
+        None => Ok(found.parts),
     }
-    let cells = cells_of(alloc, &found.rows)?;
-    let mut parts = found.parts;
-    parts.cells = Cells::from_vec(cells);
-    Ok(parts)
+}
+
+#[tactic(auto, unfolding(crate::specs::RowReading::parts_of_rows))]
+fn parts_of_rows(alloc: Global, grid: &Grid, bytes: &[u8]) -> Result<Parts, BytesFault>
+    ensures { Gives parts_value result (parts_of_rows grid.now bytes.now) }
+{
+    let found = all_rows(alloc, grid.classes(), bytes)?;
+    ordered(found)
 }
 
 /// The parts whose body in the layout the bytes are, whatever rules they keep. Refused are, in this
@@ -78,9 +79,6 @@ pub fn parts_in(
 {
     match layout {
         Layout::One => all_cells(alloc, bytes),
-        Layout::Two => {
-            let found = all_rows(alloc, bytes)?;
-            flattened(alloc, grid, found)
-        }
+        Layout::Two => parts_of_rows(alloc, grid, bytes),
     }
 }

@@ -1,15 +1,15 @@
 ghost use Rattle.std.specs.Prelude.{◌≡◌, ◌≤◌, ◌<◌, ◌^◌, length};
-ghost use Rattle.std.specs.Int.{w16, w32};
+ghost use Rattle.std.specs.Int.{w32};
 ghost use Rattle.turning_points.specs.Ends.{end_points};
 ghost use Rattle.segment_rules.specs.Parts.{parts_value};
 ghost use Rattle.segment_bytes.specs.Fields.{Gives, counted};
-ghost use Rattle.segment_bytes.specs.Grammar.{body_at, cell_at, joined as joined_is, row_at};
+ghost use Rattle.segment_bytes.specs.Grammar.{body_at, cell_at, joined as joined_is};
+ghost use Rattle.segment_bytes.specs.RowReading.{rows_at};
 ghost use Rattle.segment_bytes.specs.Views.{cells_body, four, rows_body, six};
 
-use crate::entries::{Four, lists_of, row_lists_of};
+use crate::entries::{Four, RowLists, lists_of, row_lists_of};
 use crate::fault::BytesFault;
 use crate::numbers::{Six, ends_of, six_of};
-use crate::row_reading::Row;
 use segment_rules::{Bins, Cells, Levels, Name, Parts};
 use std::alloc::Global;
 use tally::Cell;
@@ -60,32 +60,41 @@ pub(crate) fn parts_of(
     Ok((parts, rest))
 }
 
-// Parts whose cells are still in rows.
+// Parts whose cells were read in rows, and the place of the first row, or cell in a row, that
+// breaks the order.
 #[derive(Drop)]
 pub(crate) struct RowParts {
     pub(crate) parts: Parts,
-    pub(crate) rows: Vec<Row>,
+    pub(crate) wrong: Option<u32>,
 }
 
-/// The same, with the cells in rows.
+/// The same, with the cells in rows over so many classes.
 #[tactic(auto, unfolding(crate::specs::Grammar::body_at))]
 pub(crate) fn row_parts_of(
     alloc: Global,
     have: usize,
+    classes: u16,
     bytes: &[u8],
 ) -> Result<(RowParts, &[u8]), BytesFault>
     requires within { length bytes.now ≤ have }
     requires small { have < 2 ^ 63 }
     ensures { Gives (λ x. (rows_body x.0, x.1.now)) result
-        (body_at (counted w16 row_at) have bytes.now) }
+        (body_at (rows_at classes) have bytes.now) }
 {
     let (front, rest) = six_of(have, bytes)?;
     let (ends, rest) = ends_of(have, rest)?;
-    let (lists, rest) = row_lists_of(alloc, have, rest)?;
-    let parts = joined(&front, &ends, lists.residue, Vec::new(alloc), lists.four);
-    let row_parts = RowParts {
-        parts,
-        rows: lists.rows,
-    };
-    Ok((row_parts, rest))
+    let (lists, rest) = row_lists_of(alloc, have, classes, rest)?;
+    let RowLists {
+        residue,
+        rows,
+        four,
+    } = lists;
+    let parts = joined(&front, &ends, residue, rows.cells, four);
+    Ok((
+        RowParts {
+            parts,
+            wrong: rows.wrong,
+        },
+        rest,
+    ))
 }

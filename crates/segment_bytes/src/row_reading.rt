@@ -1,72 +1,146 @@
-ghost use Rattle.std.specs.Prelude.{◌≡◌, ◌<◌, ◌++◌, ◌^◌, All, IfOk, length};
-ghost use Rattle.segment_bytes.specs.Rows.{cells_of, row_cells, wrong_row};
-ghost use Rattle.segment_bytes.specs.Views.{see_row, see_rows};
+ghost use Rattle.std.specs.Prelude.{◌≡◌, ◌≤◌, ◌<◌, ◌+◌, ◌++◌, ◌^◌, IfOk, length, map};
+ghost use Rattle.segment_rules.specs.Tests.{wrong_bin};
+ghost use Rattle.segment_bytes.specs.Fields.{Gives, seen_as, times};
+ghost use Rattle.segment_bytes.specs.Grammar.{bin_at, row_at};
+ghost use Rattle.segment_bytes.specs.Rows.{bin_of, cell_in, or_next};
+ghost use Rattle.segment_bytes.specs.RowReading.{with_row, with_rows, no_rows, wrong_in};
+ghost use Rattle.segment_bytes.specs.Views.{see_rows};
 
-use calibration::Grid;
-use segment_rules::first_wrong_from;
-use std::alloc::{AllocError, Global};
-use tally::{Bin, Cell};
+use crate::fault::BytesFault;
+use crate::numbers::{bin_of, u16_at};
+use std::alloc::Global;
+use tally::Cell;
 
-/// The cells of one lower level, by their upper level.
+/// What the rows that were read have come to: their cells, the least lower level of the next row,
+/// and the place of the first row, or cell in a row, that breaks the order.
 #[derive(Drop)]
-pub(crate) struct Row {
-    pub(crate) lo: u16,
-    pub(crate) bins: Vec<Bin>,
+pub(crate) struct Rows {
+    pub(crate) cells: Vec<Cell>,
+    pub(crate) from: u32,
+    pub(crate) wrong: Option<u32>,
 }
 
-/// The place of the first row, or cell in a row, that breaks the order, by the number of cells
-/// before it.
-pub(crate) fn first_wrong_row(grid: &Grid, rows: &[Row]) -> Option<u32>
-    requires few { length rows.now < 2 ^ 16 }
-    requires short { All (λ r. length r.bins.items < 2 ^ 16) rows.now }
-    ensures { result ≡ wrong_row 0 grid.now.classes 0 (see_rows rows.now) }
+// Reads the cells of a row behind those of the rows before it.
+fn push_cells<'a>(
+    cells: &mut Vec<Cell>,
+    have: usize,
+    lo: u16,
+    count: u16,
+    bytes: &'a [u8],
+) -> Result<&'a [u8], BytesFault>
+    requires within { length bytes.now ≤ have }
+    requires small { have < 2 ^ 63 }
+    ensures reads { Gives (λ x. (cells.new.items, x.now)) result
+        (seen_as (λ bins. cells.old.items ++ map (cell_in lo) bins)
+        (times bin_at count) have bytes.now) }
+    ensures rest { IfOk result (λ x. length x.now ≤ length bytes.now) }
+    ensures few { IfOk result (λ _.
+        length cells.new.items ≤ length cells.old.items + count) }
 {
-    let classes = grid.classes();
-    let mut from = 0u32;
-    let mut index = 0u32;
-    for row in rows {
-        if u32::from(row.lo) < from || row.bins.is_empty() {
-            return Some(index);
-        }
-        from = u32::from(row.lo) + 1;
-        if let Some(place) = first_wrong_from(from, classes, index, &row.bins) {
+    let mut rest = bytes;
+    for _ in 0..count {
+        let (bin, after) = bin_of(have, rest)?;
+        cells.push(Cell {
+            lo,
+            hi: bin.key,
+            n: bin.n,
+        })?;
+        rest = after;
+    }
+    Ok(rest)
+}
+
+// The place of the first of a row's cells that breaks the order of the upper levels from one on,
+// counted from `index` on.
+fn first_wrong_cell(from: u32, classes: u16, index: u32, cells: &[Cell]) -> Option<u32>
+    requires small { from ≤ 2 ^ 16 }
+    requires room { index + length cells.now < 2 ^ 32 }
+    ensures { result ≡ wrong_bin from classes index (map bin_of cells.now) }
+{
+    let mut least = from;
+    let mut place = index;
+    for cell in cells {
+        if u32::from(cell.hi) < least || cell.hi >= classes || cell.n == 0 {
             return Some(place);
         }
-        index += row.bins.len() as u32;
+        least = u32::from(cell.hi) + 1;
+        place += 1;
     }
     None
 }
 
-fn add_row(cells: &mut Vec<Cell>, row: &Row) -> Result<(), AllocError>
-    ensures { IfOk result (λ _.
-        cells.new.items ≡ cells.old.items ++ row_cells (see_row row.now)) }
+// The place of a row, or of the first of its cells, that breaks the order.
+fn first_wrong_in(from: u32, classes: u16, index: u32, lo: u16, cells: &[Cell]) -> Option<u32>
+    requires room { index + length cells.now < 2 ^ 32 }
+    ensures { result ≡ wrong_in from classes index
+        (record { lo = lo; bins = map bin_of cells.now }) }
 {
-    for bin in &row.bins {
-        cells.push(Cell {
-            lo: row.lo,
-            hi: bin.key,
-            n: bin.n,
-        })?;
+    if u32::from(lo) < from || cells.is_empty() {
+        return Some(index);
     }
-    Ok(())
+    first_wrong_cell(u32::from(lo) + 1, classes, index, cells)
 }
 
-// How many cells the rows have, for what is reserved: nothing else hangs on it.
-fn len_of(rows: &[Row]) -> usize {
-    let mut len = 0usize;
-    for row in rows {
-        len = len.saturating_add(row.bins.len());
+// The first of two places, if there is one.
+fn or_next(first: Option<u32>, next: Option<u32>) -> Option<u32>
+    ensures { result ≡ or_next first next }
+{
+    match first {
+        Some(place) => Some(place),
+        None => next,
     }
-    len
 }
 
-/// The cells of the rows.
-pub(crate) fn cells_of(alloc: Global, rows: &[Row]) -> Result<Vec<Cell>, AllocError>
-    ensures { IfOk result (λ cells. cells.items ≡ cells_of (see_rows rows.now)) }
+// Reads one row more.
+fn push_row<'a>(
+    rows: &mut Rows,
+    have: usize,
+    classes: u16,
+    bytes: &'a [u8],
+) -> Result<&'a [u8], BytesFault>
+    requires within { length bytes.now ≤ have }
+    requires small { have < 2 ^ 63 }
+    requires room { length rows.old.cells.items + 2 ^ 16 < 2 ^ 32 }
+    ensures reads { Gives (λ x. (see_rows rows.new, x.now)) result
+        (seen_as (with_row classes (see_rows rows.old)) row_at have bytes.now) }
+    ensures rest { IfOk result (λ x. length x.now ≤ length bytes.now) }
+    ensures few { IfOk result (λ _.
+        length rows.new.cells.items < length rows.old.cells.items + 2 ^ 16) }
 {
-    let mut cells = Vec::with_capacity(alloc, len_of(rows))?;
-    for row in rows {
-        add_row(&mut cells, row)?;
+    let (lo, rest) = u16_at(have, bytes)?;
+    let (count, rest) = u16_at(have, rest)?;
+    let start = rows.cells.len();
+    let rest = push_cells(&mut rows.cells, have, lo, count, rest)?;
+    let wrong = first_wrong_in(rows.from, classes, start as u32, lo, &rows.cells[start..]);
+    rows.from = u32::from(lo) + 1;
+    rows.wrong = or_next(rows.wrong, wrong);
+    Ok(rest)
+}
+
+/// So many rows over so many classes, as their cells and the first wrong place.
+pub(crate) fn rows_of(
+    alloc: Global,
+    have: usize,
+    classes: u16,
+    count: u16,
+    bytes: &[u8],
+) -> Result<(Rows, &[u8]), BytesFault>
+    requires within { length bytes.now ≤ have }
+    requires small { have < 2 ^ 63 }
+    ensures reads { Gives (λ x. ((x.0.cells.items, x.0.wrong), x.1.now)) result
+        (seen_as (with_rows classes no_rows) (times row_at count) have bytes.now) }
+    ensures rest { IfOk result (λ x. length x.1.now ≤ length bytes.now) }
+{
+    // A cell takes ten bytes, so that there is a place for each.
+    let mut rows = Rows {
+        cells: Vec::with_capacity(alloc, bytes.len() / 10)?,
+        from: 0,
+        wrong: None,
+    };
+    let mut rest = bytes;
+    for _ in 0..count {
+        let after = push_row(&mut rows, have, classes, rest)?;
+        rest = after;
     }
-    Ok(cells)
+    Ok((rows, rest))
 }
