@@ -4,8 +4,9 @@
 //! The layouts differ in the cells alone: one after the other, or in rows of one lower level.
 //!
 //! `encode` takes no memory and walks the cells once, row by row. `decode` goes from left to right
-//! over the bytes, and tells the first number that does not fit; then it tests the rules of the
-//! parts. Both directions meet: what is decoded has these bytes, and each body is taken.
+//! over the bytes, where rows become cells as they are read, and tells the first number that does
+//! not fit; then it tests the rules of the parts. Both directions meet: what is decoded has these
+//! bytes, and each body is taken.
 #![tactic(auto)]
 
 mod bin_lists;
