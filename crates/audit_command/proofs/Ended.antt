@@ -28,7 +28,7 @@ use Rattle.site_config.specs.declared.config.Config.{Config}
 use Rattle.site_config.specs.declared.config.Gauge.{Gauge}
 use Rattle.site_config.specs.declared.limits.TheConstants.{MAX_NAME_BYTES}
 use Rattle.site_report.proofs.Printed.{short_name}
-use Rattle.fault_lines.specs.FaultLine.{fault_line, name_for}
+use Rattle.fault_lines.specs.FaultLine.{name_for}
 use Rattle.site_config.specs.declared.fault.ConfigFault.{ConfigFault}
 use Rattle.recorded.specs.Recorded.{recorded}
 use Rattle.site_lanes.specs.Answers.{AllOpened, OpenAnswers}
@@ -246,10 +246,6 @@ unread_complete conf image files s is m sound read =
   where
     clash : {f : ConfigFault} {c : Config} → ◌≡◌ {A = Result Config ConfigFault} (Err f) (Ok c) → ⊥
     clash e = absurd cc
-
--- the line of a refused configuration has no name
-pub line_same : (s : Status) → IsRefusal s → (a b : List ℕ) → fault_line s a ≡ fault_line s b
-line_same s is a b = by_refusal (λ (x : Status). fault_line x a ≡ fault_line x b) (λ f. refl) refl refl s is
 
 pub unread_unprinted : (s : Status) → IsRefusal s → (c : Config) (old : List ℕ) → Prints s c old old
 unread_unprinted s is c old = by_refusal (λ (x : Status). Prints x c old old) (λ f. refl) refl refl s is

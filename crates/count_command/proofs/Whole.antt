@@ -8,7 +8,6 @@ use Rattle.site_config.specs.declared.fault.ConfigFault.{ConfigFault}
 use Rattle.recorded.specs.Recorded.{Recorded}
 use Rattle.count_command.specs.Holding.{HeldAt, HeldCut}
 use Rattle.count_command.specs.Printed.{Prints}
-use Rattle.fault_lines.specs.FaultLine.{fault_line}
 use Rattle.config_reading.specs.Reading.{MeansAs, IsRefusal}
 use Rattle.config_reading.proofs.Refusing.{by_refusal}
 use Rattle.count_command.specs.Answer.{CountAnswers}
@@ -68,7 +67,3 @@ cut_fewer r leaves leaves2 none DiskFault h = tt
 cut_fewer r leaves leaves2 none OutOfMemory h = tt
 cut_fewer r leaves leaves2 none (TooLong g) h = (λ c has. h c (none c has))
 cut_fewer r leaves leaves2 none (Differs g w x y) h = tt
-
--- before the configuration is known no line has a name
-pub line_read : (name : List ℕ) (s : Status) → IsRefusal s → fault_line s [] ≡ fault_line s name
-line_read name = by_refusal (λ (s : Status). fault_line s [] ≡ fault_line s name) (λ f. refl) refl refl

@@ -1,3 +1,4 @@
 pub mod Lengths
 pub mod FirstByte
 pub mod Telling
+pub mod Refused

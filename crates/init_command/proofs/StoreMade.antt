@@ -1,5 +1,5 @@
 -- What is there after a store was made or was refused, and what is answered.
-use Rattle.std.proofs.Common.{◌≡◌, ◌⊎◌, inl, inr, ℕ, List, [], ◌∷◌, ◌++◌, length, refl, sym, subst, arith}
+use Rattle.std.proofs.Common.{◌≡◌, ◌⊎◌, inl, inr, ℕ, List, [], length, refl, subst, arith}
 use Rattle.std.specs.Prelude.{Option, Some, Result, Ok, Err}
 use Rattle.outside.specs.Fault.{Rose}
 use Rattle.outside.specs.Site.{Files}
@@ -15,10 +15,7 @@ use Rattle.status.specs.declared.status.RecordingFault.{RecordingFault}
 use Rattle.status.specs.declared.status.StoreFault.TheVariants as store
 use Rattle.status.specs.declared.status.Status.{Status}
 use Rattle.status.specs.declared.status.Status.TheVariants.{Done, Usage, Config as BadConfig, Store, Recording, Torn, ReadFault, WriteFault, DiskFault, OutOfMemory, TooLong, Differs}
-use Rattle.config_reading.specs.Reading.{IsRefusal}
-use Rattle.config_reading.proofs.Refusing.{by_refusal}
-use Rattle.fault_lines.specs.FaultLine.{fault_line, name_for, name_by}
-use Rattle.fault_lines.specs.Telling.{EndsIn}
+use Rattle.fault_lines.specs.FaultLine.{name_for}
 use Rattle.init_command.specs.Heads.{HasHeadIn, HasFaultIn, AreHeads, AreSound}
 use Rattle.init_command.specs.Init.{AnswersBy, InitAnswers}
 use Rattle.init_command.specs.Making.{MakesBy, IsMaking}
@@ -44,16 +41,6 @@ no_name c ReadFault is = absurd is
 no_name c WriteFault is = absurd is
 no_name c (TooLong g) is = absurd is
 no_name c (Differs g what held found) is = absurd is
-
--- nor in what a refused configuration is answered with
-refused_name : (c : Config) (s : Status) → IsRefusal s → name_for c s ≡ []
-refused_name c = by_refusal (λ (s : Status). name_for c s ≡ []) (λ fault. refl) refl refl
-
-pub refused_line : (read : Result Config ConfigFault) (s : Status) (told told2 : Lines) → IsRefusal s → told2 ≡ told ++ fault_line s [] ∷ []
-    → EndsIn (fault_line s (name_by read s)) told2
-refused_line (Ok c) s told told2 is last =
-    subst (λ (name : List ℕ). EndsIn (fault_line s name) told2) (sym (refused_name c s is)) (told, last)
-refused_line (Err fault) s told told2 is last = (told, last)
 
 -- with all heads
 pub made_answer : (c : Config) (files : Files) (heads : List Head) (image : Image) (s : Status) → AreHeads c files heads →

@@ -6,9 +6,9 @@ use Rattle.site_config.specs.declared.config.Config.{Config}
 use Rattle.site_config.specs.declared.fault.ConfigFault.{ConfigFault}
 use Rattle.fault_lines.specs.FaultLine.{fault_line, name_for, name_by}
 use Rattle.fault_lines.specs.Telling.{EndsIn}
+use Rattle.fault_lines.proofs.Refused.{refused_line}
 use Rattle.file_tasks.specs.Answer.{IsPrinting}
 use Rattle.config_reading.specs.Reading.{IsRefusal}
-use Rattle.config_reading.proofs.Refusing.{by_refusal}
 use Rattle.status.specs.declared.status.Status.{Status}
 use Rattle.status.specs.declared.status.Status.TheVariants.{Done, Usage, Config as BadConfig, Store, Recording, Torn, ReadFault, WriteFault, DiskFault, OutOfMemory, TooLong, Differs}
 use Rattle.sheet_command.specs.Sheet.{MayAnswer}
@@ -50,13 +50,8 @@ line_told read c s name told told2 is named (inr last) =
     let same : name ≡ name_by read s = named ∙ sym (ap (λ (r : Result Config ConfigFault). name_by r s) is) in
     inr (told, last ∙ ap (λ (n : List ℕ). told ++ fault_line s n ∷ []) same)
 
--- a refused configuration has no gauge
-no_name : (c : Config) (s : Status) → IsRefusal s → name_for c s ≡ []
-no_name c = by_refusal (λ (s : Status). name_for c s ≡ []) (λ fault. refl) refl refl
-
 pub refused_told : {P : Type 0} (read : Result Config ConfigFault) (s : Status) (told told2 : Lines) → IsRefusal s →
     P ⊎ (told2 ≡ told ++ fault_line s [] ∷ [])
     → P ⊎ EndsIn (fault_line s (name_by read s)) told2
 refused_told read s told told2 k (inl p) = inl p
-refused_told (Ok c) s told told2 k (inr last) = inr (told, last ∙ ap (λ (n : List ℕ). told ++ fault_line s n ∷ []) (sym (no_name c s k)))
-refused_told (Err fault) s told told2 k (inr last) = inr (told, last)
+refused_told read s told told2 k (inr last) = inr (refused_line read s told told2 k last)

@@ -12,6 +12,7 @@ use Rattle.recorded.proofs.Asking.{first_read, none_is_first}
 use Rattle.fault_lines.specs.FaultLine.{fault_line, name_by}
 use Rattle.fault_lines.specs.Room.{FaultLineValue}
 use Rattle.fault_lines.specs.Telling.{TellsAtMost}
+use Rattle.fault_lines.proofs.Refused.{line_same}
 use Rattle.fault_lines.proofs.Telling.{quiet_tells}
 use Rattle.report_command.specs.Printing.{held_of}
 use Rattle.report_command.proofs.Ended.{unread_other}
@@ -19,7 +20,7 @@ use Rattle.report_command.proofs.Told.{last_after}
 use Rattle.audit_command.specs.Answers.{IsAudited}
 use Rattle.audit_command.specs.Audited.{Finds, IsStanding}
 use Rattle.audit_command.specs.Printing.{Prints}
-use Rattle.audit_command.proofs.Ended.{finds_unread, line_same, name_short, not_printed, over_config, unread_answer, unread_complete, unread_unprinted}
+use Rattle.audit_command.proofs.Ended.{finds_unread, name_short, not_printed, over_config, unread_answer, unread_complete, unread_unprinted}
 use Rattle.audit_command.proofs.AnswerKinds.{unread_named}
 use Rattle.audit_command.proofs.command.audit_command.Goals as goal
 use Rattle.lemmas.proofs.Outcomes.{same_ok}

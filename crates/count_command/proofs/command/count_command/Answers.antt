@@ -21,7 +21,8 @@ use Rattle.site_config.specs.declared.fault.ConfigFault.{ConfigFault}
 use Rattle.site_lanes.specs.Answers.{HeadsFit, AllSound}
 use Rattle.count_command.proofs.Complete.{done_or_memory, complete_read}
 use Rattle.count_command.proofs.AtEnd.{count_answers}
-use Rattle.count_command.proofs.Whole.{line_read, held_read, cut_read, prints_read, answers_read, not_done_read, not_write_read, not_disk_read, held_fewer, cut_fewer}
+use Rattle.count_command.proofs.Whole.{held_read, cut_read, prints_read, answers_read, not_done_read, not_write_read, not_disk_read, held_fewer, cut_fewer}
+use Rattle.fault_lines.proofs.Refused.{line_same}
 use Rattle.config_reading.specs.Reading.{IsRefusal}
 use Rattle.count_command.specs.Answer.{IsCounting}
 use Rattle.count_command.proofs.command.count_command.Goals as goal
@@ -159,8 +160,8 @@ returns-in_default-clause-last g c = λ tells reads other. ⊎_elim (λ rose. in
 pub returns-in-Err-clause-last : goal.returns-in-Err-clause-last
 returns-in-Err-clause-last g c = λ tells reads other.
     let told = g.K.Station.told in
-    let same = line_read (name_by (config_of_bytes (g.C.Source.left c.args.config.now)) c.in-Err.status) c.in-Err.status
-    c.in-Err.ensures.refusal in
+    let same = line_same c.in-Err.status c.in-Err.ensures.refusal []
+    (name_by (config_of_bytes (g.C.Source.left c.args.config.now)) c.in-Err.status) in
     ⊎_elim (λ rose. inl rose) (λ is. inr (told c.args.station.now, is ∙ ap (λ (l : List ℕ). told c.args.station.now ++ l ∷ []) same))
     (c.tell_fault.ensures.last tells other)
 

@@ -2,7 +2,8 @@ use Rattle.std.proofs.Common.{inl, inr, ⊎_elim}
 use Rattle.site_config.specs.Configuration.{config_of_bytes}
 use Rattle.recorded.specs.Asked.{names_in}
 use Rattle.recorded.proofs.Asking.{first_read, none_is_first}
-use Rattle.init_command.proofs.StoreMade.{refused_line, init_complete, answers_read}
+use Rattle.fault_lines.proofs.Refused.{refused_line}
+use Rattle.init_command.proofs.StoreMade.{init_complete, answers_read}
 use Rattle.init_command.proofs.command.init_command.Goals as goal
 
 pub returns-in-Ok-read_config-clause-complete : goal.returns-in-Ok-read_config-clause-complete
