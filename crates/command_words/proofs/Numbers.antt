@@ -6,18 +6,15 @@ use Rattle.std.specs.Char.{digit_value}
 use Rattle.std.specs.Str.Parse.{AllDigits, IsNumeral, digits_value, without_leading_plus}
 use Rattle.std.proofs.lemmas.Bool.{and_parts, cases_lt}
 use Rattle.std.proofs.lemmas.Bool.Decides.{nat_tests}
+use Rattle.lemmas.proofs.Lists.{list_all-digits}
 use Rattle.command_words.specs.Line.{is_numeral, within_limits, number_in}
-
-are_digits : (ds : List ℕ) → AllDigits 10 ds → list_all (λ d. nat_lt (digit_value d) 10) ds ≡ true
-are_digits [] h = refl
-are_digits (d ∷ ds) h = rw (lt-ltb (digit_value d) 10 h.0) (are_digits ds h.1)
 
 digits_of : (ds : List ℕ) → list_all (λ d. nat_lt (digit_value d) 10) ds ≡ true → AllDigits 10 ds
 digits_of [] e = tt
 digits_of (d ∷ ds) e = let (here, more) = and_parts _ _ e in (ltb-true _ _ here, digits_of ds more)
 
 numeral : (ds : List ℕ) → IsNumeral 10 ds → is_numeral ds ≡ true
-numeral ds h = rw (lt-ltb 0 (length ds) h.0, are_digits ds h.1) refl
+numeral ds h = rw (lt-ltb 0 (length ds) h.0, list_all-digits ds h.1) refl
 
 numeral_of : (ds : List ℕ) → is_numeral ds ≡ true → IsNumeral 10 ds
 numeral_of ds e = let (some, all) = and_parts _ _ e in (ltb-true _ _ some, digits_of ds all)

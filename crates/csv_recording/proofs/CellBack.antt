@@ -1,12 +1,13 @@
 -- The cell of a sample means the sample.
 use Rattle.std.proofs.Common.{◌≡◌, ◌≢◌, ℕ, suc, ◌<◌, ◌≤◌, Bool, true, false, ◌==◌, ◌&&◌, ℤ, pos, negsuc, neg_ℤ, List, [], ◌∷◌, length, nat_lt, Some, refl, inl, inr, arith, decimal, FitsSigned, w32, lt-ltb, le-leb, ne_eqb, eqb-true}
-use Rattle.std.specs.List.{list_all, list_any}
+use Rattle.std.specs.List.{list_any}
 use Rattle.std.specs.Char.{digit_value}
 use Rattle.std.specs.Str.Parse.{AllDigits, digits_value}
 use Rattle.std.proofs.lemmas.Bool.{cases_Bool, eqb-false}
 use Rattle.std.proofs.lemmas.Fmt.{decimal_is_IsNumeral, length-decimal-le}
 use Rattle.std.proofs.lemmas.List.{take_all}
 use Rattle.std.proofs.lemmas.Str.Parse.{digit_from_value}
+use Rattle.lemmas.proofs.Lists.{list_all-digits}
 use Rattle.csv_recording.specs.Cells.{missing, is_blank, means_missing, magnitude, reading_in, cell_sample, cell_text, without_blanks, without_blanks_before, length_before_blanks}
 
 -- digits that spell a magnitude
@@ -67,16 +68,12 @@ plain_digits : (ds : List ℕ) → AllDigits 10 ds → list_any is_blank ds ≡ 
 plain_digits [] h = refl
 plain_digits (c ∷ ds) h = rw (plain_digit c h.0, plain_digits ds h.1) refl
 
-digits_pass : (ds : List ℕ) → AllDigits 10 ds → list_all (λ d. nat_lt (digit_value d) 10) ds ≡ true
-digits_pass [] h = refl
-digits_pass (c ∷ ds) h = rw (lt-ltb (digit_value c) 10 h.0, digits_pass ds h.1) refl
-
 magnitude_is : (ds : List ℕ) (n : ℕ) → Spells ds n → magnitude ds ≡ Some n
 magnitude_is ds n s =
     let some = lt-ltb 0 (length ds) s.some in
     let few = le-leb (length ds) 10 s.few in
     let small = le-leb n 2147483647 s.small in
-    rw (some, few, digits_pass ds s.digits, s.value, small) refl
+    rw (some, few, list_all-digits ds s.digits, s.value, small) refl
 
 -- what begins with no `N` is not `NaN`
 means_reading : (c : ℕ) (text : List ℕ) → c ≢ 78 → means_missing (c ∷ text) ≡ false

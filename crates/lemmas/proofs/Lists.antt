@@ -8,14 +8,18 @@
 --   length-rewritten                 a buffer whose front was written; all_written: one that a slice wrote over
 --   length-append-le, length-cond-le, length-decimal_word   how long a text is at most
 --   get_or-behind, get_or-zeros      places; positive_within: what is past the end is 0
---   All-reverse, All-of_reverse, each_more     what holds of each item
+--   All-reverse, All-of_reverse, each_more     what holds of each item; All-front, All-behind: of a part's
+--   list_all-digits                  the test of each digit of a numeral
 --   below_positive, below_at, below_set_third   lists of numbers below a bound
-use Rattle.std.proofs.Common.{◌≡◌, ◌≢◌, ℕ, zero, suc, ◌+◌, ◌-◌, ◌<◌, ◌≤◌, ◌⊎◌, inl, inr, List, [], ◌∷◌, ◌++◌, length, take, drop, set, get_or, reverse, refl, sym, ap, ◌∙◌, subst, arith, append_assoc, take-append-drop, length-append, length-set, get_or-take, get_or-set_same, get_or-set_other, length-take-le, Bool, true, false, cond, ◌^◌, slice_index_or}
+use Rattle.std.proofs.Common.{◌≡◌, ◌≢◌, ℕ, zero, suc, ◌+◌, ◌-◌, ◌<◌, ◌≤◌, ◌⊎◌, inl, inr, List, [], ◌∷◌, ◌++◌, length, take, drop, set, get_or, reverse, refl, sym, ap, ◌∙◌, subst, arith, append_assoc, take-append-drop, length-append, length-set, get_or-take, get_or-set_same, get_or-set_other, length-take-le, Bool, true, false, cond, ◌^◌, slice_index_or, nat_lt, lt-ltb}
 use Rattle.std.specs.Prelude.{All, replicate}
+use Rattle.std.specs.List.{list_all}
+use Rattle.std.specs.Char.{digit_value}
+use Rattle.std.specs.Str.Parse.{AllDigits}
 use Rattle.std.proofs.lemmas.Bool.{cases_lt, cases_eq}
 use Rattle.std.proofs.lemmas.List.{take_more, take_more_set, take_at, drop-drop, take-append-le, reverse-append, reverse-reverse, get_or-replicate, get_or_past, length-replicate, take_all}
-use Rattle.std.proofs.lemmas.List.Elements.{All-head, All-tail, All-push}
-use Rattle.std.proofs.Math.Seq.{take-append-add, get_or-append_seam}
+use Rattle.std.proofs.lemmas.List.Elements.{All-head, All-tail, All-push, All-take, All-drop}
+use Rattle.std.proofs.Math.Seq.{take-append-add, get_or-append_seam, take-append_seam, drop-append_seam}
 use Rattle.std.proofs.Math.ListN.{get_or-append}
 use Rattle.std.specs.Fmt.{decimal}
 use Rattle.std.proofs.lemmas.Fmt.{length-decimal-le}
@@ -152,6 +156,18 @@ All-reverse P (x ∷ l) a =
 
 pub All-of_reverse : {X : Type 0} (P : X → Type 0) (l : List X) → All P (reverse l) → All P l
 All-of_reverse P l a = subst (All P) (reverse-reverse l) (All-reverse P (reverse l) a)
+
+-- what holds of each item holds of those in front, and of those behind
+pub All-front : {X : Type 0} (P : X → Type 0) (u v : List X) → All P (u ++ v) → All P u
+All-front P u v a = subst (All P) (take-append_seam u v) (All-take P (length u) (u ++ v) a)
+
+pub All-behind : {X : Type 0} (P : X → Type 0) (u v : List X) → All P (u ++ v) → All P v
+All-behind P u v a = subst (All P) (drop-append_seam u v) (All-drop P (length u) (u ++ v) a)
+
+-- digits pass the test of each
+pub list_all-digits : (ds : List ℕ) → AllDigits 10 ds → list_all (λ d. nat_lt (digit_value d) 10) ds ≡ true
+list_all-digits [] h = refl
+list_all-digits (d ∷ ds) h = rw (lt-ltb (digit_value d) 10 h.0) (list_all-digits ds h.1)
 
 -- a buffer that a slice wrote over
 pub all_written : {A : Type 0} → (old new : List A) (n : ℕ) → n ≡ length old → length new ≡ length old →

@@ -16,7 +16,8 @@ use Rattle.four_point.proofs.Inside.{chain_inside}
 use Rattle.repeating.proofs.Ending.{EndsIn, ends_here, ends_on, ends_points, ends_after, ends_chain}
 use Rattle.repeating.proofs.Cut.{chain_first}
 use Rattle.repeating.proofs.Widest.{Spans, rises, falls, widest, straight_up, straight_down}
-use Rattle.repeating.proofs.Below.{All-chain, All-front, All-behind}
+use Rattle.lemmas.proofs.Lists.{All-front, All-behind}
+use Rattle.repeating.proofs.Below.{All-chain}
 
 record Straight (f e : ℕ) (w : List ℕ) : Type 0 where
   pairs : List Pair

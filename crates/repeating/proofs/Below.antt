@@ -1,8 +1,7 @@
 -- What holds of each level of a list holds of each that deletions leave.
-use Rattle.std.proofs.Common.{ℕ, List, ◌∷◌, ◌++◌, length, subst}
+use Rattle.std.proofs.Common.{ℕ, List, ◌∷◌}
 use Rattle.std.specs.Prelude.{All}
-use Rattle.std.proofs.lemmas.List.Elements.{All-cons, All-head, All-tail, All-take, All-drop}
-use Rattle.std.proofs.Math.Seq.{take-append_seam, drop-append_seam}
+use Rattle.std.proofs.lemmas.List.Elements.{All-cons, All-head, All-tail}
 use Rattle.turning_points.specs.Pairs.{Pair}
 use Rattle.four_point.proofs.Drops.{Drops, here, past}
 use Rattle.four_point.proofs.Chain.{Chain, done, more}
@@ -16,10 +15,3 @@ All-drops P (past h {l} {x} {m} e) s = All-cons P h m (All-head P h l s) (All-dr
 pub All-chain : (P : ℕ → Type 0) {l m : List ℕ} {xs : List Pair} → Chain l xs m → All P l → All P m
 All-chain P done s = s
 All-chain P (more d c) s = All-chain P c (All-drops P d s)
-
--- the parts of a list
-pub All-front : (P : ℕ → Type 0) (u v : List ℕ) → All P (u ++ v) → All P u
-All-front P u v a = subst (All P) (take-append_seam u v) (All-take P (length u) (u ++ v) a)
-
-pub All-behind : (P : ℕ → Type 0) (u v : List ℕ) → All P (u ++ v) → All P v
-All-behind P u v a = subst (All P) (drop-append_seam u v) (All-drop P (length u) (u ++ v) a)

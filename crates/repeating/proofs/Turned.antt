@@ -13,7 +13,7 @@ use Rattle.repeating.specs.Repeating.{greatest, from_first, before_first, cycle_
 use Rattle.repeating.proofs.Ending.{EndsIn, ends_points, ends_behind}
 use Rattle.repeating.proofs.CutHistory.{cut_history}
 use Rattle.repeating.proofs.Halves.{closed_half}
-use Rattle.repeating.proofs.Below.{All-front, All-behind}
+use Rattle.lemmas.proofs.Lists.{All-front, All-behind}
 
 data Has (m : ℕ) : List ℕ → Type 0 where
   here : {x : ℕ} {h : List ℕ} → x ≡ m → Has m (x ∷ h)

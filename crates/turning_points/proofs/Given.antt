@@ -4,6 +4,7 @@
 use Rattle.std.proofs.Common.{ℕ, ◌≤◌, List, [], ◌∷◌, ◌++◌, length, sym, subst, arith}
 use Rattle.std.specs.Prelude.{All}
 use Rattle.std.proofs.lemmas.List.Elements.{All-nil, All-cons, All-head, All-tail}
+use Rattle.lemmas.proofs.Lists.{All-behind}
 use Rattle.turning_points.specs.Points.{points}
 use Rattle.turning_points.specs.Turned.{but_last, decided, HasGiven}
 use Rattle.turning_points.specs.declared.turner.Recent.{Recent}
@@ -31,10 +32,6 @@ length-decided (x ∷ y ∷ l) = omega (arith, length-but_last (y ∷ l))
 
 pub All-given : (P : ℕ → Type 0) {h given : List ℕ} {kept : Recent} → All P h → HasGiven h given kept → All P given
 All-given P {h} a t = subst (All P) (sym t.given_are) (All-decided P (points h) (All-points P h a))
-
-All-behind : (P : ℕ → Type 0) (u v : List ℕ) → All P (u ++ v) → All P v
-All-behind P [] v a = a
-All-behind P (x ∷ u) v a = All-behind P u v (All-tail P x (u ++ v) a)
 
 pub All-next_given : (P : ℕ → Type 0) {h : List ℕ} (given more : List ℕ) {kept : Recent} → All P h →
     HasGiven h (given ++ more) kept → All P more
