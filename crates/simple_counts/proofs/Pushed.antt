@@ -16,7 +16,7 @@ use Rattle.tables.proofs.Counting.{raise_at, sum_raise}
 use Rattle.simple_counts.proofs.Triples.{triples_join, range_side, extreme_side}
 use Rattle.simple_counts.proofs.PutLists.{range_below}
 use Rattle.turning_points.specs.declared.ends.TheConstants.{MAX_POINTS}
-use Rattle.turning_points.proofs.PushEnds.{five_same}
+use Rattle.turning_points.proofs.PushEnds.{five_same, differs_turn}
 use Rattle.simple_counts.proofs.ZeroRange.{range_positive, zero_set}
 
 pub data PushCase (x : ℕ) (e : EndPoints) : Type 0 where
@@ -151,9 +151,6 @@ module _ (v : SimpleValue) (x : ℕ) (i : IsSimple v) (h : x < v.classes) (p : v
   turn_at_three : (a b c d y : ℕ) → IsTurn c d y → c ≡ a → d ≡ b → (d ≡ b) × IsTurn a b y
   turn_at_three a b c d y t m n = (n, subst (λ w. IsTurn w b y) m (subst (λ w. IsTurn c w y) n t))
 
-  last_differs : (a b y : ℕ) → IsTurn a b y → b ≢ y
-  last_differs a b y t = grind arith
-
   rules_turn : 2 ≤ v.ends.points → IsTurn v.ends.before v.ends.last x →
       IsSimple (value v.classes v.reference (record {
         points = v.ends.points + 1;
@@ -179,7 +176,7 @@ module _ (v : SimpleValue) (x : ℕ) (i : IsSimple v) (h : x < v.classes) (p : v
         ends = record {
           none = λ s. absurd (omega arith);
           one = λ s. absurd (omega arith);
-          differ = λ s. ((i.ends.differ q).0, last_differs v.ends.before v.ends.last x t);
+          differ = λ s. ((i.ends.differ q).0, differs_turn v.ends.before v.ends.last x t);
           two = λ s. absurd (omega arith);
           three = λ s. let o = i.ends.two (omega arith) in turn_at_three v.ends.first v.ends.second v.ends.before v.ends.last x t o.0 o.1;
           below = (w.0, w.1, w.3, h);

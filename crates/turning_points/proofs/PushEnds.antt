@@ -92,7 +92,7 @@ end_passed : (x : ℕ) (e : EndPoints) → 3 ≤ e.points → IsBetween e.before
     ends_push x e ≡ record { points = e.points; first = e.first; second = e.second; before = e.before; last = x }
 end_passed x e h q = grind (arith, nat_tests)
 
-differs_turn : (p l x : ℕ) → IsTurn p l x → l ≢ x
+pub differs_turn : (p l x : ℕ) → IsTurn p l x → l ≢ x
 differs_turn p l x t = grind arith
 
 differs_passed : (p l x : ℕ) → IsBetween p l x → l ≢ x
