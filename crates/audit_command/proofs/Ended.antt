@@ -27,7 +27,7 @@ use Rattle.site_config.specs.Valid.{IsConfig, name_of, no_gauge}
 use Rattle.site_config.specs.declared.config.Config.{Config}
 use Rattle.site_config.specs.declared.config.Gauge.{Gauge}
 use Rattle.site_config.specs.declared.limits.TheConstants.{MAX_NAME_BYTES}
-use Rattle.site_report.proofs.Printed.{short_name}
+use Rattle.site_config.proofs.Named.{short_name}
 use Rattle.fault_lines.specs.FaultLine.{name_for}
 use Rattle.site_config.specs.declared.fault.ConfigFault.{ConfigFault}
 use Rattle.recorded.specs.Recorded.{recorded}

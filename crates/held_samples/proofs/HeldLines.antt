@@ -1,6 +1,6 @@
 -- A held line tells its gauge and its number back, and no fault line is one.
 use Rattle.std.proofs.Common.{◌≡◌, ◌≤◌, ◌<◌, ◌^◌, ℕ, List, [], ◌∷◌, ◌++◌, true, get_or, refl, sym, ◌∙◌, ap, subst, arith}
-use Rattle.std.specs.Prelude.{nat_le, length}
+use Rattle.std.specs.Prelude.{length}
 use Rattle.std.specs.List.{list_all}
 use Rattle.std.specs.Fmt.{decimal}
 use Rattle.site_config.specs.Fields.{is_in_limits, is_name, is_name_byte}
@@ -8,7 +8,7 @@ use Rattle.site_config.specs.declared.limits.TheConstants.{MAX_NAME_BYTES}
 use Rattle.recorded.specs.Recorded.{Recorded}
 use Rattle.held_samples.specs.Told.{held_line, IsBelow}
 use Rattle.std.proofs.lemmas.Fmt.{decimal_injective}
-use Rattle.std.proofs.lemmas.Bool.{and_parts, leb-true}
+use Rattle.std.proofs.lemmas.Bool.{and_parts}
 use Rattle.held_samples.specs.Going.{AreNames}
 
 space_no_letter : is_name_byte 32 ≡ true → ⊥
@@ -61,11 +61,6 @@ line_tells a b n m la lb nl ml is =
 
 has_letters : (name : List ℕ) → is_name name ≡ true → list_all is_name_byte name ≡ true
 has_letters name is = (and_parts (is_in_limits 1 MAX_NAME_BYTES (length name)) (list_all is_name_byte name) is).1
-
-pub is_short : (name : List ℕ) → is_name name ≡ true → length name ≤ MAX_NAME_BYTES
-is_short name is =
-    let within = (and_parts (is_in_limits 1 MAX_NAME_BYTES (length name)) (list_all is_name_byte name) is).0 in
-    leb-true (length name) MAX_NAME_BYTES (and_parts (nat_le 1 (length name)) (nat_le (length name) MAX_NAME_BYTES) within).1
 
 -- a held line of a number that is held
 pub held_below : (r : Recorded) → AreNames r.names r.gauges → (held : List ℕ) (g n : ℕ) → g < r.gauges → n < 2 ^ 64 → n ≤ get_or held g 0 →

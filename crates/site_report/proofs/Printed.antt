@@ -2,7 +2,6 @@
 use Rattle.std.proofs.Common.{◌≡◌, ◌<◌, ◌≤◌, ℕ, ◌+◌, ◌-◌, List, [], ◌∷◌, ◌++◌, length, take, drop, get_or, min, true, refl, sym, ap, ◌∙◌, subst, arith, append_assoc}
 use Rattle.std.specs.Prelude.{Result, Ok, Err, OnOk, OnErr}
 use Rattle.std.proofs.lemmas.List.{append-nil, at_drop_all, at_drop_more, take-append-le, take_min}
-use Rattle.std.proofs.lemmas.Bool.Decides.{nat_tests}
 use Rattle.std.proofs.Math.Seq.{take-append-add}
 use Rattle.outside.specs.Sink.{AppendsPrefix}
 use Rattle.report.specs.Lines.{lines_from}
@@ -13,7 +12,6 @@ use Rattle.calibration.specs.Grid.{GridValue}
 use Rattle.report.specs.Figures.{Figures}
 use Rattle.report.specs.Texts.{detail_text, gauge_text}
 use Rattle.report.proofs.Written.{lines_from-first, lines_from-none}
-use Rattle.site_config.specs.Fields.{is_name}
 use Rattle.site_config.specs.Valid.{name_of}
 use Rattle.site_report.specs.Report.{IsPrinted, detail_line, detail_lines, text_of_gauge}
 
@@ -43,9 +41,6 @@ printed_front old now new whole piece rest p (j, is) =
       is ∙ (ap (λ l. l ++ take j piece) p.written ∙
           (append_assoc old p.front (take j piece) ∙ ap (λ l. old ++ l) (sym cut))),
     )
-
-pub short_name : (name : List ℕ) → is_name name ≡ true → length name ≤ 32
-short_name name is = grind (arith, nat_tests, is)
 
 -- the next of the lines of some details
 pub details_next : (c : Config) (ds : List NamedDetail) (fs : List Frac) (i : ℕ) (d : NamedDetail) (f : Frac) →

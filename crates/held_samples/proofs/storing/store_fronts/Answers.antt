@@ -4,9 +4,8 @@ use Rattle.store_head.specs.Head.{HeadValue}
 use Rattle.segment_store.specs.Held.{ends_of}
 use Rattle.site_config.specs.declared.limits.TheConstants.{MAX_NAME_BYTES}
 use Rattle.site_config.specs.Valid.{name_of}
-use Rattle.site_config.proofs.Named.{name_is}
+use Rattle.site_config.proofs.Named.{name_is, short_name}
 use Rattle.recorded.specs.Recorded.{recorded}
-use Rattle.held_samples.proofs.HeldLines.{is_short}
 use Rattle.held_samples.proofs.Going.{going_starts, going_then, same_lines, round_more}
 use Rattle.held_samples.proofs.Fronts.{are_names, held_before, told_named, not_same, not_same_after}
 use Rattle.held_samples.proofs.storing.store_fronts.Goals as goal
@@ -49,7 +48,7 @@ pub store_gauge-requires-clause-short : goal.store_gauge-requires-clause-short
 store_gauge-requires-clause-short g c =
     let known : c.loop-gauge.gauge < length c.args.conf.now.gauges = omega (arith, ap length c.as_slice-gauge-end.ensures) in
     let name = name_is c.args.conf.now c.loop-gauge.gauge _ _ _ known c.as_slice.ensures c.as_str-name.ensures in
-    subst (λ (l : List ℕ). length l ≤ MAX_NAME_BYTES) name (is_short (name_of c.args.conf.now c.loop-gauge.gauge)
+    subst (λ (l : List ℕ). length l ≤ MAX_NAME_BYTES) name (short_name (name_of c.args.conf.now c.loop-gauge.gauge)
     (c.requires.conf.names c.loop-gauge.gauge known))
 
 pub returns-in_err-store_gauge-clause-going : goal.returns-in_err-store_gauge-clause-going

@@ -3,10 +3,10 @@ use Rattle.outside.specs.Sink.{AppendsPrefix}
 use Rattle.calibration.specs.declared.setup.Setup.{Setup}
 use Rattle.lemmas.proofs.Outcomes.{on_err}
 use Rattle.site_config.specs.Valid.{name_of}
-use Rattle.site_config.proofs.Named.{name_is}
+use Rattle.site_config.proofs.Named.{name_is, short_name}
 use Rattle.site_report.specs.Report.{gauge_lines, text_of_gauge}
 use Rattle.site_report.proofs.HeldFigures.{agree_held}
-use Rattle.site_report.proofs.Printed.{lines_more, lines_front, lines_whole, lines_start, short_name, text_is}
+use Rattle.site_report.proofs.Printed.{lines_more, lines_front, lines_whole, lines_start, text_is}
 use Rattle.site_report.proofs.printing.print_gauges.Goals as goal
 
 pub print_gauge-requires-clause-name : goal.print_gauge-requires-clause-name
