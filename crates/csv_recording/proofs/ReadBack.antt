@@ -10,14 +10,14 @@ use Rattle.std.specs.Int.{w32, to_le_bytes}
 use Rattle.std.proofs.lemmas.Int.{fits_signed_from_abs}
 use Rattle.std.proofs.lemmas.List.{take_at, drop_at, length-append}
 use Rattle.std.proofs.lemmas.Nat.{from_le_bytes-to_le_bytes_4}
-use Rattle.recording.specs.Head.{head_bytes, head_in, recording_head}
+use Rattle.recording.specs.Head.{IsRecorded, head_bytes, head_in, recording_head}
 use Rattle.recording.specs.Samples.{sample, samples, torn_bytes, sample_bytes}
 use Rattle.recording.specs.declared.head.Head.{Head}
 use Rattle.recording.specs.declared.head.HeadFault.TheVariants.{Short}
 use Rattle.recording.proofs.Groups.{samples-group, torn_bytes-group, bytes_of, length-bytes_of, sample-bytes_of}
 use Rattle.csv_recording.specs.Cells.{missing, magnitude, reading_in, cell_sample, means_missing, without_blanks}
 use Rattle.csv_recording.specs.Column.{◌>>=◌, present, place_of, records_of, column_in, samples_of_rows, sample_of_row}
-use Rattle.csv_recording.specs.Recording.{recording_bytes, ReadsAs, IsHead, ReadsAsWritten}
+use Rattle.csv_recording.specs.Recording.{recording_bytes, ReadsAs, ReadsAsWritten}
 use Rattle.csv_recording.specs.declared.columns.ColumnFault.{ColumnFault}
 use Rattle.csv_recording.specs.declared.columns.ColumnFault.TheVariants.{NoColumn, ShortRow, Cell}
 
@@ -38,7 +38,7 @@ torn_bytes-bytes [] = refl
 torn_bytes-bytes (v ∷ w) = torn_bytes-group (bytes_of v) (sample_bytes w) (length-bytes_of v) ∙ torn_bytes-bytes w
 
 -- a head
-length-head_bytes : (head : Head) → IsHead head → length (head_bytes head) ≡ 32
+length-head_bytes : (head : Head) → IsRecorded head → length (head_bytes head) ≡ 32
 length-head_bytes head is = omega (
   arith,
   is.id,
@@ -49,7 +49,7 @@ length-head_bytes head is = omega (
 tail-head_bytes : (id word : List ℕ) → length id ≡ 16 → length word ≡ 4 → drop 20 (id ++ word ++ 0 ∷ 0 ∷ 0 ∷ 0 ∷ []) ≡ 0 ∷ 0 ∷ 0 ∷ 0 ∷ []
 tail-head_bytes id word long four = drop_at (id ++ word) (0 ∷ 0 ∷ 0 ∷ 0 ∷ []) 20 (length-append id word ∙ omega (arith, long, four))
 
-head-head_bytes : (head : Head) → IsHead head → head_in (head_bytes head) ≡ Ok head
+head-head_bytes : (head : Head) → IsRecorded head → head_in (head_bytes head) ≡ Ok head
 head-head_bytes head is =
     let word = to_le_bytes w32 head.period_us in
     let zeros : List ℕ = 0 ∷ 0 ∷ 0 ∷ 0 ∷ [] in
@@ -149,7 +149,7 @@ column-fits name (header ∷ rows) w is = go (place_of name header) is
     go None is = absurd (cc)
     go (Some place) is = rows-fit place 0 rows w is
 
-reads_as : (head : Head) (w : List ℤ) → IsHead head → AllFit w → ReadsAs (recording_bytes head w) head w
+reads_as : (head : Head) (w : List ℤ) → IsRecorded head → AllFit w → ReadsAs (recording_bytes head w) head w
 reads_as head w is fits =
     let front = length-head_bytes head is in
     let behind : drop 32 (recording_bytes head w) ≡ sample_bytes w = drop_at (head_bytes head) (sample_bytes w) 32 front in

@@ -2,8 +2,8 @@
 --   recording_bytes   the recording with a head and samples
 --   ReadsAs           a file reads as a head and samples
 --   ReadsAsWritten         the recording of a column reads as the column's samples
-use Rattle.std.specs.Prelude.{◌≡◌, ◌<◌, ◌^◌, ℕ, ℤ, List, ◌++◌, length, drop, Ok}
-use Rattle.recording.specs.Head.{head_bytes, recording_head}
+use Rattle.std.specs.Prelude.{◌≡◌, ℕ, ℤ, List, ◌++◌, drop, Ok}
+use Rattle.recording.specs.Head.{IsRecorded, head_bytes, recording_head}
 use Rattle.recording.specs.Samples.{samples, torn_bytes, sample_bytes}
 use Rattle.recording.specs.declared.head.Head.{Head}
 use Rattle.csv_recording.specs.Column.{column_of}
@@ -17,11 +17,6 @@ pub record ReadsAs (file : List ℕ) (head : Head) (values : List ℤ) : Type 0 
   pub samples_are : samples (drop 32 file) ≡ values
   pub whole : torn_bytes (drop 32 file) ≡ 0
 
--- sixteen bytes, and a number of 32 bits
-pub record IsHead (head : Head) : Type 0 where
-  pub id : length head.id ≡ 16
-  pub period : head.period_us < 2 ^ 32
-
 abbrev pub ReadsAsWritten : Type 0
-ReadsAsWritten = (head : Head) (name text : List ℕ) (w : List ℤ) → IsHead head → column_of name text ≡ Ok w →
+ReadsAsWritten = (head : Head) (name text : List ℕ) (w : List ℤ) → IsRecorded head → column_of name text ≡ Ok w →
     ReadsAs (recording_bytes head w) head w

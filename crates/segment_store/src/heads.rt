@@ -14,11 +14,11 @@ ghost use Rattle.std.specs.Prelude.{
 };
 ghost use Rattle.calibration.specs.Gain.{IsGain};
 ghost use Rattle.segment_bytes.specs.declared.layout.Layout.TheVariants.{One};
+ghost use Rattle.recording.specs.Head.{IsRecorded};
 ghost use Rattle.store_head.specs.Head.{
   front,
   gauge as gauge_bytes,
   gauges as gauges_bytes,
-  IsRecorded,
 };
 ghost use Rattle.store_head.specs.Judging.{
   start_fault,

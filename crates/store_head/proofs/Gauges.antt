@@ -7,7 +7,8 @@ use Rattle.calibration.specs.Gain.{GainValue, IsGain}
 use Rattle.calibration.specs.declared.setup.Setup.{Setup}
 use Rattle.recording.specs.declared.head.Head.{Head}
 use Rattle.store_head.specs.declared.fault.HeadFault.{HeadFault}
-use Rattle.store_head.specs.Head.{HeadValue, IsRecorded, front, gauge, gauges, head_of, start_of}
+use Rattle.recording.specs.Head.{IsRecorded}
+use Rattle.store_head.specs.Head.{HeadValue, front, gauge, gauges, head_of, start_of}
 use Rattle.store_head.specs.Judging.{or_else, gauge_fault, gauge_at, gauges_fault}
 
 -- what stands between two parts

@@ -18,7 +18,8 @@ use Rattle.segment_bytes.proofs.Formats.{IsBytes}
 use Rattle.store_head.specs.declared.fault.Field.{Field}
 use Rattle.store_head.specs.declared.fault.HeadFault.{HeadFault}
 use Rattle.calibration.specs.declared.setup.Setup.{Setup}
-use Rattle.store_head.specs.Head.{IsSetup, version_of, front, numbers, gauge, IsRecorded}
+use Rattle.recording.specs.Head.{IsRecorded}
+use Rattle.store_head.specs.Head.{IsSetup, version_of, front, numbers, gauge}
 use Rattle.store_head.specs.Judging.{number, signed_number, or_else, unless, differs, is_version, layout_of, front_fault, gauge_fault, recorded}
 
 -- ---- tests

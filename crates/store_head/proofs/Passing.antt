@@ -8,7 +8,8 @@ use Rattle.calibration.specs.Gain.{GainValue, IsGain}
 use Rattle.recording.specs.declared.head.Head.{Head}
 use Rattle.segment_bytes.specs.declared.layout.Layout.{Layout}
 use Rattle.segment_bytes.specs.declared.layout.Layout.TheVariants.{One, Two}
-use Rattle.store_head.specs.Head.{HeadValue, IsHead, IsRecorded, version_of, front, numbers, gauge, gauges, head_of, start_of}
+use Rattle.recording.specs.Head.{IsRecorded}
+use Rattle.store_head.specs.Head.{HeadValue, IsHead, version_of, front, numbers, gauge, gauges, head_of, start_of}
 use Rattle.store_head.specs.Judging.{or_else, unless, front_fault, gauge_fault, gauge_at, gauges_fault, head_fault, layout_in, recorded}
 use Rattle.store_head.proofs.Judged.{none_or, none_unless, is_front, is_gauge}
 use Rattle.store_head.proofs.Gauges.{slice_range-middle}

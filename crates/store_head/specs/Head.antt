@@ -4,12 +4,13 @@
 --    5   the version, 1 or 2, by the layout of its bodies
 --    6   the number of gauges, the classes, the width, the lower end, the reference boundary
 --   22   for each gauge: the id, the period, the gain
-use Rattle.std.specs.Prelude.{◌≡◌, ◌<◌, ◌≤◌, ◌^◌, ◌+◌, ◌*◌, ℕ, List, [], ◌∷◌, ◌++◌, length, All}
+use Rattle.std.specs.Prelude.{◌≡◌, ◌≤◌, ◌+◌, ◌*◌, ℕ, List, [], ◌∷◌, ◌++◌, length, All}
 use Rattle.std.specs.Int.{w16, w32, w64, to_be_bytes, cast_unsigned}
 use Rattle.calibration.specs.Gain.{GainValue, IsGain}
 use Rattle.calibration.specs.Grid.{GridValue, IsGrid}
 use Rattle.segment_bytes.specs.declared.layout.Layout.{Layout}
 use Rattle.segment_bytes.specs.declared.layout.Layout.TheVariants.{One, Two}
+use Rattle.recording.specs.Head.{IsRecorded}
 use Rattle.recording.specs.declared.head.Head.{Head}
 use Rattle.calibration.specs.declared.setup.Setup.{Setup}
 use Rattle.store_head.specs.declared.setup.StoreHead.{StoreHead}
@@ -58,11 +59,6 @@ gauges (h ∷ hs) (g ∷ gs) = gauge h g ++ gauges hs gs
 
 abbrev pub head_of : HeadValue → List ℕ
 head_of h = front h.layout h.setup ++ gauges h.heads h.setup.gains
-
--- an id has 16 bytes, and a period fits its field
-pub record IsRecorded (h : Head) : Type 0 where
-  pub id : length h.id ≡ 16
-  pub period : h.period_us < 2 ^ 32
 
 pub record IsSetup (s : Setup) : Type 0 where
   pub grid : IsGrid s.grid

@@ -2,9 +2,9 @@ ghost use Rattle.std.specs.Prelude.{◌≡◌, ◌≤◌, ◌+◌, ◌*◌, ◌+
 ghost use Rattle.calibration.specs.Gain.{IsGain};
 ghost use Rattle.calibration.specs.Grid.{IsGrid};
 ghost use Rattle.segment_bytes.specs.declared.layout.Layout.TheVariants.{One};
+ghost use Rattle.recording.specs.Head.{IsRecorded};
 ghost use Rattle.store_head.specs.Head.{
   IsHead,
-  IsRecorded,
   empty_store,
   front as front_bytes,
   gauge as gauge_bytes,

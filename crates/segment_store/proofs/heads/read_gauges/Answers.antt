@@ -3,7 +3,8 @@ use Rattle.std.specs.Prelude.{None, All}
 use Rattle.std.proofs.lemmas.List.{drop_more, take_more}
 use Rattle.std.proofs.lemmas.List.Elements.{All-push}
 use Rattle.calibration.specs.Gain.{IsGain}
-use Rattle.store_head.specs.Head.{gauge, gauges, IsRecorded}
+use Rattle.recording.specs.Head.{IsRecorded}
+use Rattle.store_head.specs.Head.{gauge, gauges}
 use Rattle.store_head.specs.Judging.{gauge_fault, gauge_at}
 use Rattle.store_head.proofs.Gauges.{fault_next, bytes_more}
 use Rattle.segment_store.proofs.Quiet.{quiet_then}

@@ -1,7 +1,8 @@
 use Rattle.std.proofs.Common.{◌≡◌, ◌≤◌, ◌+◌, ◌*◌, length, take, drop, slice_range}
 use Rattle.std.specs.Prelude.{All}
 use Rattle.calibration.specs.Gain.{IsGain}
-use Rattle.store_head.specs.Head.{gauges, IsRecorded}
+use Rattle.recording.specs.Head.{IsRecorded}
+use Rattle.store_head.specs.Head.{gauges}
 use Rattle.store_head.specs.Judging.{gauges_fault}
 use Rattle.segment_store.specs.Quiet.{IsQuiet}
 use Rattle.segment_store.proofs.heads.read_gauges.Given as goal

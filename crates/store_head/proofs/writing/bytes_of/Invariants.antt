@@ -1,7 +1,8 @@
 use Rattle.std.proofs.Common.{◌≡◌, ◌+◌, ◌*◌, ◌++◌, length, take}
 use Rattle.std.specs.Prelude.{All}
 use Rattle.calibration.specs.Gain.{IsGain}
-use Rattle.store_head.specs.Head.{IsRecorded, front, gauges}
+use Rattle.recording.specs.Head.{IsRecorded}
+use Rattle.store_head.specs.Head.{front, gauges}
 use Rattle.store_head.proofs.writing.bytes_of.Given as goal
 
 abbrev pub invariant-loop-gauge : goal.invariant-loop-gauge
