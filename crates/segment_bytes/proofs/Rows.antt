@@ -1,8 +1,10 @@
 -- Cells in rows, and back.
 use Rattle.std.proofs.Common.{◌≡◌, ◌≢◌, ◌⊎◌, inl, inr, ℕ, suc, ◌+◌, ◌-◌, ◌<◌, ◌≤◌, Bool, true, false, if◌then◌else◌, ◌==◌, nat_le, nat_lt, ◌&&◌, List, [], ◌∷◌, ◌++◌, map, length, refl, sym, ap, subst, ◌∙◌, arith}
 use Rattle.std.specs.Prelude.{Option, Some, None}
+use Rattle.std.specs.Option.{option_or}
 use Rattle.std.proofs.lemmas.Bool.{cases_eq}
 use Rattle.std.proofs.lemmas.Bool.Decides.{nat_tests}
+use Rattle.lemmas.proofs.Outcomes.{both_none, none_passed}
 use Rattle.tally.specs.declared.cells.Cell.{Cell}
 use Rattle.tally.specs.declared.cells.Bin.{Bin}
 use Rattle.tally.specs.Counts.{IsCell}
@@ -11,7 +13,7 @@ use Rattle.segment_rules.specs.Tests.{wrong_bin}
 use Rattle.segment_rules.proofs.Booleans.{both_true, true_both, less_of, less_true, at_most_of, at_most_true}
 use Rattle.segment_rules.proofs.CellsFrom.{IsFrom, AreCellsFrom}
 use Rattle.segment_rules.proofs.Ordered.{bins_kept, kept_bins}
-use Rattle.segment_bytes.specs.Rows.{RowValue, cell_in, cells_of, bin_of, before_rows, rows_of, AreRowsFrom, or_next, wrong_row}
+use Rattle.segment_bytes.specs.Rows.{RowValue, cell_in, cells_of, bin_of, before_rows, rows_of, AreRowsFrom, wrong_row}
 
 same_lo : (x y : ℕ) → x ≡ y → (x == y) ≡ true
 same_lo x y e = grind (arith, nat_tests)
@@ -139,21 +141,13 @@ rows_are classes cs a = rows_from 0 classes cs a
 
 -- ---- the test of rows
 
-none_next : (o p : Option ℕ) → or_next o p ≡ None → (o ≡ None) × (p ≡ None)
-none_next None p e = (refl, e)
-none_next (Some i) p e = absurd cc
-
-none_cond : (b : Bool) (o : Option ℕ) (i : ℕ) → (if b then o else Some i) ≡ None → (b ≡ true) × (o ≡ None)
-none_cond true o i e = (refl, e)
-none_cond false o i e = absurd cc
-
 pub rows_ok : (from classes index : ℕ) (rs : List RowValue) → wrong_row from classes index rs ≡ None → AreRowsFrom from classes rs
 rows_ok from classes index [] e = tt
 rows_ok from classes index (r ∷ rs) e =
-    let t = none_cond (nat_le from r.lo && nat_lt 0 (length r.bins))
-    (or_next (wrong_bin (r.lo + 1) classes index r.bins) (wrong_row (r.lo + 1) classes (index + length r.bins) rs)) index e in
+    let t = none_passed (nat_le from r.lo && nat_lt 0 (length r.bins))
+    (option_or (wrong_bin (r.lo + 1) classes index r.bins) (wrong_row (r.lo + 1) classes (index + length r.bins) rs)) index e in
     let b = both_true (nat_le from r.lo) (nat_lt 0 (length r.bins)) t.0 in
-    let n = none_next (wrong_bin (r.lo + 1) classes index r.bins) (wrong_row (r.lo + 1) classes (index + length r.bins) rs) t.1 in (
+    let n = both_none (wrong_bin (r.lo + 1) classes index r.bins) (wrong_row (r.lo + 1) classes (index + length r.bins) rs) t.1 in (
       at_most_of from r.lo b.0,
       less_of 0 (length r.bins) b.1,
       bins_kept (r.lo + 1) classes index r.bins n.0,
@@ -163,10 +157,10 @@ rows_ok from classes index (r ∷ rs) e =
 pub ok_rows : (from classes index : ℕ) (rs : List RowValue) → AreRowsFrom from classes rs → wrong_row from classes index rs ≡ None
 ok_rows from classes index [] a = refl
 ok_rows from classes index (r ∷ rs) a =
-    ap (λ b. (if b then or_next (wrong_bin (r.lo + 1) classes index r.bins)
+    ap (λ b. (if b then option_or (wrong_bin (r.lo + 1) classes index r.bins)
     (wrong_row (r.lo + 1) classes (index + length r.bins) rs) else Some index))
     (true_both (nat_le from r.lo) (nat_lt 0 (length r.bins)) (at_most_true from r.lo a.0) (less_true 0 (length r.bins) a.1))
-    ∙ ap (λ o. or_next o (wrong_row (r.lo + 1) classes (index + length r.bins) rs)) (kept_bins (r.lo + 1) classes index r.bins a.2)
+    ∙ ap (λ o. option_or o (wrong_row (r.lo + 1) classes (index + length r.bins) rs)) (kept_bins (r.lo + 1) classes index r.bins a.2)
     ∙ ok_rows (r.lo + 1) classes (index + length r.bins) rs a.3
 
 -- ---- how many rows there are, and how many cells they have

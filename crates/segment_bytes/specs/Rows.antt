@@ -4,6 +4,7 @@
 --   AreRowsFrom    rows that ascend strictly from a level on, none empty, and the cells of each ascend
 --   wrong_row      the place of the first cell, or row, that breaks this
 use Rattle.std.specs.Prelude.{◌+◌, ◌<◌, ◌≤◌, ◌==◌, ◌&&◌, nat_lt, nat_le, if◌then◌else◌, ℕ, List, [], ◌∷◌, ◌++◌, map, length, Option, Some, None}
+use Rattle.std.specs.Option.{option_or}
 use Rattle.tally.specs.declared.cells.Cell.{Cell}
 use Rattle.tally.specs.declared.cells.Bin.{Bin}
 use Rattle.tables.specs.Bins.{AreBinsFrom}
@@ -42,14 +43,10 @@ AreRowsFrom from classes (r ∷ rs) =
     (from ≤ r.lo) × (0 < length r.bins) × AreBinsFrom (r.lo + 1) classes r.bins × AreRowsFrom
     (r.lo + 1) classes rs
 
-abbrev pub or_next : Option ℕ → Option ℕ → Option ℕ
-or_next None next = next
-or_next (Some place) next = Some place
-
 -- by the number of cells before it, from `index` on
 abbrev pub wrong_row : ℕ → ℕ → ℕ → List RowValue → Option ℕ
 wrong_row from classes index [] = None
 wrong_row from classes index (r ∷ rs) =
     if nat_le from r.lo && nat_lt 0 (length r.bins)
-    then or_next (wrong_bin (r.lo + 1) classes index r.bins) (wrong_row (r.lo + 1) classes (index + length r.bins) rs)
+    then option_or (wrong_bin (r.lo + 1) classes index r.bins) (wrong_row (r.lo + 1) classes (index + length r.bins) rs)
     else Some index

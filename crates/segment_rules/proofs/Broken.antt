@@ -6,7 +6,8 @@ use Rattle.segment_rules.specs.declared.rule.BrokenRule.{BrokenRule}
 use Rattle.segment_rules.specs.Parts.{PartsValue}
 use Rattle.segment_rules.specs.Rules.{IsOrdered, IsSegment}
 use Rattle.segment_rules.specs.Tests.{order_broken, first_unordered, first_unended, first_broken}
-use Rattle.segment_rules.proofs.Chosen.{both_none, none_both, no_place, kept, kept_none}
+use Rattle.lemmas.proofs.Outcomes.{both_none, none_both}
+use Rattle.segment_rules.proofs.Chosen.{no_place, kept, kept_none}
 use Rattle.segment_rules.proofs.Ordered.{cells_kept, kept_cells, bins_kept, kept_bins}
 use Rattle.segment_rules.proofs.Residues.{residue_of, residue_true}
 use Rattle.segment_rules.proofs.Ended.{ended_of, ended_true}

@@ -6,6 +6,7 @@ use Rattle.tally.specs.declared.cells.Cell.{Cell}
 use Rattle.tally.specs.declared.cells.Bin.{Bin}
 use Rattle.tally.specs.Counts.{IsCell}
 use Rattle.tables.specs.Bins.{AreBinsFrom}
+use Rattle.lemmas.proofs.Outcomes.{none_passed}
 use Rattle.segment_rules.specs.Rules.{AreCells}
 use Rattle.segment_rules.specs.Tests.{is_cell_from, wrong_cell, is_bin_from, wrong_bin}
 use Rattle.segment_rules.proofs.CellsFrom.{IsFrom, AreCellsFrom, cells_in_order, are_cells}
@@ -25,14 +26,10 @@ bin_of from to b e = grind (arith, nat_tests)
 bin_true : (from to : ℕ) (b : Bin) → from ≤ b.key → b.key < to → 0 < b.n → is_bin_from from to b ≡ true
 bin_true from to b a d e = grind (arith, nat_tests)
 
-passed : (b : Bool) (o : Option ℕ) (i : ℕ) → (if b then o else Some i) ≡ None → (b ≡ true) × (o ≡ None)
-passed true o i e = (refl, e)
-passed false o i e = absurd cc
-
 cells_from : (lo hi k i : ℕ) (cs : List Cell) → wrong_cell lo hi k i cs ≡ None → AreCellsFrom lo hi k cs
 cells_from lo hi k i [] e = tt
 cells_from lo hi k i (c ∷ cs) e =
-    let t = passed (is_cell_from lo hi k c) (wrong_cell c.lo (c.hi + 1) k (i + 1) cs) i e in
+    let t = none_passed (is_cell_from lo hi k c) (wrong_cell c.lo (c.hi + 1) k (i + 1) cs) i e in
     let o = cell_of lo hi k c t.0 in
     (o.0, o.1, cells_from c.lo (c.hi + 1) k (i + 1) cs t.1)
 
@@ -51,7 +48,7 @@ kept_cells k cs a = no_cell_wrong 0 0 k 0 cs (cells_in_order k cs a)
 pub bins_kept : (from to i : ℕ) (bs : List Bin) → wrong_bin from to i bs ≡ None → AreBinsFrom from to bs
 bins_kept from to i [] e = tt
 bins_kept from to i (b ∷ bs) e =
-    let t = passed (is_bin_from from to b) (wrong_bin (b.key + 1) to (i + 1) bs) i e in
+    let t = none_passed (is_bin_from from to b) (wrong_bin (b.key + 1) to (i + 1) bs) i e in
     let o = bin_of from to b t.0 in
     (o.0, o.1.0, o.1.1, bins_kept (b.key + 1) to (i + 1) bs t.1)
 

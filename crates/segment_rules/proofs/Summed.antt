@@ -10,7 +10,8 @@ use Rattle.recording.specs.declared.TheConstants.{MAX_SAMPLES}
 use Rattle.segment_rules.specs.Parts.{PartsValue}
 use Rattle.segment_rules.specs.Rules.{IsSummed}
 use Rattle.segment_rules.specs.Tests.{first_unsummed}
-use Rattle.segment_rules.proofs.Chosen.{both_none, none_both, kept, kept_none}
+use Rattle.lemmas.proofs.Outcomes.{both_none, none_both}
+use Rattle.segment_rules.proofs.Chosen.{kept, kept_none}
 use Rattle.segment_rules.proofs.Ended.{end_ranges_of, end_ranges_true}
 
 span_of : (a b : ℕ) → (nat_le a b && nat_le b MAX_SAMPLES) ≡ true → (a ≤ b) × (b ≤ MAX_SAMPLES)

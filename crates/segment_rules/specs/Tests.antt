@@ -7,6 +7,7 @@
 --   first_broken            of all
 use Rattle.std.specs.Prelude.{◌+◌, ◌-◌, ◌*◌, ℕ, Bool, true, ◌&&◌, ◌||◌, ◌==◌, not, nat_lt, nat_le, if◌then◌else◌, List, [], ◌∷◌, length, slice_index, Option, Some, None}
 use Rattle.std.specs.List.{list_all}
+use Rattle.std.specs.Option.{option_or}
 use Rattle.tally.specs.declared.cells.Cell.{Cell}
 use Rattle.tally.specs.declared.cells.Bin.{Bin}
 use Rattle.tally.specs.Counts.{is_from, total_of}
@@ -93,42 +94,37 @@ has_ends classes e r =
 
 -- ---- the first broken rule
 
--- the first, or else the second
-abbrev pub or_else : Option BrokenRule → Option BrokenRule → Option BrokenRule
-or_else None second = second
-or_else (Some rule) second = Some rule
-
 abbrev pub order_broken : ℕ → Option ℕ → Option BrokenRule
 order_broken list None = None
 order_broken list (Some index) = Some (Order list index)
 
-abbrev pub unless : Bool → BrokenRule → Option BrokenRule
-unless kept rule = if kept then None else Some rule
+abbrev pub unless : {F : Type 0} → Bool → F → Option F
+unless kept fault = if kept then None else Some fault
 
 unfoldable pub first_unordered : GridValue → PartsValue → Option BrokenRule
 first_unordered g p =
-    or_else (order_broken 0 (wrong_cell 0 0 g.classes 0 p.cells))
-    (or_else (order_broken 1 (wrong_bin 1 g.classes 0 p.crossings))
-    (or_else (order_broken 2 (wrong_bin g.reference g.classes 0 p.peaks))
-    (or_else (order_broken 3 (wrong_bin 0 g.reference 0 p.valleys))
+    option_or (order_broken 0 (wrong_cell 0 0 g.classes 0 p.cells))
+    (option_or (order_broken 1 (wrong_bin 1 g.classes 0 p.crossings))
+    (option_or (order_broken 2 (wrong_bin g.reference g.classes 0 p.peaks))
+    (option_or (order_broken 3 (wrong_bin 0 g.reference 0 p.valleys))
     (order_broken 4 (wrong_bin 1 g.classes 0 p.ranges)))))
 
 unfoldable pub first_unsummed : PartsValue → Option BrokenRule
 first_unsummed p =
-    or_else (unless (nat_le p.name.from p.name.to && nat_le p.name.to MAX_SAMPLES) (Sum 1))
-    (or_else (unless ((p.name.from + (p.used + p.missing + p.refused)) == p.name.to) (Sum 2))
-    (or_else (unless (nat_le p.ends.points p.used && (not (p.ends.points == 0) || (p.used == 0))) (Sum 3))
-    (or_else (unless ((2 * total_of p.cells + length p.residue) == p.ends.points) (Sum 4))
-    (or_else (unless (list_all (λ b. nat_lt b.n p.used) p.crossings) (Sum 5))
-    (or_else (unless (nat_le (sum_of p.peaks + sum_of p.valleys) (p.ends.points - 2)) (Sum 6))
-    (or_else (unless (sum_of p.ranges == (p.ends.points - 1)) (Sum 7))
+    option_or (unless (nat_le p.name.from p.name.to && nat_le p.name.to MAX_SAMPLES) (Sum 1))
+    (option_or (unless ((p.name.from + (p.used + p.missing + p.refused)) == p.name.to) (Sum 2))
+    (option_or (unless (nat_le p.ends.points p.used && (not (p.ends.points == 0) || (p.used == 0))) (Sum 3))
+    (option_or (unless ((2 * total_of p.cells + length p.residue) == p.ends.points) (Sum 4))
+    (option_or (unless (list_all (λ b. nat_lt b.n p.used) p.crossings) (Sum 5))
+    (option_or (unless (nat_le (sum_of p.peaks + sum_of p.valleys) (p.ends.points - 2)) (Sum 6))
+    (option_or (unless (sum_of p.ranges == (p.ends.points - 1)) (Sum 7))
     (unless (are_end_ranges_counted p.ends p.ranges) (Sum 8))))))))
 
 unfoldable pub first_unended : GridValue → PartsValue → Option BrokenRule
 first_unended g p =
-    or_else (unless (is_residue g.classes p.residue) (Residue 1))
-    (or_else (unless (has_length p.ends.points (length p.residue)) (Residue 2))
+    option_or (unless (is_residue g.classes p.residue) (Residue 1))
+    (option_or (unless (has_length p.ends.points (length p.residue)) (Residue 2))
     (unless (has_ends g.classes p.ends p.residue) (Residue 3)))
 
 unfoldable pub first_broken : GridValue → PartsValue → Option BrokenRule
-first_broken g p = or_else (first_unordered g p) (or_else (first_unsummed p) (first_unended g p))
+first_broken g p = option_or (first_unordered g p) (option_or (first_unsummed p) (first_unended g p))

@@ -1,6 +1,7 @@
 -- How the answers of resuming are put together.
 use Rattle.std.proofs.Common.{◌≡◌, ℕ, ◌+◌, ◌<◌, ◌≤◌, List, [], ◌∷◌, ◌++◌, length, take, drop, Option, Some, None, Result, Ok, Err, sym, ap, subst, ◌∙◌, arith, append_assoc, length-append, take-append-drop}
 use Rattle.std.specs.Prelude.{IfOk, OnOk}
+use Rattle.std.specs.Option.{option_or}
 use Rattle.std.proofs.lemmas.List.{length-take}
 use Rattle.outside.specs.Fault.{Rose}
 use Rattle.station.specs.Station.{Image, Only}
@@ -19,7 +20,7 @@ use Rattle.segment_bytes.specs.declared.layout.Layout.{Layout}
 use Rattle.segment_bytes.specs.Sizes.{max_body}
 use Rattle.store_head.specs.Head.{HeadValue, IsHead, head_of, start_of}
 use Rattle.segment_store.specs.Image.{open_bodies, IsNext, Reads, nothing_held}
-use Rattle.store_head.specs.Judging.{or_else, gauge_fault, gauge_at, gauges_fault, head_fault, layout_in}
+use Rattle.store_head.specs.Judging.{gauge_fault, gauge_at, gauges_fault, head_fault, layout_in}
 use Rattle.segment_store.specs.Held.{AreHeld, ends_of}
 use Rattle.segment_store.specs.Moments.{StoreValue, IsAt, IsOn}
 use Rattle.segment_store.specs.Resuming.{Walks, Ends}
@@ -39,17 +40,17 @@ rose_err X (heads.Version v) a b = tt
 rose_err X (heads.Differs field kept found) a b = tt
 
 pub head_answer_first : (X Y : Type 0) (f : ResumeFault) (a b : Option HeadFault) → IsHeadAnswer {X = X} (Err f) a
-    → IsHeadAnswer {X = Y} (Err f) (or_else a b)
-head_answer_first X Y NotAStore a b e = ap (λ o. or_else o b) e
-head_answer_first X Y (Version v) a b e = ap (λ o. or_else o b) e
-head_answer_first X Y (Differs field kept found) a b e = ap (λ o. or_else o b) e
+    → IsHeadAnswer {X = Y} (Err f) (option_or a b)
+head_answer_first X Y NotAStore a b e = ap (λ o. option_or o b) e
+head_answer_first X Y (Version v) a b e = ap (λ o. option_or o b) e
+head_answer_first X Y (Differs field kept found) a b e = ap (λ o. option_or o b) e
 head_answer_first X Y (Damaged index damage) a b e = e
 head_answer_first X Y DiskFault a b e = tt
 head_answer_first X Y OutOfMemory a b e = tt
 
 pub head_answer_then : {X : Type 0} (r : Result X ResumeFault) (a b : Option HeadFault) → a ≡ None → IsHeadAnswer r b
-    → IsHeadAnswer r (or_else a b)
-head_answer_then r a b e h = subst (λ o. IsHeadAnswer r o) (sym (ap (λ c. or_else c b) e)) h
+    → IsHeadAnswer r (option_or a b)
+head_answer_then r a b e h = subst (λ o. IsHeadAnswer r o) (sym (ap (λ c. option_or c b) e)) h
 
 wider : (a b c d : ℕ) → Rose b c → a ≤ b → c ≤ d → Rose a d
 wider a b c d r e f = grind arith

@@ -3,13 +3,14 @@ use Rattle.std.proofs.Common.{◌≡◌, ℕ, ◌+◌, ◌-◌, ◌*◌, ◌<◌
 use Rattle.std.specs.Prelude.{All}
 use Rattle.std.proofs.lemmas.List.Elements.{All-push}
 use Rattle.std.proofs.lemmas.List.{take_more, take_at, drop_at, drop-drop, length-take, length-drop, append-nil, nil_from_length}
+use Rattle.std.specs.Option.{option_or}
 use Rattle.calibration.specs.Gain.{GainValue, IsGain}
 use Rattle.calibration.specs.declared.setup.Setup.{Setup}
 use Rattle.recording.specs.declared.head.Head.{Head}
 use Rattle.store_head.specs.declared.fault.HeadFault.{HeadFault}
 use Rattle.recording.specs.Head.{IsRecorded}
 use Rattle.store_head.specs.Head.{HeadValue, front, gauge, gauges, head_of, start_of}
-use Rattle.store_head.specs.Judging.{or_else, gauge_fault, gauge_at, gauges_fault}
+use Rattle.store_head.specs.Judging.{gauge_fault, gauge_at, gauges_fault}
 
 -- what stands between two parts
 pub slice_range-middle : (x y z : List ℕ) (i j : ℕ) → i ≡ length x → j ≡ length x + length y → slice_range (x ++ (y ++ z)) i j ≡ y
@@ -20,7 +21,7 @@ slice_range-middle x y z i j here there =
 module _ (g : ℕ) (x : GainValue) (gains : List GainValue) (i : ℕ) (image : List ℕ) (here : drop i gains ≡ x ∷ drop (i + 1) gains) where
   pub fault_next : gauge_fault g x (gauge_at g image) ≡ None
       → gauges_fault g (drop i gains) image ≡ gauges_fault (g + 1) (drop (i + 1) gains) image
-  fault_next e = ap (λ l. gauges_fault g l image) here ∙ ap (λ o. or_else o (gauges_fault (g + 1) (drop (i + 1) gains) image)) e
+  fault_next e = ap (λ l. gauges_fault g l image) here ∙ ap (λ o. option_or o (gauges_fault (g + 1) (drop (i + 1) gains) image)) e
 
 pub no_gauges : (g : ℕ) (gains : List GainValue) (i : ℕ) (image : List ℕ) (o : Option HeadFault) → length gains ≤ i
     → gauges_fault g (drop i gains) image ≡ o → o ≡ None

@@ -9,6 +9,10 @@ use Rattle.std.proofs.lemmas.Nat.{mul-le, be_bytes_2, be_bytes_4, be_bytes_8, fr
 use Rattle.std.proofs.lemmas.List.{take_at, drop_at, drop_more, drop-drop, length-take, length-drop, append-nil, nil_from_length, get_or-drop, get_or-take, get_or_past}
 use Rattle.std.proofs.lemmas.Bool.{cases_lt, and_parts, leb-true, le-leb, eqb-true}
 use Rattle.std.proofs.lemmas.List.Folds.{drop_split}
+use Rattle.std.specs.Option.{option_or}
+use Rattle.lemmas.proofs.Outcomes.{both_none, none_both}
+use Rattle.segment_rules.specs.Tests.{unless}
+use Rattle.segment_rules.proofs.Chosen.{kept, kept_none}
 use Rattle.calibration.specs.Gain.{GainValue, IsGain}
 use Rattle.calibration.specs.Grid.{GridValue, IsGrid}
 use Rattle.segment_bytes.specs.declared.layout.Layout.{Layout}
@@ -20,32 +24,18 @@ use Rattle.store_head.specs.declared.fault.HeadFault.{HeadFault}
 use Rattle.calibration.specs.declared.setup.Setup.{Setup}
 use Rattle.recording.specs.Head.{IsRecorded}
 use Rattle.store_head.specs.Head.{IsSetup, version_of, front, numbers, gauge}
-use Rattle.store_head.specs.Judging.{number, signed_number, or_else, unless, differs, is_version, layout_of, front_fault, gauge_fault, recorded}
+use Rattle.store_head.specs.Judging.{number, signed_number, differs, is_version, layout_of, front_fault, gauge_fault, recorded}
 
 -- ---- tests
 
-or_none : (a b : Option HeadFault) → or_else a b ≡ None → (a ≡ None) × (b ≡ None)
-or_none None b e = (refl, e)
-or_none (Some f) b e = absurd cc
-
-pub none_or : (a b : Option HeadFault) → a ≡ None → b ≡ None → or_else a b ≡ None
-none_or a b e f = ap (λ c. or_else c b) e ∙ f
-
-unless_none : (b : Bool) (f : HeadFault) → unless b f ≡ None → b ≡ true
-unless_none true f e = refl
-unless_none false f e = absurd cc
-
-pub none_unless : (b : Bool) (f : HeadFault) → b ≡ true → unless b f ≡ None
-none_unless b f e = ap (λ c. unless c f) e
-
 same_of : (field : Field) (a b : ℤ) → differs field a b ≡ None → a ≡ b
-same_of field a b e = (Decides-int_eq a b).0 (unless_none _ _ e)
+same_of field a b e = (Decides-int_eq a b).0 (kept _ _ e)
 
 of_same : (field : Field) (a b : ℤ) → a ≡ b → differs field a b ≡ None
-of_same field a b e = none_unless _ _ ((Decides-int_eq a b).1 e)
+of_same field a b e = kept_none _ _ ((Decides-int_eq a b).1 e)
 
-pub chain : {a a2 b b2 : Option HeadFault} → a ≡ a2 → b ≡ b2 → or_else a b ≡ or_else a2 b2
-chain {a} {a2} {b} {b2} e f = ap (λ x. or_else x b) e ∙ ap (or_else a2) f
+pub chain : {a a2 b b2 : Option HeadFault} → a ≡ a2 → b ≡ b2 → option_or a b ≡ option_or a2 b2
+chain {a} {a2} {b} {b2} e f = ap (λ x. option_or x b) e ∙ ap (option_or a2) f
 
 -- a signed argument is seen through its bits
 pub through : (z z2 : ℤ) → FitsSigned w64 z → z ≡ z2 → cast_signed w64 (cast_unsigned w64 z) ≡ z2
@@ -148,14 +138,14 @@ narrow_is a n k e f g = grind (arith, nat_tests)
 pub front_is : (s : Setup) (size : ℕ) (b : List ℕ) → length b ≡ 22 → IsBytes b → front_fault s size b ≡ None
     → (b ≡ front (layout_of (get_or b 5 0)) s) × (23 + 40 * length s.gains ≤ size) × (layout_of (get_or b 5 0) ≡ One → s.grid.classes ≤ 128)
 front_is s size b long fits none =
-    let a = or_none _ _ none in
-    let v = or_none _ _ a.1 in
-    let g = or_none _ _ v.1 in
-    let z = or_none _ _ g.1 in
-    let c = or_none _ _ z.1 in
-    let w = or_none _ _ c.1 in
-    let l = or_none _ _ w.1 in
-    let magic = and_parts _ _ (unless_none _ _ a.0) in
+    let a = both_none _ _ none in
+    let v = both_none _ _ a.1 in
+    let g = both_none _ _ v.1 in
+    let z = both_none _ _ g.1 in
+    let c = both_none _ _ z.1 in
+    let w = both_none _ _ c.1 in
+    let l = both_none _ _ w.1 in
+    let magic = and_parts _ _ (kept _ _ a.0) in
     let m = and_parts _ _ magic.1 in
     let m1 = and_parts _ _ m.0 in
     let m2 = and_parts _ _ m.1 in
@@ -171,8 +161,8 @@ front_is s size b long fits none =
     let d6 = step16 b 6 (length s.gains) (omega (arith, long)) fits (same_number _ _ _ g.0)
     ∙ ap (λ (r : List ℕ). to_be_bytes w16 (length s.gains) ++ r) d8 in
     let v5 = version_of (layout_of (get_or b 5 0)) in
-    let d5 = step1 b 5 v5 (omega (arith, long)) (version_back (get_or b 5 0) (unless_none _ _ v.0)) ∙ ap (λ (r : List ℕ). v5 ∷ r) d6 in
-    let whole = and_parts _ _ (unless_none _ _ z.0) in
+    let d5 = step1 b 5 v5 (omega (arith, long)) (version_back (get_or b 5 0) (kept _ _ v.0)) ∙ ap (λ (r : List ℕ). v5 ∷ r) d6 in
+    let whole = and_parts _ _ (kept _ _ z.0) in
     let d4 = step1 b 4 84 (omega (arith, long)) m2.1 ∙ ap (λ (r : List ℕ). 84 ∷ r) d5 in
     let d3 = step1 b 3 83 (omega (arith, long)) m2.0 ∙ ap (λ (r : List ℕ). 83 ∷ r) d4 in
     let d2 = step1 b 2 71 (omega (arith, long)) m1.1 ∙ ap (λ (r : List ℕ). 71 ∷ r) d3 in
@@ -217,12 +207,12 @@ is_front l s size i narrow le =
     let k : s.grid.classes < 2 ^ 16 = omega (arith, g.classes_to) in
     let w : s.grid.w2 < 2 ^ 16 = width_small s.grid.classes s.grid.w2 g.classes_from g.span in
     let r : s.grid.reference < 2 ^ 16 = omega (arith, g.classes_to, g.reference_to) in
-    none_or _ _ refl (none_or _ _ (none_unless _ _ (is_one l))
-    (none_or _ _ (of_same _ _ _ (ap pos (from_be_bytes-to_be_bytes_2 (length s.gains) (omega (arith, i.few)))))
-    (none_or _ _ (none_unless _ _ (whole_true l (length s.gains) size s.grid.classes le k narrow))
-    (none_or _ _ (of_same _ _ _ (ap pos (from_be_bytes-to_be_bytes_2 s.grid.classes k)))
-    (none_or _ _ (of_same _ _ _ (ap pos (from_be_bytes-to_be_bytes_2 s.grid.w2 w)))
-    (none_or _ _ (of_same _ _ _ (read_signed s.grid.low_kpa g.low))
+    none_both _ _ refl (none_both _ _ (kept_none _ _ (is_one l))
+    (none_both _ _ (of_same _ _ _ (ap pos (from_be_bytes-to_be_bytes_2 (length s.gains) (omega (arith, i.few)))))
+    (none_both _ _ (kept_none _ _ (whole_true l (length s.gains) size s.grid.classes le k narrow))
+    (none_both _ _ (of_same _ _ _ (ap pos (from_be_bytes-to_be_bytes_2 s.grid.classes k)))
+    (none_both _ _ (of_same _ _ _ (ap pos (from_be_bytes-to_be_bytes_2 s.grid.w2 w)))
+    (none_both _ _ (of_same _ _ _ (read_signed s.grid.low_kpa g.low))
     (of_same _ _ _ (ap pos (from_be_bytes-to_be_bytes_2 s.grid.reference r)))))))))
   where
     width_small : (k w : ℕ) → 2 ≤ k → (k - 1) * w ≤ 2000 → w < 2 ^ 16
@@ -232,8 +222,8 @@ is_front l s size i narrow le =
 
 pub gauge_is : (g : ℕ) (x : GainValue) (b : List ℕ) → length b ≡ 40 → IsBytes b → gauge_fault g x b ≡ None → b ≡ gauge (recorded b) x
 gauge_is g x b long fits none =
-    let a = or_none _ _ none in
-    let d = or_none _ _ a.1 in
+    let a = both_none _ _ none in
+    let d = both_none _ _ a.1 in
     let d32 = step64 b 32 x.offset (omega (arith, long)) fits (same_of _ _ _ d.1)
     ∙ ends_here b 40 (to_be_bytes w64 (cast_unsigned w64 x.offset)) long in
     let d28 = step32 b 28 x.den (omega (arith, long)) fits (same_number _ _ _ d.0) ∙ ap (λ (r : List ℕ). to_be_bytes w32 x.den ++ r) d32 in
@@ -268,7 +258,7 @@ is_gauge g h x r i =
     (behind h.id b 16 24 r.id) ∙ read_signed x.offset i.offset in
     let period : number w32 16 (gauge h x) ≡ h.period_us = ap (from_be_bytes w32) (behind h.id b 0 4 r.id)
     ∙ from_be_bytes-to_be_bytes_4 h.period_us r.period in (
-      none_or _ _ (of_same _ _ _ num) (none_or _ _ (of_same _ _ _ (ap pos den)) (of_same _ _ _ offset)),
+      none_both _ _ (of_same _ _ _ num) (none_both _ _ (of_same _ _ _ (ap pos den)) (of_same _ _ _ offset)),
       head_made
           (take 16 (gauge h x)) h.id (number w32 16 (gauge h x)) h.period_us (take_at h.id b 16 r.id) period,
     )

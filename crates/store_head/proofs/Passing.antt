@@ -10,8 +10,10 @@ use Rattle.segment_bytes.specs.declared.layout.Layout.{Layout}
 use Rattle.segment_bytes.specs.declared.layout.Layout.TheVariants.{One, Two}
 use Rattle.recording.specs.Head.{IsRecorded}
 use Rattle.store_head.specs.Head.{HeadValue, IsHead, version_of, front, numbers, gauge, gauges, head_of, start_of}
-use Rattle.store_head.specs.Judging.{or_else, unless, front_fault, gauge_fault, gauge_at, gauges_fault, head_fault, layout_in, recorded}
-use Rattle.store_head.proofs.Judged.{none_or, none_unless, is_front, is_gauge}
+use Rattle.store_head.specs.Judging.{front_fault, gauge_fault, gauge_at, gauges_fault, head_fault, layout_in, recorded}
+use Rattle.lemmas.proofs.Outcomes.{none_both}
+use Rattle.segment_rules.proofs.Chosen.{kept_none}
+use Rattle.store_head.proofs.Judged.{is_front, is_gauge}
 use Rattle.store_head.proofs.Gauges.{slice_range-middle}
 
 gauge_long : (h : Head) (x : GainValue) → IsRecorded h → length (gauge h x) ≡ 40
@@ -42,7 +44,7 @@ gauges_pass g (h ∷ hs) (x ∷ gs) a rest image is here e r i =
     ∙ slice_range-middle a (gauge h x) (gauges hs gs ++ rest) (22 + 40 * g) (22 + 40 * g + 40) (sym here) (omega (arith, here, long)) in
     let one = is_gauge g h x (All-head IsRecorded h hs r) (All-head IsGain x gs i) in
     let next : image ≡ (a ++ gauge h x) ++ (gauges hs gs ++ rest) = grouped ∙ sym (append_assoc a (gauge h x) (gauges hs gs ++ rest)) in
-    none_or _ _ (ap (gauge_fault g x) at ∙ one.0)
+    none_both _ _ (ap (gauge_fault g x) at ∙ one.0)
     (gauges_pass (g + 1) hs gs (a ++ gauge h x) rest image next (omega (arith, here, long, length-append a (gauge h x)))
     (omega (arith, e)) (All-tail IsRecorded h hs r) (All-tail IsGain x gs i))
 
@@ -71,7 +73,7 @@ no_fault h rest image is whole some =
     let size : 23 + 40 * length s.gains ≤ length image = omega (arith, ap length whole, length-append (head_of h) rest, long, some) in
     let grouped : image ≡ front l s ++ (gauges h.heads s.gains ++ rest) = whole ∙ append_assoc (front l s) (gauges h.heads s.gains) rest in
     let first : slice_range image 0 22 ≡ front l s = ap (take 22) grouped ∙ take_at (front l s) (gauges h.heads s.gains ++ rest) 22 refl in
-    none_or _ _ (none_or _ _ (none_unless _ _ (le-leb 22 (length image) (omega (arith, size))))
+    none_both _ _ (none_both _ _ (kept_none _ _ (le-leb 22 (length image) (omega (arith, size))))
     (ap (front_fault s (length image)) first ∙ is_front l s (length image) is.setup is.narrow size))
     (gauges_pass 0 h.heads s.gains (front l s) rest image grouped refl is.same is.each is.setup.gains)
 

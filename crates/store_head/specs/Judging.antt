@@ -6,6 +6,8 @@
 use Rattle.std.specs.Prelude.{◌+◌, ◌*◌, ℕ, ℤ, pos, ◌==◌, ◌&&◌, ◌||◌, not, nat_le, nat_lt, if◌then◌else◌, Bool, List, [], ◌∷◌, length, take, slice_index, slice_range, Option, Some, None}
 use Rattle.std.specs.Int.{Width, w16, w32, w64, byte_len, from_be_bytes, cast_signed}
 use Rattle.std.specs.Ordering.{int_eq}
+use Rattle.std.specs.Option.{option_or}
+use Rattle.segment_rules.specs.Tests.{unless}
 use Rattle.calibration.specs.Gain.{GainValue}
 use Rattle.calibration.specs.Grid.{GridValue}
 use Rattle.segment_bytes.specs.declared.layout.Layout.{Layout}
@@ -24,13 +26,6 @@ number w at bytes = from_be_bytes w (slice_range bytes at (at + byte_len w))
 
 abbrev pub signed_number : ℕ → List ℕ → ℤ
 signed_number at bytes = cast_signed w64 (number w64 at bytes)
-
-abbrev pub or_else : Option HeadFault → Option HeadFault → Option HeadFault
-or_else None second = second
-or_else (Some fault) second = Some fault
-
-abbrev pub unless : Bool → HeadFault → Option HeadFault
-unless b fault = if b then None else Some fault
 
 abbrev pub differs : Field → ℤ → ℤ → Option HeadFault
 differs field kept found = unless (int_eq kept found) (Differs field kept found)
@@ -57,23 +52,23 @@ is_whole gauges size b =
 
 abbrev pub grid_fault : GridValue → List ℕ → Option HeadFault
 grid_fault g b =
-    or_else (differs Classes (pos (number w16 8 b)) (pos g.classes))
-    (or_else (differs Wide (pos (number w16 10 b)) (pos g.w2))
-    (or_else (differs Low (signed_number 12 b) g.low_kpa)
+    option_or (differs Classes (pos (number w16 8 b)) (pos g.classes))
+    (option_or (differs Wide (pos (number w16 10 b)) (pos g.w2))
+    (option_or (differs Low (signed_number 12 b) g.low_kpa)
     (differs Reference (pos (number w16 20 b)) (pos g.reference))))
 
 abbrev pub front_fault : Setup → ℕ → List ℕ → Option HeadFault
 front_fault s size b =
-    or_else (unless (is_store b) NotAStore)
-    (or_else (unless (is_version (slice_index b 5)) (Version (slice_index b 5)))
-    (or_else (differs Gauges (pos (number w16 6 b)) (pos (length s.gains)))
-    (or_else (unless (is_whole (length s.gains) size b) NotAStore)
+    option_or (unless (is_store b) NotAStore)
+    (option_or (unless (is_version (slice_index b 5)) (Version (slice_index b 5)))
+    (option_or (differs Gauges (pos (number w16 6 b)) (pos (length s.gains)))
+    (option_or (unless (is_whole (length s.gains) size b) NotAStore)
     (grid_fault s.grid b))))
 
 abbrev pub gauge_fault : ℕ → GainValue → List ℕ → Option HeadFault
 gauge_fault g x b =
-    or_else (differs (Num g) (signed_number 20 b) x.num)
-    (or_else (differs (Den g) (pos (number w32 28 b)) (pos x.den))
+    option_or (differs (Num g) (signed_number 20 b) x.num)
+    (option_or (differs (Den g) (pos (number w32 28 b)) (pos x.den))
     (differs (Offset g) (signed_number 32 b) x.offset))
 
 -- the bytes of gauge g
@@ -82,14 +77,14 @@ gauge_at g image = slice_range image (22 + 40 * g) (22 + 40 * g + 40)
 
 abbrev pub gauges_fault : ℕ → List GainValue → List ℕ → Option HeadFault
 gauges_fault g [] image = None
-gauges_fault g (x ∷ xs) image = or_else (gauge_fault g x (gauge_at g image)) (gauges_fault (g + 1) xs image)
+gauges_fault g (x ∷ xs) image = option_or (gauge_fault g x (gauge_at g image)) (gauges_fault (g + 1) xs image)
 
 abbrev pub start_fault : Setup → List ℕ → Option HeadFault
 start_fault s image =
-    or_else (unless (nat_le 22 (length image)) NotAStore) (front_fault s (length image) (slice_range image 0 22))
+    option_or (unless (nat_le 22 (length image)) NotAStore) (front_fault s (length image) (slice_range image 0 22))
 
 abbrev pub head_fault : Setup → List ℕ → Option HeadFault
-head_fault s image = or_else (start_fault s image) (gauges_fault 0 s.gains image)
+head_fault s image = option_or (start_fault s image) (gauges_fault 0 s.gains image)
 
 -- the recording that a gauge's bytes name
 abbrev pub recorded : List ℕ → Head

@@ -1,4 +1,6 @@
 ghost use Rattle.std.specs.Prelude.{◌≡◌, ◌≤◌, length};
+ghost use Rattle.std.specs.Option.{option_or};
+ghost use Rattle.segment_rules.specs.Tests.{unless as unless_in};
 ghost use Rattle.store_head.specs.Judging.{
   differs as differs_in,
   front_fault as front_fault_in,
@@ -8,9 +10,7 @@ ghost use Rattle.store_head.specs.Judging.{
   is_version as is_version_in,
   is_whole as is_whole_in,
   layout_of as layout_in,
-  or_else,
   recorded as recorded_in,
-  unless as unless_in,
 };
 ghost use Rattle.calibration.specs.declared.limits.TheConstants.{MAX_GAUGES};
 
@@ -29,7 +29,7 @@ fn is_store(bytes: &[u8; 22]) -> bool
 }
 
 fn first_of(first: Option<HeadFault>, second: Option<HeadFault>) -> Option<HeadFault>
-    ensures { result ≡ or_else first second }
+    ensures { result ≡ option_or first second }
 {
     match first {
         Some(fault) => Some(fault),
