@@ -6,7 +6,7 @@ use Rattle.std.proofs.lemmas.Bool.{cases_eq, cases_lt, eq-eqb, ne_eqb, lt-ltb, l
 use Rattle.std.proofs.Math.Nat.{mul-div_cancel, mul-le-mul_right}
 use Rattle.std.proofs.Math.Bool.{and-false}
 use Rattle.segment_rules.specs.declared.name.Name.{Name}
-use Rattle.flow.specs.Flow.{Flow, Event, named, changed, changed_at, next, worker_of_next, Allowed, after, run, AllAllowed}
+use Rattle.flow.specs.Flow.{Flow, Event, name_of_samples, with_value, with_value_at, next, worker_of_next, Allowed, after, run, AllAllowed}
 use Rattle.flow.specs.Flow.Event.{Feed, Count, Deposit, Commit, Stop}
 use Rattle.flow.specs.Kept.{Every}
 use Rattle.flow.specs.Kept.Every.{none, both}
@@ -105,16 +105,16 @@ module _ (block workers : ℕ) (r : Round) where
   fed_or : (s : Flow) (g w : ℕ) (m : Name) (gauges : ℕ) → Line gauges s → m ≡ name_at block workers r g (s.fed g) → (s.fed g) % workers ≡ w
       → r.at g + s.fed g * block < length (r.samples g) → (h v : ℕ) → v < workers → ((h ≡ g) ⊎ (h ≡ g → ⊥)) →
       through block workers r h v s.placed ++
-      (through block workers r h v (s.counted v) ++ changed_at s.rings g w (s.rings g w ++ m ∷ []) h v)
-      ≡ fed_to block workers r h v (changed s.fed g (s.fed g + 1) h)
+      (through block workers r h v (s.counted v) ++ with_value_at s.rings g w (s.rings g w ++ m ∷ []) h v)
+      ≡ fed_to block workers r h v (with_value s.fed g (s.fed g + 1) h)
   fed_or s g w m gauges l is at more_left h v few (inl q) =
       subst (λ x. through block workers r x v s.placed ++
-      (through block workers r x v (s.counted v) ++ changed_at s.rings g w (s.rings g w ++ m ∷ []) x v)
-      ≡ fed_to block workers r x v (changed s.fed g (s.fed g + 1) x)) (sym q)
+      (through block workers r x v (s.counted v) ++ with_value_at s.rings g w (s.rings g w ++ m ∷ []) x v)
+      ≡ fed_to block workers r x v (with_value s.fed g (s.fed g + 1) x)) (sym q)
       (fed_line g v w (s.fed g) (through block workers r g v s.placed) (through block workers r g v (s.counted v))
       (s.rings g v) m is at more_left (l.line g v few) (cases_eq v w)
-      (changed_at s.rings g w (s.rings g w ++ m ∷ []) g v)
-      (λ e. subst (λ u. changed_at s.rings g w (s.rings g w ++ m ∷ []) g u ≡ s.rings g u ++ m ∷ []) (sym e)
+      (with_value_at s.rings g w (s.rings g w ++ m ∷ []) g v)
+      (λ e. subst (λ u. with_value_at s.rings g w (s.rings g w ++ m ∷ []) g u ≡ s.rings g u ++ m ∷ []) (sym e)
       (changed_at_same s.rings g w (s.rings g w ++ m ∷ [])))
       (λ e. changed_at_worker s.rings g w (s.rings g w ++ m ∷ []) g v e)
       ∙ ap (fed_to block workers r g v) (sym (changed_same s.fed g (s.fed g + 1))))
@@ -139,15 +139,16 @@ module _ (block workers : ℕ) (r : Round) where
       ] in
       let small : s.fed g % 16 ≡ s.fed g = omega (arith, below) in
       let at : (s.fed g) % workers ≡ w = ap (λ k. k % workers) (sym small) in
-      let is : m ≡ name_at block workers r g (s.fed g) = ap (λ k. named g k (min (k + block) (length (s.samples g)))) stands
-      ∙ ap (λ k. named g (r.at g + s.fed g * block) (min (r.at g + s.fed g * block + block) k)) long in
+      let is : m ≡ name_at block workers r g (s.fed g) = ap (λ k. name_of_samples g k (min (k + block) (length (s.samples g)))) stands
+      ∙ ap (λ k. name_of_samples g (r.at g + s.fed g * block) (min (r.at g + s.fed g * block + block) k)) long in
       let known : g < gauges = elim (cases_lt g gauges) [ inl a ↦ a | inr a ↦ absurd (omega (arith, ok.others g a, left)) ] in
       let to : m.to ≡ min (s.read g + block) (length (s.samples g)) = refl in
       let next_read : m.to ≡ min (r.at g + (s.fed g + 1) * block) n = omega (arith, to, stands, long) in
       record {
         samples = l.samples;
         read = λ i. elim (cases_eq i g) [
-          | inl q ↦ subst (λ x. changed s.read g m.to x ≡ min (r.at x + changed s.fed g (s.fed g + 1) x * block) (length (r.samples x)))
+          | inl q ↦ subst (λ x. with_value s.read g m.to x ≡
+              min (r.at x + with_value s.fed g (s.fed g + 1) x * block) (length (r.samples x)))
               (sym q) (changed_same s.read g m.to ∙ next_read
               ∙ ap (λ k. min (r.at g + k * block) n) (sym (changed_same s.fed g (s.fed g + 1))))
           | inr q ↦ changed_other s.read g m.to i q ∙ l.read i
@@ -173,11 +174,11 @@ module _ (block workers : ℕ) (r : Round) where
   count_or : (gauges : ℕ) (s : Flow) (g v : ℕ) → v < workers → Line gauges s → (h u : ℕ) → u < workers → ((h ≡ g) ⊎ (h ≡ g → ⊥))
       → ((u ≡ v) ⊎ (u ≡ v → ⊥)) →
       through block workers r h u s.placed ++
-      (through block workers r h u (changed s.counted v (s.counted v ++ take 1 (s.rings g v)) u) ++ changed_at s.rings g v
+      (through block workers r h u (with_value s.counted v (s.counted v ++ take 1 (s.rings g v)) u) ++ with_value_at s.rings g v
       (drop 1 (s.rings g v)) h u) ≡ through block workers r h u s.placed ++ (through block workers r h u (s.counted u) ++ s.rings h u)
   count_or gauges s g v w l h u k (inl e) (inl f) =
       let claim : ℕ → ℕ → Type 0 = λ x y. through block workers r x y s.placed ++
-      (through block workers r x y (changed s.counted v (s.counted v ++ take 1 (s.rings g v)) y) ++ changed_at s.rings g v
+      (through block workers r x y (with_value s.counted v (s.counted v ++ take 1 (s.rings g v)) y) ++ with_value_at s.rings g v
       (drop 1 (s.rings g v)) x y) ≡ through block workers r x y s.placed ++ (through block workers r x y (s.counted y) ++ s.rings x y) in
       let own : through block workers r g v (take 1 (s.rings g v)) ≡ take 1 (s.rings g v) =
       all_pass g v (take 1 (s.rings g v))
@@ -185,7 +186,7 @@ module _ (block workers : ℕ) (r : Round) where
       (l.rings g v w))) in
       subst (λ x. claim x u) (sym e) (subst (λ y. claim g y) (sym f)
       (ap (λ x. through block workers r g v s.placed ++
-      (through block workers r g v x ++ changed_at s.rings g v (drop 1 (s.rings g v)) g v))
+      (through block workers r g v x ++ with_value_at s.rings g v (drop 1 (s.rings g v)) g v))
       (changed_same s.counted v (s.counted v ++ take 1 (s.rings g v)))
       ∙ ap (λ x. through block workers r g v s.placed ++ (through block workers r g v (s.counted v ++ take 1 (s.rings g v)) ++ x))
       (changed_at_same s.rings g v (drop 1 (s.rings g v)))
@@ -193,7 +194,7 @@ module _ (block workers : ℕ) (r : Round) where
       (drop 1 (s.rings g v)) (cut (s.rings g v)) own)))
   count_or gauges s g v w l h u k (inr e) (inl f) =
       let claim : ℕ → Type 0 = λ y. through block workers r h y s.placed ++
-      (through block workers r h y (changed s.counted v (s.counted v ++ take 1 (s.rings g v)) y) ++ changed_at s.rings g v
+      (through block workers r h y (with_value s.counted v (s.counted v ++ take 1 (s.rings g v)) y) ++ with_value_at s.rings g v
       (drop 1 (s.rings g v)) h y) ≡ through block workers r h y s.placed ++ (through block workers r h y (s.counted y) ++ s.rings h y) in
       let other : through block workers r h v (take 1 (s.rings g v)) ≡ [] =
       none_pass h v (take 1 (s.rings g v))
@@ -201,7 +202,7 @@ module _ (block workers : ℕ) (r : Round) where
       (λ n p. test_gauge n.gauge h (worker_of block workers r n) v (λ q. e (sym q ∙ p.0))) (l.rings g v w))) in
       subst claim (sym f)
       (ap (λ x. through block workers r h v s.placed ++
-      (through block workers r h v x ++ changed_at s.rings g v (drop 1 (s.rings g v)) h v))
+      (through block workers r h v x ++ with_value_at s.rings g v (drop 1 (s.rings g v)) h v))
       (changed_same s.counted v (s.counted v ++ take 1 (s.rings g v)))
       ∙ ap (λ x. through block workers r h v s.placed ++ (through block workers r h v (s.counted v ++ take 1 (s.rings g v)) ++ x))
       (changed_at_gauge s.rings g v (drop 1 (s.rings g v)) h v e)
@@ -209,7 +210,7 @@ module _ (block workers : ℕ) (r : Round) where
       ∙ ap (λ x. through block workers r h v (s.counted v) ++ x) other ∙ append-nil (through block workers r h v (s.counted v))))
   count_or gauges s g v w l h u k e (inr f) =
       ap (λ x. through block workers r h u s.placed ++
-      (through block workers r h u x ++ changed_at s.rings g v (drop 1 (s.rings g v)) h u))
+      (through block workers r h u x ++ with_value_at s.rings g v (drop 1 (s.rings g v)) h u))
       (changed_other s.counted v (s.counted v ++ take 1 (s.rings g v)) u f)
       ∙ ap (λ x. through block workers r h u s.placed ++ (through block workers r h u (s.counted u) ++ x))
       (changed_at_worker s.rings g v (drop 1 (s.rings g v)) h u f)
@@ -232,11 +233,11 @@ module _ (block workers : ℕ) (r : Round) where
 
   deposit_or : (gauges : ℕ) (s : Flow) (v : ℕ) → v < workers → Line gauges s → (h u : ℕ) → u < workers → ((u ≡ v) ⊎ (u ≡ v → ⊥)) →
       through block workers r h u (s.placed ++ take 1 (s.counted v)) ++
-      (through block workers r h u (changed s.counted v (drop 1 (s.counted v)) u) ++ s.rings h u)
+      (through block workers r h u (with_value s.counted v (drop 1 (s.counted v)) u) ++ s.rings h u)
       ≡ through block workers r h u s.placed ++ (through block workers r h u (s.counted u) ++ s.rings h u)
   deposit_or gauges s v w l h u k (inl f) =
       let claim : ℕ → Type 0 = λ y. through block workers r h y (s.placed ++ take 1 (s.counted v)) ++
-      (through block workers r h y (changed s.counted v (drop 1 (s.counted v)) y) ++ s.rings h y)
+      (through block workers r h y (with_value s.counted v (drop 1 (s.counted v)) y) ++ s.rings h y)
       ≡ through block workers r h y s.placed ++ (through block workers r h y (s.counted y) ++ s.rings h y) in
       let split : through block workers r h v (take 1 (s.counted v)) ++ through block workers r h v (drop 1 (s.counted v))
       ≡ through block workers r h v (s.counted v) = sym (through_both h v (take 1 (s.counted v)) (drop 1 (s.counted v)))

@@ -4,7 +4,7 @@ use Rattle.std.proofs.lemmas.List.{append-nil}
 use Rattle.std.proofs.lemmas.Bool.{cases_eq, cases_lt, lt-ltb, le-ltb}
 use Rattle.std.proofs.Math.Nat.{mul-le-mul_right}
 use Rattle.segment_rules.specs.declared.name.Name.{Name}
-use Rattle.flow.specs.Flow.{Flow, Event, changed, changed_at, Allowed, after, run, AllAllowed}
+use Rattle.flow.specs.Flow.{Flow, Event, with_value, with_value_at, Allowed, after, run, AllAllowed}
 use Rattle.flow.specs.Flow.Event.{Feed, Count, Deposit}
 use Rattle.flow.specs.Kept.{Every}
 use Rattle.flow.specs.Kept.Every.{none, both}
@@ -171,12 +171,12 @@ module _ (block workers : ℕ) (r : Round) where
   ring_or : (gauges : ℕ) (before l : List Name) (n : Name) (s : Flow) → Leaving gauges before (n ∷ l) s → n.gauge < gauges
       → worker_of block workers r n < workers → (g v : ℕ) → g < gauges → v < workers → ((g ≡ n.gauge) ⊎ (g ≡ n.gauge → ⊥))
       → ((v ≡ worker_of block workers r n) ⊎ (v ≡ worker_of block workers r n → ⊥)) →
-      changed_at s.rings n.gauge (worker_of block workers r n) (drop 1 (s.rings n.gauge (worker_of block workers r n))) g v
+      with_value_at s.rings n.gauge (worker_of block workers r n) (drop 1 (s.rings n.gauge (worker_of block workers r n))) g v
       ≡ through block workers r g v l
   ring_or gauges before l n s h k w g v a b (inl e) (inl f) =
       let m = worker_of block workers r n in
-      subst (λ x. changed_at s.rings n.gauge m (drop 1 (s.rings n.gauge m)) x v ≡ through block workers r x v l) (sym e)
-      (subst (λ y. changed_at s.rings n.gauge m (drop 1 (s.rings n.gauge m)) n.gauge y ≡ through block workers r n.gauge y l) (sym f)
+      subst (λ x. with_value_at s.rings n.gauge m (drop 1 (s.rings n.gauge m)) x v ≡ through block workers r x v l) (sym e)
+      (subst (λ y. with_value_at s.rings n.gauge m (drop 1 (s.rings n.gauge m)) n.gauge y ≡ through block workers r n.gauge y l) (sym f)
       (changed_at_same s.rings n.gauge m (drop 1 (s.rings n.gauge m)) ∙ ap (λ x. drop 1 x) (h.rings n.gauge m k w ∙ through_own n l)))
   ring_or gauges before l n s h k w g v a b (inr e) f =
       let m = worker_of block workers r n in
@@ -200,9 +200,9 @@ module _ (block workers : ℕ) (r : Round) where
       let ring : s.rings g v ≡ n ∷ through block workers r g v l = h.rings g v k w ∙ through_own n l in
       let some : length (s.rings g v) ≡ suc (length (through block workers r g v l)) = ap length ring ∙ omega arith in
       let took : take 1 (s.rings g v) ≡ n ∷ [] = ap (λ x. take 1 x) ring in
-      let kept : changed s.counted v (s.counted v ++ take 1 (s.rings g v)) v ≡ n ∷ [] =
+      let kept : with_value s.counted v (s.counted v ++ take 1 (s.rings g v)) v ≡ n ∷ [] =
       changed_same s.counted v (s.counted v ++ take 1 (s.rings g v)) ∙ ap (λ x. x ++ take 1 (s.rings g v)) (h.counted v) ∙ took in
-      let one : length (changed s.counted v (s.counted v ++ take 1 (s.rings g v)) v) ≡ 1 = ap length kept in
+      let one : length (with_value s.counted v (s.counted v ++ take 1 (s.rings g v)) v) ≡ 1 = ap length kept in
       let t = after block workers s (Count v g) in (
         (w, omega (arith, some)),
         (w, omega (arith, one)),
@@ -210,7 +210,7 @@ module _ (block workers : ℕ) (r : Round) where
           read = h.read;
           rings = λ i j a b. ring_or gauges before l n s h k w i j a b (cases_eq i g) (cases_eq j v);
           counted = λ j. elim (cases_eq j v) [
-            | inl e ↦ subst (λ i. changed t.counted v (drop 1 (t.counted v)) i ≡ []) (sym e)
+            | inl e ↦ subst (λ i. with_value t.counted v (drop 1 (t.counted v)) i ≡ []) (sym e)
                 (changed_same t.counted v (drop 1 (t.counted v)) ∙ ap (λ x. drop 1 x) kept)
             | inr e ↦ changed_other t.counted v (drop 1 (t.counted v)) j e
                 ∙ changed_other s.counted v (s.counted v ++ take 1 (s.rings g v)) j e ∙ h.counted j

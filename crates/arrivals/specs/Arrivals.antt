@@ -10,7 +10,7 @@ use Rattle.std.specs.Prelude.{◌≡◌, ◌+◌, ◌-◌, ◌*◌, ◌/◌, ◌
 use Rattle.std.specs.List.{filter}
 use Rattle.segment_rules.specs.declared.name.Name.{Name}
 use Rattle.block_pool.specs.Units.{FilledValue}
-use Rattle.flow.specs.Flow.{Flow, Event, named, run, AllAllowed}
+use Rattle.flow.specs.Flow.{Flow, Event, name_of_samples, run, AllAllowed}
 use Rattle.flow.specs.Flow.Event.{Feed, Count, Deposit}
 use Rattle.flow.specs.Kept.{Every, Ascends}
 use Rattle.flow.specs.declared.TheConstants.{BLOCKS_PER_WINDOW}
@@ -28,7 +28,7 @@ pub record Round : Type 0 where
 module _ (block workers : ℕ) (r : Round) where
   -- the k-th block of a gauge
   abbrev pub name_at : ℕ → ℕ → Name
-  name_at g k = named g (r.at g + k * block) (min (r.at g + k * block + block) (length (r.samples g)))
+  name_at g k = name_of_samples g (r.at g + k * block) (min (r.at g + k * block + block) (length (r.samples g)))
 
   -- of the first n blocks of a gauge those of a worker, in order
   abbrev pub fed_to : ℕ → ℕ → ℕ → List Name

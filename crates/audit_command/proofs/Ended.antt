@@ -30,7 +30,7 @@ use Rattle.site_config.specs.declared.limits.TheConstants.{MAX_NAME_BYTES}
 use Rattle.site_config.proofs.Named.{short_name}
 use Rattle.fault_lines.specs.FaultLine.{name_for}
 use Rattle.site_config.specs.declared.fault.ConfigFault.{ConfigFault}
-use Rattle.recorded.specs.Recorded.{recorded}
+use Rattle.recorded.specs.Recorded.{recordings}
 use Rattle.site_lanes.specs.Answers.{AllOpened, OpenAnswers}
 use Rattle.site_lanes.proofs.Opened.{not_both}
 use Rattle.status.specs.declared.status.RecordingFault.{RecordingFault}
@@ -130,10 +130,10 @@ auditing_no_disk = by_auditing (λ s. s ≢ DiskFault) (λ e. absurd cc) (λ e. 
     (by_other (λ s. s ≢ DiskFault) (λ g w x y e. absurd cc))
 
 pub finds_of : (c : Config) (heads : List Head) (meant : Meant) (ends : List ℕ) (files : Files) (s : Status) → IsAuditing s
-    → HeldAnswers c heads meant ends files s → Finds c meant (held_of (recorded c files).samples ends) s
+    → HeldAnswers c heads meant ends files s → Finds c meant (held_of (recordings c files).samples ends) s
 finds_of c heads meant ends files s is a =
     let P : Status → Type 0 = λ x. HeldAnswers c heads meant ends files x →
-    Finds c meant (held_of (recorded c files).samples ends) x in
+    Finds c meant (held_of (recordings c files).samples ends) x in
     by_auditing P (λ b. b.1) (λ b. b.1) (by_recounting P (λ g f b. tt) (λ b. tt) (λ b. tt)) (by_other P (λ g w x y b. b.1)) s is a
 
 -- over a store that was read, by the setup of the configuration
@@ -149,7 +149,7 @@ module _ (c : Config) (heads : List Head) (from to : Meant) (ends : List ℕ) (f
   pub answers_by : (s : Status) → IsAuditing s → HeldAnswers c heads from ends files s → HeldAnswers c heads to ends files s
   answers_by s is a =
       let P : Status → Type 0 = λ x. HeldAnswers c heads from ends files x → HeldAnswers c heads to ends files x in
-      let found = finds_by c from to (held_of (recorded c files).samples ends) leads in
+      let found = finds_by c from to (held_of (recordings c files).samples ends) leads in
       by_auditing P (λ b. (b.0, found Done b.1)) (λ b. (b.0, found WriteFault b.1)) (by_recounting P (λ g f b. b) (λ b. tt) (λ b. tt))
       (by_other P (λ g v x y b. (b.0, found (Differs g v x y) b.1))) s is a
 
@@ -194,7 +194,7 @@ refused_unprinted f c old = by_store_status (λ (x : Status). Prints x c old old
 
 pub held_complete : (c : Config) (heads : List Head) (bodies : List PartsValue) (ends : List ℕ) (files : Files) (s : Status)
     → HeldAnswers c heads (HasKept bodies) ends files s → AllOpened c heads (slice_index ends) files (length c.gauges)
-    → AllSame c (HasKept bodies) (held_of (recorded c files).samples ends) (length c.gauges) → s ≢ ReadFault → s ≢ WriteFault
+    → AllSame c (HasKept bodies) (held_of (recordings c files).samples ends) (length c.gauges) → s ≢ ReadFault → s ≢ WriteFault
     → (s ≡ Done) ⊎ (s ≡ OutOfMemory)
 held_complete c heads bodies ends files Done a opened same r w = inl refl
 held_complete c heads bodies ends files OutOfMemory a opened same r w = inr refl
@@ -206,8 +206,8 @@ held_complete c heads bodies ends files (Differs g x y z) a opened same r w =
     let other = a.1.2 in
     let none = same g a.1.0 in
     absurd (differ_clash other.0 none.0 (bodies_of g bodies) c.setup.grid
-    (counts_of c.setup.grid (gain_at c.setup g) (held_of (recorded c files).samples ends g))
-    (three_point (history c.setup.grid (gain_at c.setup g) (held_of (recorded c files).samples ends g)))
+    (counts_of c.setup.grid (gain_at c.setup g) (held_of (recordings c files).samples ends g))
+    (three_point (history c.setup.grid (gain_at c.setup g) (held_of (recordings c files).samples ends g)))
     (record { what = x; held = y; found = z }) other.1 none.1 other.2 none.2 other.3 none.3)
 held_complete c heads bodies ends files Usage a opened same r w = absurd a
 held_complete c heads bodies ends files (BadConfig f) a opened same r w = absurd a

@@ -8,7 +8,7 @@ use Rattle.calibration.specs.Gain.{GainValue}
 use Rattle.recount.specs.Counted.{IsRecount}
 use Rattle.recount.specs.declared.count.Recount.{Recount}
 use Rattle.outside.specs.Site.{Files}
-use Rattle.recorded.specs.Recorded.{recorded}
+use Rattle.recorded.specs.Recorded.{recordings}
 use Rattle.segment_store.specs.Holds.{gain_at}
 use Rattle.site_config.specs.declared.config.Config.{Config}
 use Rattle.status.specs.declared.status.Status.{Status}
@@ -51,6 +51,6 @@ gain_is c g gains gain lt same is = is ∙ (ap (λ (l : List GainValue). slice_i
 
 -- the same at another moment of the site
 pub first_again : (c : Config) (tells : Type 0) (files files2 : Files) (held : ℕ → ℕ) (g : ℕ) (found : Recount) → (tells → files ≡ files2)
-    → IsOfFirst c tells (recorded c files).samples held g found → IsOfFirst c tells (recorded c files2).samples held g found
+    → IsOfFirst c tells (recordings c files).samples held g found → IsOfFirst c tells (recordings c files2).samples held g found
 first_again c tells files files2 held g found same is =
-    (is.0, (is.1.0, λ shows. is.1.1 shows ∙ ap (λ (f : Files). take (held g) ((recorded c f).samples g)) (same shows)))
+    (is.0, (is.1.0, λ shows. is.1.1 shows ∙ ap (λ (f : Files). take (held g) ((recordings c f).samples g)) (same shows)))

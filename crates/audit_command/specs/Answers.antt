@@ -12,7 +12,7 @@ use Rattle.recording.specs.declared.head.Head.{Head}
 use Rattle.segment_store.specs.declared.fault.ResumeFault.{ResumeFault}
 use Rattle.site_config.specs.declared.config.Config.{Config}
 use Rattle.site_config.specs.declared.fault.ConfigFault.{ConfigFault}
-use Rattle.recorded.specs.Recorded.{recorded}
+use Rattle.recorded.specs.Recorded.{recordings}
 use Rattle.site_lanes.specs.Answers.{AllOpened, FaultOf}
 use Rattle.status.specs.declared.status.Status.{Status}
 use Rattle.status.specs.declared.status.Status.TheVariants.{Done, Config as BadConfig, Store as BadStore, Recording, ReadFault, WriteFault, DiskFault, OutOfMemory, Differs}
@@ -24,7 +24,7 @@ use Rattle.audit_command.specs.Audited.{Meant, HasKept, AllSame, Finds}
 -- nothing is wrong with any recording, and the comparison finds this
 abbrev pub CountedAnswers : Config → List Head → Meant → List ℕ → Files → Status → Type 0
 CountedAnswers c heads meant ends files status = AllOpened c heads (slice_index ends) files (length c.gauges)
-    × Finds c meant (held_of (recorded c files).samples ends) status
+    × Finds c meant (held_of (recordings c files).samples ends) status
 
 abbrev pub HeldAnswers : Config → List Head → Meant → List ℕ → Files → Status → Type 0
 HeldAnswers c heads meant ends files (Recording g fault) =
@@ -56,7 +56,7 @@ AuditAnswers conf image files status = (c : Config) × (conf ≡ Ok c) × MayAns
 abbrev pub IsAudited : Config → Image → Files → Type 0
 IsAudited c image files =
     (r : ReadsAs c.setup image) × AllOpened c r.head.heads (slice_index r.ends) files (length c.gauges)
-    × AllSame c (HasKept r.bodies) (held_of (recorded c files).samples r.ends) (length c.gauges)
+    × AllSame c (HasKept r.bodies) (held_of (recordings c files).samples r.ends) (length c.gauges)
 
 abbrev pub IsSound : Result Config ConfigFault → Image → Files → Type 0
 IsSound conf image files = (c : Config) × (conf ≡ Ok c) × IsAudited c image files

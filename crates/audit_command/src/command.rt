@@ -6,7 +6,7 @@ ghost use Rattle.site_config.specs.Configuration.{config_of_bytes};
 ghost use Rattle.site_config.specs.Valid.{IsConfig};
 ghost use Rattle.site_config.specs.declared.config.Config.{Config};
 ghost use Rattle.site_config.specs.declared.limits.TheConstants.{MAX_NAME_BYTES};
-ghost use Rattle.recorded.specs.Recorded.{recorded};
+ghost use Rattle.recorded.specs.Recorded.{recordings};
 ghost use Rattle.recorded.specs.Asked.{AsksFirst, file_names, names_in};
 ghost use Rattle.fault_lines.specs.FaultLine.{fault_line, name_by, name_for};
 ghost use Rattle.fault_lines.specs.Telling.{TellsAtMost};
@@ -45,7 +45,7 @@ pub fn audit_command<C: Source, T: Site, K: Station, O: Sink>(
         config_of_bytes (C.left config.old) ≡ Ok conf → (w : ℕ → List ℤ) (n : List ℕ) →
         Holds conf.setup w n (K.seen station.old) →
         Finds conf (IsStanding conf (held_of w n))
-        (held_of (recorded conf (T.files site.old)).samples n) result }
+        (held_of (recordings conf (T.files site.old)).samples n) result }
     ensures complete { K.tells → T.tells → C.tells → IsSound
         (config_of_bytes (C.left config.old)) (K.seen station.old) (T.files site.old) →
         (Rose (C.faults config.old) (C.faults config.new) → ⊥) →
@@ -112,7 +112,7 @@ fn audit_by<T: Site, K: Station, O: Sink>(
     ensures stands { K.tells → T.tells → (w : ℕ → List ℤ) (n : List ℕ) →
         Holds conf.now.setup w n (K.seen station.old) →
         Finds conf.now (IsStanding conf.now (held_of w n))
-        (held_of (recorded conf.now (T.files site.old)).samples n) result }
+        (held_of (recordings conf.now (T.files site.old)).samples n) result }
     ensures complete { K.tells → T.tells →
         IsAudited conf.now (K.seen station.old) (T.files site.old) →
         (Rose (T.faults site.old) (T.faults site.new) → ⊥) →

@@ -25,7 +25,7 @@ ghost use Rattle.recording.specs.declared.TheConstants.{MAX_SAMPLES};
 ghost use Rattle.recount.specs.Counted.{IsRecount};
 ghost use Rattle.segment_store.specs.Held.{ends_of};
 ghost use Rattle.site_config.specs.Valid.{IsConfig, file_of};
-ghost use Rattle.recorded.specs.Recorded.{body_in, recorded};
+ghost use Rattle.recorded.specs.Recorded.{body_in, recordings};
 ghost use Rattle.recorded.specs.Asked.{AsksFirst, file_names};
 ghost use Rattle.site_lanes.specs.Answers.{GaugeAnswers, OpenAnswers};
 ghost use Rattle.site_lanes.specs.Opening.{fault_of, status_of as opened_status_of};
@@ -65,7 +65,7 @@ pub(crate) fn recount_all<T: Site>(
     requires none { vec_len recounts.old ≡ 0 }
     requires room { length conf.now.gauges ≤ vec_capacity recounts.old }
     ensures all { OnOk result (vec_len recounts.new ≡ length conf.now.gauges) }
-    ensures counted { AreRecounts conf.now T.tells (recorded conf.now (T.files site.old)).samples
+    ensures counted { AreRecounts conf.now T.tells (recordings conf.now (T.files site.old)).samples
         (slice_index (ends_of store.now.held)) recounts.new.items }
     ensures answer { T.tells → OpenAnswers conf.now store.now.head.heads
         (slice_index (ends_of store.now.held)) (T.files site.old) result }
@@ -100,7 +100,7 @@ fn recount_gauge<T: Site>(
     requires heads { length store.now.head.heads ≡ length conf.now.gauges }
     requires home { T.out site.old ≡ 0 }
     ensures counted { IfOk result (IsOfFirst conf.now T.tells
-        (recorded conf.now (T.files site.old)).samples
+        (recordings conf.now (T.files site.old)).samples
         (slice_index (ends_of store.now.held)) gauge) }
     ensures answer { T.tells → GaugeAnswers conf.now store.now.head.heads
         (slice_index (ends_of store.now.held)) (T.files site.old) gauge result }

@@ -1,9 +1,9 @@
 -- What contracts see of units and of the pool.
 --   BlankValue, FilledValue, CountedValue, PoolValue
---   IsFilled     a name of some samples, at most a block, within a recording
---   IsBlank      a blank of this block and grid
---   IsCountOf    the same unit with its samples counted
---   written      what a buffer holds after a loan of it
+--   IsFilled           a name of some samples, at most a block, within a recording
+--   IsBlank            a blank of this block and grid
+--   IsCountOf          the same unit with its samples counted
+--   buffer_after_loan  what a buffer holds after a loan of it
 use Rattle.std.specs.Prelude.{◌≡◌, ◌+◌, ◌≤◌, ◌<◌, ℕ, ℤ, List, length, take, drop, ◌++◌}
 use Rattle.recording.specs.declared.TheConstants.{MAX_SAMPLES}
 use Rattle.calibration.specs.Gain.{GainValue}
@@ -54,5 +54,5 @@ pub record IsCountOf (f : FilledValue) (c : CountedValue) : Type 0 where
   pub stands : Stands c.segment f.gain f.samples
 
 -- a list of fixed length over which another was written
-abbrev pub written : List ℤ → List ℤ → List ℤ
-written old w = take (length old) (w ++ drop (length w) old)
+abbrev pub buffer_after_loan : List ℤ → List ℤ → List ℤ
+buffer_after_loan old w = take (length old) (w ++ drop (length w) old)

@@ -88,7 +88,7 @@ impl Model for Counted {
 }
 
 impl Blank {
-    ghost use Rattle.block_pool.specs.Units.{BlankValue, FilledValue, IsBlank, written};
+    ghost use Rattle.block_pool.specs.Units.{BlankValue, FilledValue, IsBlank, buffer_after_loan};
     ghost use Rattle.std.specs.Borrow.{Lends, sem, Array, i32};
     ghost use Rattle.block_pool.specs.contracts.unit.Blank.{the_row};
 
@@ -107,7 +107,7 @@ impl Blank {
     /// The places for the samples of a block.
     pub fn buffer(&mut self) -> &mut [i32]
         ensures* writes_back { sem 𝓛 (Lends the_row (Array i32 0) self.entry result
-            (λ w. record { buffer = written self.old.buffer w; grid = self.old.grid })) }
+            (λ w. record { buffer = buffer_after_loan self.old.buffer w; grid = self.old.grid })) }
         ensures value { result.now ≡ self.old.buffer }
         ensures long { length result.now ≡ length self.old.buffer }
     {

@@ -3,7 +3,7 @@ use Rattle.std.proofs.Common.{◌≡◌, ◌≤◌, ◌<◌, ◌+◌, ◌%◌, �
 use Rattle.std.proofs.lemmas.Bool.{eq-eqb, ne_eqb}
 use Rattle.std.proofs.lemmas.List.{append_cancel_left}
 use Rattle.segment_rules.specs.declared.name.Name.{Name}
-use Rattle.flow.specs.Flow.{named, has, hits}
+use Rattle.flow.specs.Flow.{name_of_samples, has, hits}
 use Rattle.flow.specs.Kept.{over, between}
 use Rattle.flow.proofs.Counting.{over_same, over_one, over_none, over_sum, between_parts, nothing_between}
 use Rattle.block_pool.specs.Units.{FilledValue}
@@ -79,10 +79,10 @@ dealt_once g i n k (u ∷ us) h =
     let rest : over n (λ v. hits g i (names_of (dealt n v (k + 1) us))) ≡ hits g i (names_of us) = dealt_once g i n (k + 1) us h in
     omega (arith, parts, sums, here, rest)
 
-named_has : (g a b i : ℕ) → has g i (named g a b) ≡ between a b i
+named_has : (g a b i : ℕ) → has g i (name_of_samples g a b) ≡ between a b i
 named_has g a b i = ap (λ t. cond t (between a b i) 0) (eq-eqb g g refl)
 
-has_named : (g a b i : ℕ) (n : Name) → n ≡ named g a b → has g i n ≡ between a b i
+has_named : (g a b i : ℕ) (n : Name) → n ≡ name_of_samples g a b → has g i n ≡ between a b i
 has_named g a b i n e = ap (has g i) e ∙ named_has g a b i
 
 pub blocks_ascend : (d : Desk) (a b : ℕ) (us : List FilledValue) → AreBlocks d a us b → a ≤ b

@@ -15,10 +15,10 @@ use Rattle.lane_ends.specs.declared.end.End.{End}
 use Rattle.lane_ends.specs.declared.end.End.TheVariants.{More}
 use Rattle.lane_ends.specs.Ends.{Gives}
 use Rattle.lane_ends.proofs.Giving.{gives_more, gives_wider, gives_none}
-use Rattle.flow.specs.Flow.{named}
+use Rattle.flow.specs.Flow.{name_of_samples}
 use Rattle.gauge_ring.specs.declared.feeder.Feeder.{Feeder}
 use Rattle.gauge_ring.specs.Ends.{fed, IsSameFeeder}
-use Rattle.block_pool.specs.Units.{FilledValue, BlankValue, IsBlank, written}
+use Rattle.block_pool.specs.Units.{FilledValue, BlankValue, IsBlank, buffer_after_loan}
 use Rattle.block_workers.specs.declared.item.Item.{Item}
 use Rattle.block_workers.specs.declared.item.Item.TheVariants.{Mark}
 use Rattle.block_workers.specs.declared.desk.Desk.{Desk}
@@ -32,16 +32,16 @@ use Rattle.lemmas.proofs.Lists.{all_written}
 
 pub unit_is : (d : Desk) (n : ℕ) (kind : GridValue) (buf out : List ℤ) (u : FilledValue)
     → u ≡ record {
-      block = length (written buf out);
+      block = length (buffer_after_loan buf out);
       grid = kind;
-      name = named d.gauge d.at (d.at + n);
+      name = name_of_samples d.gauge d.at (d.at + n);
       samples =
-          take n (written buf out);
+          take n (buffer_after_loan buf out);
       gain = d.gain;
     }
     → length out ≡ length buf → length buf ≡ d.block → kind ≡ d.grid → n ≤ length out → 0 < n → IsUnit d d.at (d.at + n) u
 unit_is d n kind buf out u e l b k few some =
-    let same : written buf out ≡ out = all_written buf out (length buf) refl l in
+    let same : buffer_after_loan buf out ≡ out = all_written buf out (length buf) refl l in
     record {
       name = ap (λ (v : FilledValue). v.name) e;
       gain = ap (λ (v : FilledValue). v.gain) e;
@@ -54,7 +54,13 @@ unit_is d n kind buf out u e l b k few some =
     }
 
 pub samples_are : (n : ℕ) (kind : GridValue) (block gauge at : ℕ) (gain : GainValue) (buf out : List ℤ) (u : FilledValue)
-    → u ≡ record { block = block; grid = kind; name = named gauge at (at + n); samples = take n (written buf out); gain = gain }
+    → u ≡ record {
+      block = block;
+      grid = kind;
+      name = name_of_samples gauge at (at + n);
+      samples = take n (buffer_after_loan buf out);
+      gain = gain;
+    }
     → length out ≡ length buf → u.samples ≡ take n out
 samples_are n kind block gauge at gain buf out u e l = ap (λ (v : FilledValue). v.samples) e
     ∙ ap (take n) (all_written buf out (length buf) refl l)
@@ -140,7 +146,7 @@ same_desk a b c h k = record {
 -- the unit as the first desk sees it
 unit_from : (a b : Desk) (x y : ℕ) (u : FilledValue) → SameDesk a b → IsUnit b x y u → IsUnit a x y u
 unit_from a b x y u h i = record {
-  name = i.name ∙ ap (λ g. named g x y) h.gauge;
+  name = i.name ∙ ap (λ g. name_of_samples g x y) h.gauge;
   gain = i.gain ∙ h.gain;
   block = i.block ∙ h.block;
   grid = i.grid ∙ h.grid;
@@ -392,7 +398,7 @@ pub gives_as : (a b m n k : ℕ) (before after : List ℕ) (e : End) → a ≡ b
 gives_as a b m n k before after e p q g = subst (λ x. Gives b m before x e after) q (subst (λ x. Gives x m before n e after) p g)
 
 pub written_blank : (b : ℕ) (g kind : GridValue) (old out : List ℤ) → length out ≡ length old → length old ≡ b → kind ≡ g
-    → IsBlank b g (record { buffer = written old out; grid = kind })
+    → IsBlank b g (record { buffer = buffer_after_loan old out; grid = kind })
 written_blank b g kind old out l e f = record { block = ap length (all_written old out (length old) refl l) ∙ l ∙ e; grid = f }
 
 -- nothing but marks

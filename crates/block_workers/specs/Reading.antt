@@ -6,7 +6,7 @@ use Rattle.flow.specs.declared.TheConstants.{BLOCKS_PER_WINDOW}
 use Rattle.recording.specs.Samples.{samples}
 use Rattle.lane_ends.specs.declared.end.End.TheVariants.{More}
 use Rattle.lane_ends.specs.Ends.{Gives}
-use Rattle.flow.specs.Flow.{named}
+use Rattle.flow.specs.Flow.{name_of_samples}
 use Rattle.gauge_ring.specs.declared.feeder.Feeder.{Feeder}
 use Rattle.gauge_ring.specs.Ends.{fed, IsSameFeeder}
 use Rattle.block_pool.specs.Units.{FilledValue, IsBlank}
@@ -16,7 +16,7 @@ use Rattle.block_workers.specs.Dealing.{block_of, round_of, dealt, Feeds}
 
 -- a unit of a lane that holds the samples between
 pub record IsUnit (d : Desk) (from to : ℕ) (u : FilledValue) : Type 0 where
-  pub name : u.name ≡ named d.gauge from to
+  pub name : u.name ≡ name_of_samples d.gauge from to
   pub gain : u.gain ≡ d.gain
   pub block : u.block ≡ d.block
   pub grid : u.grid ≡ d.grid

@@ -36,8 +36,8 @@ abbrev pub back_of : CountedValue → Back
 back_of c = Unit c
 
 -- a round of a return ring: its units, and then the mark
-abbrev pub returned : List CountedValue → List Back
-returned cs = map back_of cs ++ Over ∷ []
+abbrev pub return_round : List CountedValue → List Back
+return_round cs = map back_of cs ++ Over ∷ []
 
 pub record Took (old new : Taker Item) : Type 0 where
   pub round : taken new ≡ taken old ++ round_of (new_blocks old new)
@@ -59,5 +59,5 @@ pub record Worked (old new : List (Taker Item)) (before now : Feeder Back) : Typ
   pub took : (g : ℕ) (d : Taker Item) → g < length old → Took (slice_index_or old g d) (slice_index_or new g d)
   pub units : List CountedValue
   pub counts : AreCounts (all_new old new) units
-  pub fed : fed now ≡ fed before ++ returned units
+  pub fed : fed now ≡ fed before ++ return_round units
   pub same : IsSameFeeder before now

@@ -5,7 +5,7 @@ use Rattle.segment.specs.Segment.{SegmentValue, SameStart}
 use Rattle.flow.specs.Kept.{between}
 use Rattle.std.proofs.lemmas.List.{get_or_default, get_or-take, get_or-drop}
 use Rattle.board.specs.Board.{spans}
-use Rattle.flow.specs.Flow.{named}
+use Rattle.flow.specs.Flow.{name_of_samples}
 use Rattle.segment.specs.Name.{name_of}
 use Rattle.segment.specs.Joining.{IsJoinAnswer}
 use Rattle.segment.specs.declared.segment.join.JoinRefusal.{JoinRefusal}
@@ -64,6 +64,7 @@ merged_from s l r j k x y p q o h m e f i w =
       emptied = subst (λ (z : SegmentValue). IsEmptied z y) (sym same) w;
     }
 
-pub join_name : (old new : SegmentValue) (to : ℕ) → SameStart old new → new.to ≡ to → name_of new ≡ named old.gauge old.from to
-join_name old new to start end = ap (λ k. named k new.from new.to) start.1 ∙ ap (λ k. named old.gauge k new.to) start.2 ∙ ap
-    (λ k. named old.gauge old.from k) end
+pub join_name : (old new : SegmentValue) (to : ℕ) → SameStart old new → new.to ≡ to → name_of new ≡ name_of_samples old.gauge old.from to
+join_name old new to start end = ap (λ k. name_of_samples k new.from new.to) start.1 ∙ ap (λ k. name_of_samples old.gauge k new.to) start.2
+    ∙ ap
+    (λ k. name_of_samples old.gauge old.from k) end

@@ -8,13 +8,13 @@ use Rattle.segment.specs.Segment.{SegmentValue, empty_at}
 use Rattle.board.specs.Board.{Row}
 use Rattle.flow.specs.declared.TheConstants.{BLOCKS_PER_WINDOW}
 
-abbrev pub emptied : ℕ → ℕ → SegmentValue → SegmentValue
-emptied gauge start s = empty_at s.grid gauge start s.longest
+abbrev pub empty_like : ℕ → ℕ → SegmentValue → SegmentValue
+empty_like gauge start s = empty_at s.grid gauge start s.longest
 
 pub record AllEmptied (gauge start : ℕ) (old new : List SegmentValue) : Type 0 where
   pub long : length new ≡ length old
   pub each : (k : ℕ) (d : SegmentValue) → k < length old →
-      slice_index_or new k d ≡ emptied gauge start (slice_index_or old k d)
+      slice_index_or new k d ≡ empty_like gauge start (slice_index_or old k d)
 
 pub record RowBegun (gauge start : ℕ) (old new : Row) : Type 0 where
   pub from : new.start ≡ start

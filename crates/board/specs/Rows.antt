@@ -12,7 +12,7 @@ use Rattle.segment_rules.specs.declared.name.Name.{Name}
 use Rattle.segment.specs.Segment.{SegmentValue, Stands}
 use Rattle.segment.specs.Name.{name_of}
 use Rattle.board.specs.Board.{IsRow, spans, StandsIn}
-use Rattle.flow.specs.Flow.{named}
+use Rattle.flow.specs.Flow.{name_of_samples}
 use Rattle.flow.specs.Kept.{between}
 use Rattle.flow.specs.declared.TheConstants.{BLOCKS_PER_WINDOW}
 
@@ -30,7 +30,7 @@ pub record IsCopy (most : ℕ) (seg new : SegmentValue) : Type 0 where
   pub stands : (gain : GainValue) (w : List ℤ) → Stands seg gain w → Stands new gain w
 
 pub record IsJoin (old seg new : SegmentValue) : Type 0 where
-  pub name : name_of new ≡ named old.gauge old.from seg.to
+  pub name : name_of new ≡ name_of_samples old.gauge old.from seg.to
   pub grid : new.grid ≡ old.grid
   pub longest : new.longest ≡ old.longest
   pub stands : (gain : GainValue) (u w : List ℤ) → Stands old gain u → Stands seg gain w → Stands new gain (u ++ w)

@@ -7,7 +7,7 @@ use Rattle.gauge_ring.specs.declared.taker.Taker.{Taker}
 use Rattle.gauge_ring.specs.Ends.{taken, IsSameTaker}
 use Rattle.block_pool.specs.Units.{CountedValue, PoolValue}
 use Rattle.board.specs.Board.{BoardValue}
-use Rattle.flow.specs.Flow.{changed}
+use Rattle.flow.specs.Flow.{with_value}
 use Rattle.flow.proofs.Counting.{changed_same, changed_other}
 use Rattle.deposits.specs.Deposited.{Deposited}
 use Rattle.deposits.specs.Mixed.Mixed.{nothing}
@@ -99,8 +99,8 @@ looked_more b c d p q r olds nows v x y l at h k = by k.came
     }
     by (inr n) = record {
       long = length-set nows v y ∙ h.long;
-      lists = changed h.lists v (h.lists v ++ n.unit ∷ []);
-      each = each_coming olds nows h.lists (changed h.lists v (h.lists v ++ n.unit ∷ [])) v y l h.each
+      lists = with_value h.lists v (h.lists v ++ n.unit ∷ []);
+      each = each_coming olds nows h.lists (with_value h.lists v (h.lists v ++ n.unit ∷ [])) v y l h.each
           (λ e. subst (Coming (get_or olds v e) y) (sym (changed_same h.lists v (h.lists v ++ n.unit ∷ [])))
           (more_coming (get_or olds v e) x y (h.lists v) n.unit (was e) k.same n.awaited n.taken))
           (λ u o. changed_other h.lists v (h.lists v ++ n.unit ∷ []) u o);

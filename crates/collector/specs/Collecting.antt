@@ -11,7 +11,7 @@ use Rattle.board.specs.Board.{BoardValue}
 use Rattle.deposits.specs.Deposited.{Stepped, Deposited}
 use Rattle.deposits.specs.Mixed.{Mixed}
 use Rattle.block_workers.specs.declared.item.Back.TheVariants.{Over}
-use Rattle.block_workers.specs.Working.{back_of, returned}
+use Rattle.block_workers.specs.Working.{back_of, return_round}
 use Rattle.collector.specs.declared.collecting.Return.{Return}
 
 abbrev pub IsAwaited : Return → Type 0
@@ -40,7 +40,7 @@ pub record Looked (b c : BoardValue) (p q : PoolValue) (old new : Return) : Type
 pub record Coming (old now : Return) (us : List CountedValue) : Type 0 where
   pub same : IsSameTaker old.taker now.taker
   pub awaited : IsAwaited now → taken now.taker ≡ taken old.taker ++ map back_of us
-  pub marked : now.awaited ≡ false → taken now.taker ≡ taken old.taker ++ returned us
+  pub marked : now.awaited ≡ false → taken now.taker ≡ taken old.taker ++ return_round us
 
 pub record Collecting (b c : BoardValue) (p q : PoolValue) (old now : List Return) : Type 0 where
   pub long : length now ≡ length old
@@ -54,7 +54,7 @@ pub record Collected (b c : BoardValue) (p q : PoolValue) (old new : List Return
   pub long : length new ≡ length old
   pub lists : ℕ → List CountedValue
   pub taken : (v : ℕ) (d : Return) → v < length old
-      → taken (slice_index_or new v d).taker ≡ taken (slice_index_or old v d).taker ++ returned (lists v)
+      → taken (slice_index_or new v d).taker ≡ taken (slice_index_or old v d).taker ++ return_round (lists v)
   pub same : (v : ℕ) (d : Return) → v < length old →
       IsSameTaker (slice_index_or old v d).taker (slice_index_or new v d).taker
   pub units : List CountedValue

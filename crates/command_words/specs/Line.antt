@@ -147,12 +147,12 @@ demo_line = line_by demo_app demo_in
 abbrev pub is_lower_digit : ℕ → Bool
 is_lower_digit c = (nat_le 48 c && nat_le c 57) || (nat_le 97 c && nat_le c 102)
 
-abbrev pub decoded : Result (List ℕ) FromHexError → Option (List ℕ)
-decoded (Ok id) = Some id
-decoded (Err fault) = None
+abbrev pub id_or_none : Result (List ℕ) FromHexError → Option (List ℕ)
+id_or_none (Ok id) = Some id
+id_or_none (Err fault) = None
 
 abbrev pub id_in : Text → Option (List ℕ)
-id_in text = if list_all is_lower_digit text then decoded (decode_sized text 16) else None
+id_in text = if list_all is_lower_digit text then id_or_none (decode_sized text 16) else None
 
 abbrev pub id_at : Option Text → Option (List ℕ)
 id_at None = None

@@ -21,14 +21,14 @@ use Rattle.site_config.specs.Valid.{file_of}
 use Rattle.lane_ends.specs.declared.end.End.{End}
 use Rattle.lane_ends.specs.declared.end.End.TheVariants as end
 use Rattle.lane_loans.specs.declared.lane.Lane.{Lane}
-use Rattle.recorded.specs.Recorded.{Recorded, recorded, body_in}
+use Rattle.recorded.specs.Recorded.{Recorded, recordings, body_in}
 use Rattle.held_samples.specs.Told.{Acknowledges}
 use Rattle.held_samples.specs.Going.{IsStored}
 use Rattle.site_lanes.specs.Answers.{AllOpened, AllSound}
 use Rattle.site_lanes.specs.Ending.{lane_fault, NoFaultBelow}
 use Rattle.site_lanes.specs.Lanes.{Stood, AreLanes, AreHeldTo, HasEnded, HasNotFailed, IsWhole}
 use Rattle.held_rounds.specs.Telling.{HasTold}
-use Rattle.count_command.specs.Holding.{HoldsBy, HeldAt, HeldCut, LeavesStore, whole, cut}
+use Rattle.count_command.specs.Holding.{HoldsBy, HeldAt, HeldCut, LeavesStore, whole, limited_length}
 use Rattle.count_command.specs.Printed.{AllStandFor, Prints}
 use Rattle.segment_store.specs.Opening.{Resumes}
 use Rattle.segment_store.specs.declared.fault.ResumeFault.{ResumeFault}
@@ -147,10 +147,10 @@ pub printing_stored : (s : Status) → IsPrinting s → LeavesStore s → ⊥
 printing_stored = by_printing (λ s. LeavesStore s → ⊥) (λ is. is) (λ is. is)
 
 module _ {C : Type 0} {tells : Type 0} {left : C → List ℕ} (c : Config) (files : Files) (lanes : List (Lane C)) (t : tells)
-    (are : AreLanes tells left (recorded c files) lanes) (ends : List ℕ) (held : AreHeldTo ends lanes) (ended : All HasEnded lanes)
+    (are : AreLanes tells left (recordings c files) lanes) (ends : List ℕ) (held : AreHeldTo ends lanes) (ended : All HasEnded lanes)
     (many : length lanes ≡ length c.gauges) where
   r : Recorded
-  r = recorded c files
+  r = recordings c files
 
   stood : (g : ℕ) (d : Lane C) (lt : g < length lanes) →
       Stood (samples (body_in (files (file_of c g)))) (torn_bytes (body_in (files (file_of c g)))) (left (held g d lt).0.src)
@@ -192,36 +192,37 @@ module _ {C : Type 0} {tells : Type 0} {left : C → List ℕ} (c : Config) (fil
           (omega (arith, lt, many), sound_below g (omega (arith, lt)) none, long_end g _ _ st.1)
 
   -- every image holds all
-  module _ (s : StoreValue) (seen : Image) (leaves : Image → Type 0) (stored : IsStored (recorded c files) s seen leaves)
+  module _ (s : StoreValue) (seen : Image) (leaves : Image → Type 0) (stored : IsStored (recordings c files) s seen leaves)
       (same : ends_of s.held ≡ ends) where
-    pub held_printing : NoFaultBelow lanes (length lanes) → (status : Status) → IsPrinting status → HeldAt status (recorded c files) leaves
+    pub held_printing : NoFaultBelow lanes (length lanes) → (status : Status) → IsPrinting status →
+        HeldAt status (recordings c files) leaves
     held_printing none =
-        let all : ((f : Image) → leaves f → HoldsBy (recorded c files) (whole (recorded c files)) f)
+        let all : ((f : Image) → leaves f → HoldsBy (recordings c files) (whole (recordings c files)) f)
         × ((g : ℕ) → g < length c.gauges → torn_bytes (body_in (files (file_of c g))) ≡ 0) = (
           (λ f has. record {
             held = ends_of s.held;
-            holds = stored_holds (recorded c files) s seen leaves stored f has;
+            holds = stored_holds (recordings c files) s seen leaves stored f has;
             all = λ g lt.
                 ap (λ (e : List ℕ). slice_index e g) same ∙ (all_at (length lanes) (omega arith) none g (omega (arith, lt, many))).0;
           }),
           (λ g lt. (all_at (length lanes) (omega arith) none g (omega (arith, lt, many))).1),
         ) in
-        by_printing (λ (x : Status). HeldAt x (recorded c files) leaves) all all
+        by_printing (λ (x : Status). HeldAt x (recordings c files) leaves) all all
 
     pub held_fault : All HasNotFailed lanes → (status : Status) (g : ℕ) (e : End) → lane_fault g e ≡ Some status →
-        HeldCut status (recorded c files) leaves
+        HeldCut status (recordings c files) leaves
     held_fault none status g e is =
-        let all : (f : Image) → leaves f → HoldsBy (recorded c files) (cut (recorded c files)) f =
+        let all : (f : Image) → leaves f → HoldsBy (recordings c files) (limited_length (recordings c files)) f =
         λ f has. record {
           held = ends_of s.held;
-          holds = stored_holds (recorded c files) s seen leaves stored f has;
+          holds = stored_holds (recordings c files) s seen leaves stored f has;
           all = λ h lt.
               let within : h < length lanes = omega (arith, lt, many) in
               let d = any_of lanes h within in
               ap (λ (e : List ℕ). slice_index e h) same ∙ (held h d within).1 ∙ cut_at _ _ _ _ (slice_index_or lanes h d).end
               (held h d within).0.at (ended h d within) (none h d within) (stood h d within);
         } in
-        by_fault (λ (x : Status). HeldCut x (recorded c files) leaves) g (λ b. all) tt all e status is
+        by_fault (λ (x : Status). HeldCut x (recordings c files) leaves) g (λ b. all) tt all e status is
 
   pub all_held : NoFaultBelow lanes (length lanes) → (g : ℕ) → g < length c.gauges →
       slice_index ends g ≡ length (samples (body_in (files (file_of c g))))
@@ -239,7 +240,7 @@ module _ {C : Type 0} {tells : Type 0} {left : C → List ℕ} (c : Config) (fil
       not_long e = cc
 
   pub acknowledges : {block : ℕ} {n : List ℕ} {told told2 : Lines} → NoFaultBelow lanes (length lanes) →
-      HasTold block (recorded c files) n told told2 lanes → Acknowledges block (recorded c files) n told told2
+      HasTold block (recordings c files) n told told2 lanes → Acknowledges block (recordings c files) n told told2
   acknowledges {block} {n} {told} {told2} none h = record {
     lines = _;
     grew = h.are;

@@ -9,7 +9,7 @@ use Rattle.recording.specs.Head.{recording_head}
 use Rattle.recording.specs.Samples.{samples}
 use Rattle.recording.specs.declared.head.Head.{Head}
 use Rattle.segment_rules.specs.Parts.{PartsValue}
-use Rattle.segment_store.specs.Image.{Tiles, IsNext, extended}
+use Rattle.segment_store.specs.Image.{Tiles, IsNext, ends_after}
 use Rattle.segment_store.specs.Holds.{Holds, StandsIn, AllStand}
 use Rattle.segment_store.specs.Image.Tiles.{none, one}
 use Rattle.segment_store.specs.Opening.{IsUnharmed}
@@ -39,7 +39,7 @@ body_within : (from to : ℕ) (w : List ℤ) → from < to → to ≡ from + len
 body_within from to w lt is = omega (arith, lt, is, length-drop from w, length-take (to - from) (drop from w))
 
 module _ (setup : Setup) (w : ℕ → List ℤ) where
-  next_within : (ends : List ℕ) (p : PartsValue) → IsNext setup ends p → StandsIn setup w p → Within w ends → Within w (extended ends p)
+  next_within : (ends : List ℕ) (p : PartsValue) → IsNext setup ends p → StandsIn setup w p → Within w ends → Within w (ends_after ends p)
   next_within ends p next stands was g = elim (cases_eq g p.name.gauge) [
     | inr other ↦ omega (arith, was g, get_or-set_other ends p.name.gauge g p.name.to 0 other)
     | inl same ↦ elim (cases_lt g (length ends)) [

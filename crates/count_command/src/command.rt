@@ -5,7 +5,7 @@ ghost use Rattle.round_making.specs.declared.TheConstants.{MAX_WORKERS};
 ghost use Rattle.segment_store.specs.Holds.{Holds};
 ghost use Rattle.site_config.specs.Configuration.{config_of_bytes};
 ghost use Rattle.site_config.specs.declared.config.Config.{Config};
-ghost use Rattle.recorded.specs.Recorded.{recorded};
+ghost use Rattle.recorded.specs.Recorded.{recordings};
 ghost use Rattle.recorded.specs.Asked.{AsksFirst, names_in};
 ghost use Rattle.held_samples.specs.Going.{AllHold, IsKept};
 ghost use Rattle.held_samples.specs.Told.{Acknowledges};
@@ -56,31 +56,31 @@ pub fn count_command<
     // this call up to it.
     ensures every_moment { K.tells → T.tells → C.tells → (conf : Config) →
         config_of_bytes (C.left config.old) ≡ Ok conf → (a : List ℕ) →
-        AllHold (recorded conf (T.files site.old)) a (K.leaves station.old) →
+        AllHold (recordings conf (T.files site.old)) a (K.leaves station.old) →
         (lines : Lines) (c : Image) → K.moments station.new (K.clock station.old) lines c →
-        IsKept (recorded conf (T.files site.old)) a (K.told station.old) lines c }
+        IsKept (recordings conf (T.files site.old)) a (K.told station.old) lines c }
     // At a good end all samples are held, and where a recording is torn or too long, as many as a
     // recording may have.
     ensures ended { K.tells → T.tells → C.tells → (conf : Config) →
         config_of_bytes (C.left config.old) ≡ Ok conf → (a : List ℕ) →
-        AllHold (recorded conf (T.files site.old)) a (K.leaves station.old) →
-        HeldAt result (recorded conf (T.files site.old)) (K.leaves station.new) }
+        AllHold (recordings conf (T.files site.old)) a (K.leaves station.old) →
+        HeldAt result (recordings conf (T.files site.old)) (K.leaves station.new) }
     ensures cut { K.tells → T.tells → C.tells → (conf : Config) →
         config_of_bytes (C.left config.old) ≡ Ok conf → (a : List ℕ) →
-        AllHold (recorded conf (T.files site.old)) a (K.leaves station.old) →
+        AllHold (recordings conf (T.files site.old)) a (K.leaves station.old) →
         (Rose (T.faults site.old) (T.faults site.new) → ⊥) →
-        HeldCut result (recorded conf (T.files site.old)) (K.leaves station.new) }
+        HeldCut result (recordings conf (T.files site.old)) (K.leaves station.new) }
     // The report is that of all samples, and each round was acknowledged.
     ensures prints { O.tells → K.tells → T.tells → C.tells → (conf : Config) →
         config_of_bytes (C.left config.old) ≡ Ok conf → (a : List ℕ) →
-        AllHold (recorded conf (T.files site.old)) a (K.leaves station.old) →
-        Prints result conf (recorded conf (T.files site.old)).samples
+        AllHold (recordings conf (T.files site.old)) a (K.leaves station.old) →
+        Prints result conf (recordings conf (T.files site.old)).samples
         (O.written out.old) (O.written out.new) }
     ensures nothing { O.tells → (IsPrinting result → ⊥) → O.written out.new ≡ O.written out.old }
     ensures acknowledged { K.tells → T.tells → C.tells → (conf : Config) →
         config_of_bytes (C.left config.old) ≡ Ok conf → (n : List ℕ) →
-        Holds conf.setup (recorded conf (T.files site.old)).samples n (K.seen station.old) →
-        result ≡ Done → Acknowledges conf.block (recorded conf (T.files site.old)) n
+        Holds conf.setup (recordings conf (T.files site.old)).samples n (K.seen station.old) →
+        result ≡ Done → Acknowledges conf.block (recordings conf (T.files site.old)) n
         (K.told station.old) (K.told station.new) }
     // Which answer it is.
     ensures answer { K.tells → T.tells → C.tells →
@@ -88,7 +88,7 @@ pub fn count_command<
         (K.seen station.old) (T.files site.old) result }
     ensures complete { K.tells → T.tells → C.tells → (conf : Config) →
         config_of_bytes (C.left config.old) ≡ Ok conf → (n : List ℕ)
-        (h : Holds conf.setup (recorded conf (T.files site.old)).samples n
+        (h : Holds conf.setup (recordings conf (T.files site.old)).samples n
         (K.seen station.old)) → HeadsFit conf h.head.heads (T.files site.old) →
         AllSound conf (T.files site.old) (length conf.gauges) →
         (Rose (C.faults config.old) (C.faults config.new) → ⊥) →

@@ -7,7 +7,7 @@ ghost use Rattle.segment_store.specs.Held.{ends_of};
 ghost use Rattle.segment_store.specs.Moments.{IsThere};
 ghost use Rattle.segment_store.specs.Quiet.{IsQuiet};
 ghost use Rattle.site_config.specs.Valid.{IsConfig};
-ghost use Rattle.recorded.specs.Recorded.{recorded};
+ghost use Rattle.recorded.specs.Recorded.{recordings};
 ghost use Rattle.held_samples.specs.Going.{Going, IsStored};
 ghost use Rattle.held_samples.specs.Told.{Acknowledges};
 ghost use Rattle.site_lanes.specs.Lanes.{AreLanes, AreHeldTo, HasSource, IsFaulty, HasNotFailed};
@@ -79,36 +79,36 @@ pub fn count_opened<
     requires on { K.tells → IsThere store.old (K.seen station.old) (K.leaves station.old) }
     // Every moment is kept, whatever it answers.
     ensures going { K.tells → C.tells → (files : Files) →
-        AreLanes C.tells C.left (recorded conf.now files) lanes.old →
-        IsStored (recorded conf.now files) store.old (K.seen station.old) (K.leaves station.old) →
-        Going (recorded conf.now files) (ends_of store.old.held)
+        AreLanes C.tells C.left (recordings conf.now files) lanes.old →
+        IsStored (recordings conf.now files) store.old (K.seen station.old) (K.leaves station.old) →
+        Going (recordings conf.now files) (ends_of store.old.held)
         (K.clock station.old) (K.moments station.old) (K.told station.old)
         (K.clock station.new) (K.moments station.new) (K.told station.new)
         (K.leaves station.new) (ends_of store.new.held) }
     // What is held at the end.
     ensures ended { K.tells → C.tells → (files : Files) →
-        AreLanes C.tells C.left (recorded conf.now files) lanes.old →
-        IsStored (recorded conf.now files) store.old (K.seen station.old) (K.leaves station.old) →
-        HeldAt result (recorded conf.now files) (K.leaves station.new) }
+        AreLanes C.tells C.left (recordings conf.now files) lanes.old →
+        IsStored (recordings conf.now files) store.old (K.seen station.old) (K.leaves station.old) →
+        HeldAt result (recordings conf.now files) (K.leaves station.new) }
     ensures cut { K.tells → C.tells → (files : Files) →
-        AreLanes C.tells C.left (recorded conf.now files) lanes.old →
-        IsStored (recorded conf.now files) store.old (K.seen station.old) (K.leaves station.old) →
+        AreLanes C.tells C.left (recordings conf.now files) lanes.old →
+        IsStored (recordings conf.now files) store.old (K.seen station.old) (K.leaves station.old) →
         All HasNotFailed lanes.new →
-        HeldCut result (recorded conf.now files) (K.leaves station.new) }
+        HeldCut result (recordings conf.now files) (K.leaves station.new) }
     // What is told and printed.
     ensures acknowledged { K.tells → C.tells → (files : Files) →
-        AreLanes C.tells C.left (recorded conf.now files) lanes.old → result ≡ Done →
-        Acknowledges conf.now.block (recorded conf.now files) (ends_of store.old.held)
+        AreLanes C.tells C.left (recordings conf.now files) lanes.old → result ≡ Done →
+        Acknowledges conf.now.block (recordings conf.now files) (ends_of store.old.held)
         (K.told station.old) (K.told station.new) }
     ensures prints { O.tells → K.tells → C.tells → (files : Files) →
-        AreLanes C.tells C.left (recorded conf.now files) lanes.old →
-        IsStored (recorded conf.now files) store.old (K.seen station.old) (K.leaves station.old) →
-        Prints result conf.now (recorded conf.now files).samples
+        AreLanes C.tells C.left (recordings conf.now files) lanes.old →
+        IsStored (recordings conf.now files) store.old (K.seen station.old) (K.leaves station.old) →
+        Prints result conf.now (recordings conf.now files).samples
         (O.written out.old) (O.written out.new) }
     ensures nothing { O.tells → (IsPrinting result → ⊥) → O.written out.new ≡ O.written out.old }
     // Which answer it is.
     ensures answer { C.tells → (files : Files) →
-        AreLanes C.tells C.left (recorded conf.now files) lanes.old →
+        AreLanes C.tells C.left (recordings conf.now files) lanes.old →
         EndAnswers conf.now files result }
     ensures kind { IsEnding result }
     ensures quiet { K.tells → LeavesStore result → IsQuiet

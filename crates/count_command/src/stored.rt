@@ -17,7 +17,7 @@ ghost use Rattle.segment_store.specs.Holds.{Holds};
 ghost use Rattle.segment_store.specs.Moments.{IsThere};
 ghost use Rattle.segment_store.specs.Quiet.{IsQuiet};
 ghost use Rattle.site_config.specs.Valid.{IsConfig};
-ghost use Rattle.recorded.specs.Recorded.{recorded};
+ghost use Rattle.recorded.specs.Recorded.{recordings};
 ghost use Rattle.recorded.specs.Asked.{AsksFirst, file_names};
 ghost use Rattle.held_samples.specs.Going.{AllHold, Going, Safe, IsStored};
 ghost use Rattle.held_samples.specs.Told.{Acknowledges};
@@ -69,27 +69,27 @@ fn count_stored<
     requires setup { store.old.head.setup ≡ conf.now.setup }
     requires on { K.tells → IsThere store.old (K.seen station.old) (K.leaves station.old) }
     // Every moment is kept, whatever it answers.
-    ensures going { K.tells → T.tells → IsStored (recorded conf.now (T.files site.old)) store.old
+    ensures going { K.tells → T.tells → IsStored (recordings conf.now (T.files site.old)) store.old
         (K.seen station.old) (K.leaves station.old) →
-        Going (recorded conf.now (T.files site.old)) (ends_of store.old.held)
+        Going (recordings conf.now (T.files site.old)) (ends_of store.old.held)
         (K.clock station.old) (K.moments station.old) (K.told station.old)
         (K.clock station.new) (K.moments station.new) (K.told station.new)
         (K.leaves station.new) (ends_of store.new.held) }
     // What is held at the end.
-    ensures ended { K.tells → T.tells → IsStored (recorded conf.now (T.files site.old)) store.old
+    ensures ended { K.tells → T.tells → IsStored (recordings conf.now (T.files site.old)) store.old
         (K.seen station.old) (K.leaves station.old) →
-        HeldAt result (recorded conf.now (T.files site.old)) (K.leaves station.new) }
-    ensures cut { K.tells → T.tells → IsStored (recorded conf.now (T.files site.old)) store.old
+        HeldAt result (recordings conf.now (T.files site.old)) (K.leaves station.new) }
+    ensures cut { K.tells → T.tells → IsStored (recordings conf.now (T.files site.old)) store.old
         (K.seen station.old) (K.leaves station.old) → All HasNotFailed lanes.new.items →
-        HeldCut result (recorded conf.now (T.files site.old)) (K.leaves station.new) }
+        HeldCut result (recordings conf.now (T.files site.old)) (K.leaves station.new) }
     // What is told and printed.
     ensures acknowledged { K.tells → T.tells → result ≡ Done →
-        Acknowledges conf.now.block (recorded conf.now (T.files site.old))
+        Acknowledges conf.now.block (recordings conf.now (T.files site.old))
         (ends_of store.old.held) (K.told station.old) (K.told station.new) }
     ensures prints { O.tells → K.tells → T.tells →
-        IsStored (recorded conf.now (T.files site.old)) store.old
+        IsStored (recordings conf.now (T.files site.old)) store.old
         (K.seen station.old) (K.leaves station.old) →
-        Prints result conf.now (recorded conf.now (T.files site.old)).samples
+        Prints result conf.now (recordings conf.now (T.files site.old)).samples
         (O.written out.old) (O.written out.new) }
     ensures nothing { O.tells → (IsPrinting result → ⊥) → O.written out.new ≡ O.written out.old }
     // Which answer it is.
@@ -150,28 +150,28 @@ pub fn count_by<
     requires home { T.out site.old ≡ 0 }
     // Every moment is kept, whatever it answers.
     ensures safe { K.tells → T.tells → (a : List ℕ) →
-        AllHold (recorded conf.now (T.files site.old)) a (K.leaves station.old) →
-        Safe (recorded conf.now (T.files site.old)) a
+        AllHold (recordings conf.now (T.files site.old)) a (K.leaves station.old) →
+        Safe (recordings conf.now (T.files site.old)) a
         (K.clock station.old) (K.moments station.old) (K.told station.old)
         (K.clock station.new) (K.moments station.new) (K.told station.new)
         (K.leaves station.new) }
     // What is held at the end.
     ensures ended { K.tells → T.tells → (a : List ℕ) →
-        AllHold (recorded conf.now (T.files site.old)) a (K.leaves station.old) →
-        HeldAt result (recorded conf.now (T.files site.old)) (K.leaves station.new) }
+        AllHold (recordings conf.now (T.files site.old)) a (K.leaves station.old) →
+        HeldAt result (recordings conf.now (T.files site.old)) (K.leaves station.new) }
     ensures cut { K.tells → T.tells → (a : List ℕ) →
-        AllHold (recorded conf.now (T.files site.old)) a (K.leaves station.old) →
+        AllHold (recordings conf.now (T.files site.old)) a (K.leaves station.old) →
         (Rose (T.faults site.old) (T.faults site.new) → ⊥) →
-        HeldCut result (recorded conf.now (T.files site.old)) (K.leaves station.new) }
+        HeldCut result (recordings conf.now (T.files site.old)) (K.leaves station.new) }
     // What is told and printed.
     ensures acknowledged { K.tells → T.tells → (n : List ℕ) →
-        Holds conf.now.setup (recorded conf.now (T.files site.old)).samples n
+        Holds conf.now.setup (recordings conf.now (T.files site.old)).samples n
         (K.seen station.old) → result ≡ Done →
-        Acknowledges conf.now.block (recorded conf.now (T.files site.old)) n
+        Acknowledges conf.now.block (recordings conf.now (T.files site.old)) n
         (K.told station.old) (K.told station.new) }
     ensures prints { O.tells → K.tells → T.tells → (a : List ℕ) →
-        AllHold (recorded conf.now (T.files site.old)) a (K.leaves station.old) →
-        Prints result conf.now (recorded conf.now (T.files site.old)).samples
+        AllHold (recordings conf.now (T.files site.old)) a (K.leaves station.old) →
+        Prints result conf.now (recordings conf.now (T.files site.old)).samples
         (O.written out.old) (O.written out.new) }
     ensures nothing { O.tells → (IsPrinting result → ⊥) → O.written out.new ≡ O.written out.old }
     // Which answer it is.
@@ -179,7 +179,7 @@ pub fn count_by<
         MayAnswerOver conf.now (K.seen station.old) (T.files site.old) result }
     // Over a sound store and sound recordings there is no refusal.
     ensures complete { K.tells → T.tells → (n : List ℕ)
-        (h : Holds conf.now.setup (recorded conf.now (T.files site.old)).samples n
+        (h : Holds conf.now.setup (recordings conf.now (T.files site.old)).samples n
         (K.seen station.old)) → HeadsFit conf.now h.head.heads (T.files site.old) →
         AllSound conf.now (T.files site.old) (length conf.now.gauges) → IsComplete result }
     ensures kind { IsCounting result }

@@ -7,7 +7,7 @@ use Rattle.csv.specs.Records.{field_at}
 use Rattle.csv.specs.Writing.{read_back}
 use Rattle.csv_recording.specs.Cells.{missing, cell_text}
 use Rattle.csv_recording.specs.Column.{records_of, place_of, samples_of_rows}
-use Rattle.csv_recording.specs.Sheet.{longest, cells_at, rows_from, sheet_rows, sheet_text, missing_readings, padded}
+use Rattle.csv_recording.specs.Sheet.{longest, cells_at, rows_from, sheet_rows, sheet_text, missing_readings, padded_samples}
 use Rattle.csv_recording.specs.Back.{ReadsBack}
 use Rattle.csv_recording.proofs.CellBack.{cell_back}
 use Rattle.csv_recording.proofs.Written.{records_back, sheet_begins}
@@ -74,7 +74,7 @@ unfolding samples_from missing_readings
 none_left i zero = refl
 none_left i (suc n) = ap (λ rest. missing ∷ rest) (none_left (i + 1) n)
 
-padded_is : (samples : List ℤ) (n : ℕ) → length samples ≤ n → samples_from samples 0 n ≡ padded samples n
+padded_is : (samples : List ℤ) (n : ℕ) → length samples ≤ n → samples_from samples 0 n ≡ padded_samples samples n
 unfolding samples_from
 padded_is [] n le = let all : n - 0 ≡ n = omega arith in rw all (none_left 0 n)
 padded_is (sample ∷ samples) zero le = absurd (omega arith)

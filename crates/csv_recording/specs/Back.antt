@@ -3,7 +3,7 @@ use Rattle.std.specs.Prelude.{ℕ, ℤ, ◌≡◌, ◌<◌, List, [], length, sl
 use Rattle.std.specs.Int.{w32}
 use Rattle.std.specs.List.{IsDistinct}
 use Rattle.csv_recording.specs.Column.{column_of}
-use Rattle.csv_recording.specs.Sheet.{sheet_text, padded, longest}
+use Rattle.csv_recording.specs.Sheet.{sheet_text, padded_samples, longest}
 
 -- Names that are all different, in ASCII, and a recording of samples of 32 bits for each. A gauge's name in a
 -- configuration is of letters, digits, dashes and underscores, so it is ASCII.
@@ -17,4 +17,4 @@ pub record AreGauges (names : List (List ℕ)) (recordings : List (List ℤ)) : 
 abbrev pub ReadsBack : Type 0
 ReadsBack = (names : List (List ℕ)) (recordings : List (List ℤ)) (g : ℕ) → AreGauges names recordings → g < length names
     → column_of (slice_index_or names g []) (sheet_text names recordings)
-    ≡ Ok (padded (slice_index_or recordings g []) (longest recordings))
+    ≡ Ok (padded_samples (slice_index_or recordings g []) (longest recordings))

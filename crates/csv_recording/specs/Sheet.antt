@@ -1,8 +1,8 @@
 -- Recordings as a CSV text, one column for each gauge.
---   longest     the greatest number of samples
---   sheet_rows  the names, and then a record for each sample of the longest recording
---   sheet_text  their text, as `csv` writes records by its defaults
---   padded      samples, and behind them readings that are missing
+--   longest         the greatest number of samples
+--   sheet_rows      the names, and then a record for each sample of the longest recording
+--   sheet_text      their text, as `csv` writes records by its defaults
+--   padded_samples  samples, and behind them readings that are missing
 use Rattle.std.specs.Prelude.{ℕ, ℤ, zero, suc, ◌+◌, ◌-◌, max, List, [], ◌∷◌, ◌++◌, length, map, slice_index_or}
 use Rattle.csv.specs.Writing.{default_writer, row_text}
 use Rattle.csv_recording.specs.Cells.{missing, cell_text}
@@ -34,5 +34,5 @@ unfoldable pub missing_readings : ℕ → List ℤ
 missing_readings zero = []
 missing_readings (suc n) = missing ∷ missing_readings n
 
-abbrev pub padded : List ℤ → ℕ → List ℤ
-padded samples n = samples ++ missing_readings (n - length samples)
+abbrev pub padded_samples : List ℤ → ℕ → List ℤ
+padded_samples samples n = samples ++ missing_readings (n - length samples)

@@ -21,7 +21,7 @@ use Rattle.round_making.specs.Round.{LaneDone, FrontDone, RoundDone}
 use Rattle.site_lanes.specs.Lanes.{Stood, IsLane, AreReady, AreLanes, IsWhole}
 use Rattle.site_lanes.proofs.AfterRound.{stood_more}
 use Rattle.site_lanes.proofs.AllLanes.{ready_after, lanes_after, all_reached}
-use Rattle.demo_command.specs.Made.{demo_grid, demo_gain, made_at, made, IsStart}
+use Rattle.demo_command.specs.Made.{demo_grid, demo_gain, made_at, demo_recordings, IsStart}
 use Rattle.demo_command.specs.Totals.{IsTotal, CanJoin, HasJoined}
 use Rattle.demo_command.proofs.MadeBytes.{length-made, samples-made, torn_bytes-made}
 use Rattle.lemmas.proofs.Outcomes.{same_some}
@@ -37,7 +37,7 @@ pub record IsCounted (seed all rounds : ℕ) (p : PreparedValue) (lanes : List D
   pub lanes_long : length lanes ≡ 4
   pub totals_long : length totals ≡ 4
   pub ready : AreReady lanes
-  pub are : AreLanes (Unit {0}) (λ (left : List ℕ). left) (made seed all) lanes
+  pub are : AreLanes (Unit {0}) (λ (left : List ℕ). left) (demo_recordings seed all) lanes
   pub whole : All IsWhole lanes
   pub at : (g : ℕ) (d : DemoLane) → g < length lanes →
       (slice_index_or lanes g d).at ≡ min (16 * 1024 * rounds) (length (made_at seed all g))
@@ -54,7 +54,7 @@ module _ (seed all g : ℕ) (lt : g < 4) (lane : DemoLane) (start : IsStart seed
       (subst (λ (e : End). Stood (made_at seed all g) 0 (sample_bytes (made_at seed all g)) 0 e) (sym start.end)
       (samples-made all (seed + g), torn_bytes-made all (seed + g))))
 
-  pub start_lane : IsLane (Unit {0}) (λ (left : List ℕ). left) (made seed all) g lane
+  pub start_lane : IsLane (Unit {0}) (λ (left : List ℕ). left) (demo_recordings seed all) g lane
   start_lane = record {
     gain = λ d. start.gain ∙ sym (get_or-replicate 4 g demo_gain d lt);
     within = λ t. omega (arith, start.at);
@@ -83,7 +83,7 @@ module _ (seed all g : ℕ) {block : ℕ} {old new : DemoLane}
   not_too_long w left at ReadFault less s = λ e. absurd cc
   not_too_long w left at TooLong less s = λ e. omega (arith, less, s.1)
 
-  pub whole_after : all ≤ 1000000 → IsLane (Unit {0}) (λ (left : List ℕ). left) (made seed all) g new → IsWhole old → IsWhole new
+  pub whole_after : all ≤ 1000000 → IsLane (Unit {0}) (λ (left : List ℕ). left) (demo_recordings seed all) g new → IsWhole old → IsWhole new
   whole_after few lane was = (
     (λ e. ⊎_elim (λ more. never (done.cause more e)) (λ other. was.0 (sym (done.ended other).1 ∙ e)) (more_or_not old.end)),
     not_too_long (made_at seed all g) done.now new.at new.end (short few) (lane.stood tt done.now done.has),
@@ -93,7 +93,7 @@ module _ (seed all g : ℕ) {block : ℕ} {old new : DemoLane}
       never rose = omega (arith, rose)
 
   -- what the front stands for
-  pub front_samples : IsLane (Unit {0}) (λ (left : List ℕ). left) (made seed all) g old
+  pub front_samples : IsLane (Unit {0}) (λ (left : List ℕ). left) (demo_recordings seed all) g old
       → take (new.at - old.at) (samples done.before) ≡ take (new.at - old.at) (drop old.at (made_at seed all g))
   front_samples lane = ⊎_elim
       (λ more. ap (take (new.at - old.at)) (stood_more (made_at seed all g) 0 done.before old.at more
@@ -105,7 +105,8 @@ module _ (seed all g : ℕ) {block : ℕ} {old new : DemoLane}
 -- a front that comes next, and is joined
 module _ (seed all g : ℕ) (lt : g < 4) {block : ℕ} {old new : DemoLane}
     (done : LaneDone (Unit {0}) (λ (left : List ℕ). left) (λ (left : List ℕ). 0) block old new)
-    (lane : IsLane (Unit {0}) (λ (left : List ℕ). left) (made seed all) g old) (v : SegmentValue) (total : IsTotal seed all g old.at v)
+    (lane : IsLane (Unit {0}) (λ (left : List ℕ). left) (demo_recordings seed all) g old) (v : SegmentValue)
+    (total : IsTotal seed all g old.at v)
     (board : BoardValue) (over : board.grid ≡ demo_grid)
     (fronts : (front : SegmentValue) → IsFront board g front → FrontDone (Unit {0}) (λ (left : List ℕ). left) old new front) where
   gain_is : old.gain ≡ demo_gain
@@ -195,8 +196,8 @@ module _ (seed all rounds : ℕ) (few : all ≤ 1000000) {p p2 : PreparedValue} 
   count : length lanes ≡ p.gauges
   count = was.lanes_long ∙ sym was.gauges
 
-  are_lanes : AreLanes (Unit {0}) (λ (left : List ℕ). left) (made seed all) lanes2
-  are_lanes = lanes_after done count was.ready (made seed all) was.are
+  are_lanes : AreLanes (Unit {0}) (λ (left : List ℕ). left) (demo_recordings seed all) lanes2
+  are_lanes = lanes_after done count was.ready (demo_recordings seed all) was.are
 
   lane_done : (g : ℕ) (d : DemoLane) → g < 4
       → LaneDone (Unit {0}) (λ (left : List ℕ). left) (λ (left : List ℕ). 0) p.block (slice_index_or lanes g d) (slice_index_or lanes2 g d)
@@ -231,7 +232,7 @@ module _ (seed all rounds : ℕ) (few : all ≤ 1000000) {p p2 : PreparedValue} 
     ready = ready_after done count was.ready;
     are = are_lanes;
     whole = all_whole;
-    at = λ g d lt. all_reached done count was.ready (made seed all) (λ h. 16 * 1024 * rounds) tt was.are all_whole was.at g d lt
+    at = λ g d lt. all_reached done count was.ready (demo_recordings seed all) (λ h. 16 * 1024 * rounds) tt was.are all_whole was.at g d lt
         ∙ ap (λ (n : ℕ). min n (length (made_at seed all g))) (further p.block was.block);
     counted = λ g d e lt. joined_total seed all g lt (lane_done g d lt) (was.are g d (omega (arith, lt, was.lanes_long)))
         (slice_index_or totals g e)

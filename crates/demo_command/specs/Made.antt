@@ -1,7 +1,7 @@
 -- The recordings that are made from a seed, and how they are counted.
 --   demo_grid, demo_gain   128 classes of 1 MPa from -64 MPa on, and a raw value of 1 is 1 MPa
 --   made_at                the samples of a gauge: those from the seed and its number
---   made                   the recordings of four gauges
+--   demo_recordings        the recordings of four gauges
 --   IsStart                a lane at the start of its recording
 use Rattle.std.specs.Prelude.{◌≡◌, ℕ, ◌+◌, ℤ, pos, List, [], Some, replicate}
 use Rattle.recording.specs.Samples.{sample_bytes}
@@ -27,8 +27,8 @@ abbrev pub levels_at : ℕ → ℕ → ℕ → List ℕ
 levels_at seed samples g = history demo_grid demo_gain (made_at seed samples g)
 
 -- they have no names and no torn bytes
-abbrev pub made : ℕ → ℕ → Recorded
-made seed samples = record {
+abbrev pub demo_recordings : ℕ → ℕ → Recorded
+demo_recordings seed samples = record {
   setup = record { grid = demo_grid; gains = replicate GAUGES demo_gain };
   gauges = GAUGES;
   names = λ g. [];

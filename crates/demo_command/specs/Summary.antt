@@ -9,7 +9,7 @@ use Rattle.std.specs.Fmt.{decimal}
 use Rattle.turning_points.specs.Points.{points}
 use Rattle.three_point.specs.Run.{half_units}
 use Rattle.four_point.specs.Reduction.{IsFourPointResult}
-use Rattle.report.specs.Lines.{halved}
+use Rattle.report.specs.Lines.{halves_text}
 use Rattle.demo_command.specs.Made.{levels_at}
 use Rattle.demo_command.specs.declared.made.TheConstants.{GAUGES, CLASSES}
 
@@ -27,7 +27,7 @@ table_halves h = all_halves (half_units h) (CLASSES - 1)
 
 abbrev pub gauge_line : ℕ → ℕ → ℕ → List ℕ
 gauge_line g halves points =
-    codes "gauge " ++ decimal g ++ codes " cycles " ++ halved halves ++ codes " residue " ++ decimal
+    codes "gauge " ++ decimal g ++ codes " cycles " ++ halves_text halves ++ codes " residue " ++ decimal
     points ++ codes "\n"
 
 abbrev pub head_line : ℕ → ℕ → List ℕ

@@ -5,7 +5,7 @@ use Rattle.std.proofs.lemmas.Bool.Decides.{nat_tests}
 use Rattle.segment_rules.specs.declared.name.Name.{Name}
 use Rattle.segment.specs.Segment.{SegmentValue}
 use Rattle.segment.specs.Name.{name_of}
-use Rattle.flow.specs.Flow.{named}
+use Rattle.flow.specs.Flow.{name_of_samples}
 use Rattle.flow.specs.Flow.{hits}
 use Rattle.flow.specs.Kept.{between}
 use Rattle.flow.proofs.Counting.{between_one}
@@ -14,12 +14,12 @@ use Rattle.board.specs.Board.{BoardValue, IsFront, start_of}
 behind : (a b i : ℕ) → b ≤ i → between a b i ≡ 0
 behind a b i h = grind (arith, nat_tests)
 
-name_is : (n : Name) (g a b : ℕ) → n.gauge ≡ g → n.from ≡ a → n.to ≡ b → n ≡ named g a b
-name_is n g a b e f h = ap (λ x. named x n.from n.to) e ∙ ap (λ x. named g x n.to) f ∙ ap (λ x. named g a x) h
+name_is : (n : Name) (g a b : ℕ) → n.gauge ≡ g → n.from ≡ a → n.to ≡ b → n ≡ name_of_samples g a b
+name_is n g a b e f h = ap (λ x. name_of_samples x n.from n.to) e ∙ ap (λ x. name_of_samples g x n.to) f ∙ ap (λ x. name_of_samples g a x) h
 
 -- the front runs over the range
 pub front_name : (b : BoardValue) (g from to : ℕ) (s : SegmentValue) → IsFront b g s → start_of b g ≡ from → from ≤ to
-    → ((i : ℕ) → hits g i b.arrivals ≡ between from to i) → name_of s ≡ named g from to
+    → ((i : ℕ) → hits g i b.arrivals ≡ between from to i) → name_of s ≡ name_of_samples g from to
 front_name b g from to s f start up once =
     let at : s.from ≡ from = f.from ∙ start in
     let ends : s.to ≡ to = elim (cases_lt s.to to) [

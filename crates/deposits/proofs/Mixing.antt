@@ -4,7 +4,7 @@ use Rattle.std.specs.List.{filter}
 use Rattle.std.proofs.lemmas.Bool.{cases_eq}
 use Rattle.std.proofs.lemmas.List.{append-nil}
 use Rattle.segment_rules.specs.declared.name.Name.{Name}
-use Rattle.flow.specs.Flow.{has, hits, changed}
+use Rattle.flow.specs.Flow.{has, hits, with_value}
 use Rattle.flow.specs.Kept.{over}
 use Rattle.flow.proofs.Counting.{over_one, over_none, hits-append, changed_same, changed_other}
 use Rattle.deposits.specs.Deposited.{Each}
@@ -73,7 +73,7 @@ mixed_map k n h _ (next {f = f} {l = l} x v m d same others) =
 
 -- a list more than the first one
 pub mixed_next : {A : Type 0} → (n : ℕ) (f : ℕ → List A) (l : List A) (x : A) (v : ℕ) → v < n → Mixed n f l
-    → Mixed n (changed f v (f v ++ x ∷ [])) (l ++ x ∷ [])
+    → Mixed n (with_value f v (f v ++ x ∷ [])) (l ++ x ∷ [])
 mixed_next n f l x v m d = next x v m d (changed_same f v (f v ++ x ∷ [])) (λ u o. changed_other f v (f v ++ x ∷ []) u o)
 
 -- it is as long as all the lists

@@ -5,7 +5,7 @@ use Rattle.std.specs.Fmt.{digit_glyph, digits_onto, digits, decimal, signed_deci
 use Rattle.std.proofs.lemmas.List.{length-take, length-map}
 use Rattle.hex.specs.Hex.{lower_digits}
 use Rattle.hex.proofs.HexLemmas.{length-encode_with}
-use Rattle.line_room.specs.Room.{shown, shown_byte}
+use Rattle.line_room.specs.Room.{shown_text, shown_byte}
 use Rattle.site_config.specs.Keys.{part_text, index_text, has_index, name_behind, key_text}
 use Rattle.site_config.specs.FaultText.{fault_words, place_behind, config_fault_text}
 use Rattle.site_config.specs.declared.fault.Key.{Key}
@@ -202,13 +202,13 @@ differs-short w held found =
 
 -- a front, a name, a text behind it, and the end of the line
 named : (front name text : List ℕ) (m : ℕ) → length front ≤ 10 → length text ≤ m →
-    length (front ++ shown name ++ codes ": " ++ text ++ codes "\n") ≤ m + 13 + length name
+    length (front ++ shown_text name ++ codes ": " ++ text ++ codes "\n") ≤ m + 13 + length name
 named front name text m f t =
-    let n : length (shown name) ≤ length name = omega (arith, length-map name shown_byte) in
-    let to1 = appended front (shown name) 10 (length name) f n in
-    let to2 = appended (front ++ shown name) (codes ": ") (10 + length name) 2 to1 (omega arith) in
-    let to3 = appended (front ++ shown name ++ codes ": ") text (10 + length name + 2) m to2 t in
-    omega (arith, appended (front ++ shown name ++ codes ": " ++ text) (codes "\n") (10 + length name + 2 + m) 1 to3 (omega arith))
+    let n : length (shown_text name) ≤ length name = omega (arith, length-map name shown_byte) in
+    let to1 = appended front (shown_text name) 10 (length name) f n in
+    let to2 = appended (front ++ shown_text name) (codes ": ") (10 + length name) 2 to1 (omega arith) in
+    let to3 = appended (front ++ shown_text name ++ codes ": ") text (10 + length name + 2) m to2 t in
+    omega (arith, appended (front ++ shown_text name ++ codes ": " ++ text) (codes "\n") (10 + length name + 2 + m) 1 to3 (omega arith))
 
 ended : (front text : List ℕ) (m : ℕ) → length front ≤ 8 → length text ≤ m → length (front ++ text ++ codes "\n") ≤ m + 9
 ended front text m f t = omega (arith, appended (front ++ text) (codes "\n") (8 + m) 1 (appended front text 8 m f t) (omega arith))

@@ -8,7 +8,7 @@
 use Rattle.std.specs.Prelude.{ℕ, List, [], ◌++◌, codes, take, Result, Ok, Err}
 use Rattle.std.specs.Fmt.{decimal, signed_decimal}
 use Rattle.hex.specs.Hex.{encode_lower}
-use Rattle.line_room.specs.Room.{shown}
+use Rattle.line_room.specs.Room.{shown_text}
 use Rattle.site_config.specs.FaultText.{config_fault_text}
 use Rattle.site_config.specs.declared.config.Config.{Config as Configuration}
 use Rattle.site_config.specs.Valid.{name_of}
@@ -69,7 +69,7 @@ torn_text bytes = codes "ends in " ++ decimal bytes ++ codes " odd bytes"
 
 -- what is told of a recording, behind its name
 abbrev pub recording_line : List ℕ → List ℕ → List ℕ
-recording_line name text = codes "recording " ++ shown name ++ codes ": " ++ text ++ codes "\n"
+recording_line name text = codes "recording " ++ shown_text name ++ codes ": " ++ text ++ codes "\n"
 
 abbrev pub differs_text : What → ℕ → ℕ → List ℕ
 differs_text what held found = what_text what ++ codes " held " ++ decimal held ++ codes ", recount " ++ decimal found
@@ -89,7 +89,7 @@ fault_line DiskFault name = codes "station fault\n"
 fault_line OutOfMemory name = codes "out of memory\n"
 fault_line (TooLong gauge) name = recording_line name (codes "too long")
 fault_line (Differs gauge what held found) name =
-    codes "audit " ++ shown name ++ codes ": " ++ differs_text what held found ++ codes "\n"
+    codes "audit " ++ shown_text name ++ codes ": " ++ differs_text what held found ++ codes "\n"
 
 -- Other answers have no gauge.
 abbrev pub name_for : Configuration → Status → List ℕ

@@ -1,6 +1,6 @@
 ghost use Rattle.std.specs.Prelude.{◌≡◌, ◌++◌, codes};
 ghost use Rattle.std.specs.Fmt.{decimal};
-ghost use Rattle.line_room.specs.Room.{Fits, with_text, shown};
+ghost use Rattle.line_room.specs.Room.{Fits, with_text, shown_text};
 ghost use Rattle.site_config.specs.FaultText.{config_fault_text, place_behind};
 ghost use Rattle.site_config.specs.Keys.{key_text};
 ghost use Rattle.status.specs.declared.status.RecordingFault.TheVariants.{Id, ShortRow, Cell};
@@ -118,9 +118,9 @@ fn push_recording(line: &mut LineRoom, name: &[u8], fault: RecordingFault)
 }
 
 fn push_name(line: &mut LineRoom, name: &[u8])
-    requires { Fits line.old (codes "recording " ++ shown name.now ++ codes ": ") }
+    requires { Fits line.old (codes "recording " ++ shown_text name.now ++ codes ": ") }
     ensures { line.new ≡ with_text line.old
-        (codes "recording " ++ shown name.now ++ codes ": ") }
+        (codes "recording " ++ shown_text name.now ++ codes ": ") }
 {
     line.push(b"recording ");
     line.push_shown(name);
@@ -228,10 +228,10 @@ fn push_too_long(line: &mut LineRoom, name: &[u8])
 
 fn push_differs(line: &mut LineRoom, name: &[u8], what: What, held: u64, found: u64)
     requires { Fits line.old
-        (codes "audit " ++ shown name.now ++ codes ": " ++ differs_text what held found
+        (codes "audit " ++ shown_text name.now ++ codes ": " ++ differs_text what held found
         ++ codes "\n") }
     ensures { line.new ≡ with_text line.old
-        (codes "audit " ++ shown name.now ++ codes ": " ++ differs_text what held found
+        (codes "audit " ++ shown_text name.now ++ codes ": " ++ differs_text what held found
         ++ codes "\n") }
 {
     line.push(b"audit ");

@@ -4,7 +4,7 @@ use Rattle.std.specs.List.{filter}
 use Rattle.std.proofs.lemmas.Bool.Decides.{nat_tests}
 use Rattle.std.proofs.lemmas.Bool.{cases_eq, eq-eqb, ne_eqb}
 use Rattle.segment_rules.specs.declared.name.Name.{Name}
-use Rattle.flow.specs.Flow.{has, hits, In, changed, changed_at, stays}
+use Rattle.flow.specs.Flow.{has, hits, In, with_value, with_value_at, stays}
 use Rattle.flow.specs.Flow.In.{here, there}
 use Rattle.flow.specs.Kept.{Every, Ascends, over, between}
 use Rattle.flow.specs.Kept.Every.{none, both}
@@ -150,50 +150,50 @@ over_none (suc n) f h = let a : over n f ≡ 0 = over_none n f (λ v l. h v (ome
     h n (omega arith) in omega (arith, a, b)
 
 -- functions that are changed at one place
-pub changed_same : {A : Type 0} → (f : ℕ → A) (k : ℕ) (x : A) → changed f k x k ≡ x
+pub changed_same : {A : Type 0} → (f : ℕ → A) (k : ℕ) (x : A) → with_value f k x k ≡ x
 changed_same f k x = ap (λ b. cond b x (f k)) (eq-eqb k k refl)
 
-pub changed_other : {A : Type 0} → (f : ℕ → A) (k : ℕ) (x : A) (i : ℕ) → i ≢ k → changed f k x i ≡ f i
+pub changed_other : {A : Type 0} → (f : ℕ → A) (k : ℕ) (x : A) (i : ℕ) → i ≢ k → with_value f k x i ≡ f i
 changed_other f k x i h = ap (λ b. cond b x (f i)) (ne_eqb i k h)
 
-pub changed_at_same : {A : Type 0} → (f : ℕ → ℕ → A) (g v : ℕ) (x : A) → changed_at f g v x g v ≡ x
+pub changed_at_same : {A : Type 0} → (f : ℕ → ℕ → A) (g v : ℕ) (x : A) → with_value_at f g v x g v ≡ x
 changed_at_same f g v x = ap (λ b. cond b (cond (eqb v v) x (f g v)) (f g v)) (eq-eqb g g refl)
     ∙ ap (λ b. cond b x (f g v)) (eq-eqb v v refl)
 
-pub changed_at_gauge : {A : Type 0} → (f : ℕ → ℕ → A) (g v : ℕ) (x : A) (i j : ℕ) → i ≢ g → changed_at f g v x i j ≡ f i j
+pub changed_at_gauge : {A : Type 0} → (f : ℕ → ℕ → A) (g v : ℕ) (x : A) (i j : ℕ) → i ≢ g → with_value_at f g v x i j ≡ f i j
 changed_at_gauge f g v x i j h = ap (λ b. cond b (cond (eqb j v) x (f i j)) (f i j)) (ne_eqb i g h)
 
 same_both : {A : Type 0} → (b : Bool) (y : A) → cond b y y ≡ y
 same_both true y = refl
 same_both false y = refl
 
-pub changed_at_worker : {A : Type 0} → (f : ℕ → ℕ → A) (g v : ℕ) (x : A) (i j : ℕ) → j ≢ v → changed_at f g v x i j ≡ f i j
+pub changed_at_worker : {A : Type 0} → (f : ℕ → ℕ → A) (g v : ℕ) (x : A) (i j : ℕ) → j ≢ v → with_value_at f g v x i j ≡ f i j
 changed_at_worker f g v x i j h = ap (λ b. cond (eqb i g) (cond b x (f i j)) (f i j)) (ne_eqb j v h) ∙ same_both (eqb i g) (f i j)
 
 all_or : {A : Type 0} → (P : ℕ → A → Type 0) (f : ℕ → A) (k : ℕ) (x : A) (i : ℕ) → P i (f i) → P k x → ((i ≡ k) ⊎ (i ≡ k → ⊥))
-    → P i (changed f k x i)
-all_or P f k x i h p (inl e) = subst (λ j. P j (changed f k x j)) (sym e) (subst (λ y. P k y) (sym (changed_same f k x)) p)
+    → P i (with_value f k x i)
+all_or P f k x i h p (inl e) = subst (λ j. P j (with_value f k x j)) (sym e) (subst (λ y. P k y) (sym (changed_same f k x)) p)
 all_or P f k x i h p (inr e) = subst (λ y. P i y) (sym (changed_other f k x i e)) h
 
 -- what holds of each place, and of the new one
 pub changed_all : {A : Type 0} → (P : ℕ → A → Type 0) (f : ℕ → A) (k : ℕ) (x : A) → ((i : ℕ) → P i (f i)) → P k x → (i : ℕ)
-    → P i (changed f k x i)
+    → P i (with_value f k x i)
 changed_all P f k x h p i = all_or P f k x i (h i) p (cases_eq i k)
 
 at_or_worker : {A : Type 0} → (P : ℕ → ℕ → A → Type 0) (f : ℕ → ℕ → A) (g v : ℕ) (x : A) (j : ℕ) → P g j (f g j) → P g v x
-    → ((j ≡ v) ⊎ (j ≡ v → ⊥)) → P g j (changed_at f g v x g j)
+    → ((j ≡ v) ⊎ (j ≡ v → ⊥)) → P g j (with_value_at f g v x g j)
 at_or_worker P f g v x j h p (inl e) =
-    subst (λ k. P g k (changed_at f g v x g k)) (sym e) (subst (λ y. P g v y) (sym (changed_at_same f g v x)) p)
+    subst (λ k. P g k (with_value_at f g v x g k)) (sym e) (subst (λ y. P g v y) (sym (changed_at_same f g v x)) p)
 at_or_worker P f g v x j h p (inr e) = subst (λ y. P g j y) (sym (changed_at_worker f g v x g j e)) h
 
 at_or_gauge : {A : Type 0} → (P : ℕ → ℕ → A → Type 0) (f : ℕ → ℕ → A) (g v : ℕ) (x : A) (i j : ℕ) → ((i j : ℕ) → P i j (f i j)) → P g v x
-    → ((i ≡ g) ⊎ (i ≡ g → ⊥)) → P i j (changed_at f g v x i j)
+    → ((i ≡ g) ⊎ (i ≡ g → ⊥)) → P i j (with_value_at f g v x i j)
 at_or_gauge P f g v x i j h p (inl e) =
-    subst (λ k. P k j (changed_at f g v x k j)) (sym e) (at_or_worker P f g v x j (h g j) p (cases_eq j v))
+    subst (λ k. P k j (with_value_at f g v x k j)) (sym e) (at_or_worker P f g v x j (h g j) p (cases_eq j v))
 at_or_gauge P f g v x i j h p (inr e) = subst (λ y. P i j y) (sym (changed_at_gauge f g v x i j e)) (h i j)
 
 pub changed_at_all : {A : Type 0} → (P : ℕ → ℕ → A → Type 0) (f : ℕ → ℕ → A) (g v : ℕ) (x : A) → ((i j : ℕ) → P i j (f i j)) → P g v x
-    → (i j : ℕ) → P i j (changed_at f g v x i j)
+    → (i j : ℕ) → P i j (with_value_at f g v x i j)
 changed_at_all P f g v x h p i j = at_or_gauge P f g v x i j h p (cases_eq i g)
 
 pub over_sum : (n : ℕ) (f h : ℕ → ℕ) → over n (λ v. f v + h v) ≡ over n f + over n h

@@ -4,7 +4,7 @@ use Rattle.std.proofs.lemmas.Bool.Decides.{nat_tests}
 use Rattle.std.proofs.lemmas.Bool.{cases_eq, cases_lt}
 use Rattle.std.proofs.Math.Nat.{mul-le-mul_right}
 use Rattle.segment_rules.specs.declared.name.Name.{Name}
-use Rattle.flow.specs.Flow.{Flow, Event, has, hits, changed, changed_at, Cover, EndsAt, stays, next, worker_of_next, Allowed, AllAllowed, IsStart, after, run}
+use Rattle.flow.specs.Flow.{Flow, Event, has, hits, with_value, with_value_at, Cover, EndsAt, stays, next, worker_of_next, Allowed, AllAllowed, IsStart, after, run}
 use Rattle.flow.specs.Flow.Event.{Feed, Count, Deposit, Commit, Stop}
 use Rattle.flow.specs.Kept.{Every, Ascends, over, between, everywhere, IsBlock, IsDealt, IsLine, Meets, IsThrough}
 use Rattle.flow.specs.Kept.Every.{none, both}
@@ -79,10 +79,10 @@ module _ (block workers : ℕ) where
   -- one block more is fed
   fed_once : (s : Flow) (g i v : ℕ) (m : Name) → Meets block workers s → v < workers → m.gauge ≡ g → m.from ≡ s.read g → m.from ≤ m.to →
       over workers
-      (λ u. hits g i (changed_at s.rings g v (s.rings g v ++ m ∷ []) g u) + hits g i (s.counted u)) + hits g i s.placed
+      (λ u. hits g i (with_value_at s.rings g v (s.rings g v ++ m ∷ []) g u) + hits g i (s.counted u)) + hits g i s.placed
       ≡ between (s.stored g) m.to i
   fed_once s g i v m h w a b c =
-      let f : ℕ → ℕ = λ u. hits g i (changed_at s.rings g v (s.rings g v ++ m ∷ []) g u) + hits g i (s.counted u) in
+      let f : ℕ → ℕ = λ u. hits g i (with_value_at s.rings g v (s.rings g v ++ m ∷ []) g u) + hits g i (s.counted u) in
       let k : ℕ → ℕ = λ u. hits g i (s.rings g u) + hits g i (s.counted u) in
       let one : over workers f + k v ≡ over workers k + f v =
       over_one workers v f k w
@@ -98,7 +98,7 @@ module _ (block workers : ℕ) where
       omega (arith, one, new, was, more, both_ways, at)
 
   fed_elsewhere : (s : Flow) (g i v : ℕ) (l : List Name) (h : ℕ) → h ≢ g →
-      over workers (λ u. hits h i (changed_at s.rings g v l h u) + hits h i (s.counted u)) ≡ over workers
+      over workers (λ u. hits h i (with_value_at s.rings g v l h u) + hits h i (s.counted u)) ≡ over workers
       (λ u. hits h i (s.rings h u) + hits h i (s.counted u))
   fed_elsewhere s g i v l h d =
       over_same workers _ _ (λ u k. ap (λ x. hits h i x + hits h i (s.counted u)) (changed_at_gauge s.rings g v l h u d))
@@ -106,12 +106,12 @@ module _ (block workers : ℕ) where
   fed_or : (s : Flow) (g i v : ℕ) (m : Name) (h : ℕ) → Meets block workers s → v < workers → m.gauge ≡ g → m.from ≡ s.read g
       → m.from ≤ m.to → ((h ≡ g) ⊎ (h ≡ g → ⊥)) →
       over workers
-      (λ u. hits h i (changed_at s.rings g v (s.rings g v ++ m ∷ []) h u) + hits h i (s.counted u)) + hits h i s.placed
-      ≡ between (s.stored h) (changed s.read g m.to h) i
+      (λ u. hits h i (with_value_at s.rings g v (s.rings g v ++ m ∷ []) h u) + hits h i (s.counted u)) + hits h i s.placed
+      ≡ between (s.stored h) (with_value s.read g m.to h) i
   fed_or s g i v m h is w a b c (inl e) =
       subst (λ k. over workers
-      (λ u. hits k i (changed_at s.rings g v (s.rings g v ++ m ∷ []) k u) + hits k i (s.counted u)) + hits k i s.placed
-      ≡ between (s.stored k) (changed s.read g m.to k) i) (sym e)
+      (λ u. hits k i (with_value_at s.rings g v (s.rings g v ++ m ∷ []) k u) + hits k i (s.counted u)) + hits k i s.placed
+      ≡ between (s.stored k) (with_value s.read g m.to k) i) (sym e)
       (fed_once s g i v m is w a b c ∙ ap (λ r. between (s.stored g) r i) (sym (changed_same s.read g m.to)))
   fed_or s g i v m h is w a b c (inr e) =
       ap (λ x. x + hits h i s.placed) (fed_elsewhere s g i v (s.rings g v ++ m ∷ []) h e) ∙ is.once h i
@@ -174,25 +174,25 @@ module _ (block workers : ℕ) where
   -- a block goes from a ring to the counted ones
   count_same : (s : Flow) (g v : ℕ) (h i u : ℕ) → v < workers → Meets block workers s → ((h ≡ g) ⊎ (h ≡ g → ⊥))
       → ((u ≡ v) ⊎ (u ≡ v → ⊥)) →
-      hits h i (changed_at s.rings g v (drop 1 (s.rings g v)) h u)
-      + hits h i (changed s.counted v (s.counted v ++ take 1 (s.rings g v)) u) ≡ hits h i (s.rings h u) + hits h i (s.counted u)
+      hits h i (with_value_at s.rings g v (drop 1 (s.rings g v)) h u)
+      + hits h i (with_value s.counted v (s.counted v ++ take 1 (s.rings g v)) u) ≡ hits h i (s.rings h u) + hits h i (s.counted u)
   count_same s g v h i u w is (inl e) (inl f) =
       let claim : ℕ → ℕ → Type 0 =
-      λ a b. hits a i (changed_at s.rings g v (drop 1 (s.rings g v)) a b)
-      + hits a i (changed s.counted v (s.counted v ++ take 1 (s.rings g v)) b) ≡ hits a i (s.rings a b) + hits a i (s.counted b) in
-      let r : hits g i (changed_at s.rings g v (drop 1 (s.rings g v)) g v) ≡ hits g i (drop 1 (s.rings g v)) =
+      λ a b. hits a i (with_value_at s.rings g v (drop 1 (s.rings g v)) a b)
+      + hits a i (with_value s.counted v (s.counted v ++ take 1 (s.rings g v)) b) ≡ hits a i (s.rings a b) + hits a i (s.counted b) in
+      let r : hits g i (with_value_at s.rings g v (drop 1 (s.rings g v)) g v) ≡ hits g i (drop 1 (s.rings g v)) =
       ap (hits g i) (changed_at_same s.rings g v (drop 1 (s.rings g v))) in
-      let c : hits g i (changed s.counted v (s.counted v ++ take 1 (s.rings g v)) v) ≡ hits g i (s.counted v)
+      let c : hits g i (with_value s.counted v (s.counted v ++ take 1 (s.rings g v)) v) ≡ hits g i (s.counted v)
       + hits g i (take 1 (s.rings g v)) = ap (hits g i) (changed_same s.counted v (s.counted v ++ take 1 (s.rings g v)))
       ∙ hits-append g i (s.counted v) (take 1 (s.rings g v)) in
       subst (λ a. claim a u) (sym e) (subst (λ b. claim g b) (sym f) (omega (arith, r, c, hits-split g i (s.rings g v))))
   count_same s g v h i u w is (inr e) (inl f) =
       let claim : ℕ → Type 0 =
-      λ b. hits h i (changed_at s.rings g v (drop 1 (s.rings g v)) h b)
-      + hits h i (changed s.counted v (s.counted v ++ take 1 (s.rings g v)) b) ≡ hits h i (s.rings h b) + hits h i (s.counted b) in
-      let r : hits h i (changed_at s.rings g v (drop 1 (s.rings g v)) h v) ≡ hits h i (s.rings h v) =
+      λ b. hits h i (with_value_at s.rings g v (drop 1 (s.rings g v)) h b)
+      + hits h i (with_value s.counted v (s.counted v ++ take 1 (s.rings g v)) b) ≡ hits h i (s.rings h b) + hits h i (s.counted b) in
+      let r : hits h i (with_value_at s.rings g v (drop 1 (s.rings g v)) h v) ≡ hits h i (s.rings h v) =
       ap (hits h i) (changed_at_gauge s.rings g v (drop 1 (s.rings g v)) h v e) in
-      let c : hits h i (changed s.counted v (s.counted v ++ take 1 (s.rings g v)) v) ≡ hits h i (s.counted v)
+      let c : hits h i (with_value s.counted v (s.counted v ++ take 1 (s.rings g v)) v) ≡ hits h i (s.counted v)
       + hits h i (take 1 (s.rings g v)) = ap (hits h i) (changed_same s.counted v (s.counted v ++ take 1 (s.rings g v)))
       ∙ hits-append h i (s.counted v) (take 1 (s.rings g v)) in
       let z : hits h i (take 1 (s.rings g v)) ≡ 0 =
@@ -200,9 +200,9 @@ module _ (block workers : ℕ) where
       (λ n b q. e (sym q ∙ b.gauge)) (is.rings g v w))) in
       subst claim (sym f) (omega (arith, r, c, z))
   count_same s g v h i u w is e (inr f) =
-      let r : hits h i (changed_at s.rings g v (drop 1 (s.rings g v)) h u) ≡ hits h i (s.rings h u) =
+      let r : hits h i (with_value_at s.rings g v (drop 1 (s.rings g v)) h u) ≡ hits h i (s.rings h u) =
       ap (hits h i) (changed_at_worker s.rings g v (drop 1 (s.rings g v)) h u f) in
-      let c : hits h i (changed s.counted v (s.counted v ++ take 1 (s.rings g v)) u) ≡ hits h i (s.counted u) =
+      let c : hits h i (with_value s.counted v (s.counted v ++ take 1 (s.rings g v)) u) ≡ hits h i (s.counted u) =
       ap (hits h i) (changed_other s.counted v (s.counted v ++ take 1 (s.rings g v)) u f) in
       omega (arith, r, c)
 

@@ -1,11 +1,11 @@
 -- The flow of blocks from the recordings to the store: its states and its events.
---   Flow, Event     the state, and what may happen
---   named           the name of these samples of a gauge
---   hits            how many names name a sample
---   Cover, EndsAt   names without a gap; a name that ends there
---   Allowed, after  where an event may come, and what it does
---   run, AllAllowed a list of events
---   IsStart         the state in which a run starts
+--   Flow, Event      the state, and what may happen
+--   name_of_samples  the name of these samples of a gauge
+--   hits             how many names name a sample
+--   Cover, EndsAt    names without a gap; a name that ends there
+--   Allowed, after   where an event may come, and what it does
+--   run, AllAllowed  a list of events
+--   IsStart          the state in which a run starts
 use Rattle.std.specs.Prelude.{◌≡◌, ◌+◌, ◌%◌, ◌<◌, ◌≤◌, ◌&&◌, ℕ, ℤ, List, [], ◌∷◌, ◌++◌, length, take, drop, min, cond, not, eqb, leb, ltb, Bool}
 use Rattle.std.specs.List.{filter}
 use Rattle.segment_rules.specs.declared.name.Name.{Name}
@@ -31,15 +31,15 @@ pub data Event : Type 0 where
   Commit : (gauge to : ℕ) → Event
   Stop : (more : ℕ → List ℤ) → Event
 
-abbrev pub named : ℕ → ℕ → ℕ → Name
-named g from to = record { gauge = g; from = from; to = to }
+abbrev pub name_of_samples : ℕ → ℕ → ℕ → Name
+name_of_samples g from to = record { gauge = g; from = from; to = to }
 
 -- the function with x at k
-abbrev pub changed : {A : Type 0} → (ℕ → A) → ℕ → A → ℕ → A
-changed f k x i = cond (eqb i k) x (f i)
+abbrev pub with_value : {A : Type 0} → (ℕ → A) → ℕ → A → ℕ → A
+with_value f k x i = cond (eqb i k) x (f i)
 
-abbrev pub changed_at : {A : Type 0} → (ℕ → ℕ → A) → ℕ → ℕ → A → ℕ → ℕ → A
-changed_at f g v x i j = cond (eqb i g) (cond (eqb j v) x (f i j)) (f i j)
+abbrev pub with_value_at : {A : Type 0} → (ℕ → ℕ → A) → ℕ → ℕ → A → ℕ → ℕ → A
+with_value_at f g v x i j = cond (eqb i g) (cond (eqb j v) x (f i j)) (f i j)
 
 -- a sample of a gauge is one that the name names
 abbrev pub has : ℕ → ℕ → Name → ℕ
@@ -72,7 +72,7 @@ stays g e n = not (eqb n.gauge g && leb n.to e)
 module _ (block workers : ℕ) where
   -- the next block of a gauge, and the worker that gets it
   abbrev pub next : Flow → ℕ → Name
-  next s g = named g (s.read g) (min (s.read g + block) (length (s.samples g)))
+  next s g = name_of_samples g (s.read g) (min (s.read g + block) (length (s.samples g)))
 
   abbrev pub worker_of_next : Flow → ℕ → ℕ
   worker_of_next s g = (s.fed g % BLOCKS_PER_WINDOW) % workers
@@ -90,9 +90,9 @@ module _ (block workers : ℕ) where
     stored = s.stored;
     counted = s.counted;
     placed = s.placed;
-    read = changed s.read g (next s g).to;
-    fed = changed s.fed g (s.fed g + 1);
-    rings = changed_at s.rings g (worker_of_next s g) (s.rings g (worker_of_next s g) ++ next s g ∷ []);
+    read = with_value s.read g (next s g).to;
+    fed = with_value s.fed g (s.fed g + 1);
+    rings = with_value_at s.rings g (worker_of_next s g) (s.rings g (worker_of_next s g) ++ next s g ∷ []);
   }
   after s (Count v g) = record {
     samples = s.samples;
@@ -100,8 +100,8 @@ module _ (block workers : ℕ) where
     stored = s.stored;
     fed = s.fed;
     placed = s.placed;
-    rings = changed_at s.rings g v (drop 1 (s.rings g v));
-    counted = changed s.counted v (s.counted v ++ take 1 (s.rings g v));
+    rings = with_value_at s.rings g v (drop 1 (s.rings g v));
+    counted = with_value s.counted v (s.counted v ++ take 1 (s.rings g v));
   }
   after s (Deposit v) = record {
     samples = s.samples;
@@ -109,7 +109,7 @@ module _ (block workers : ℕ) where
     stored = s.stored;
     fed = s.fed;
     rings = s.rings;
-    counted = changed s.counted v (drop 1 (s.counted v));
+    counted = with_value s.counted v (drop 1 (s.counted v));
     placed = s.placed ++ take 1 (s.counted v);
   }
   after s (Commit g e) = record {
@@ -118,7 +118,7 @@ module _ (block workers : ℕ) where
     fed = s.fed;
     rings = s.rings;
     counted = s.counted;
-    stored = changed s.stored g e;
+    stored = with_value s.stored g e;
     placed = filter (stays g e) s.placed;
   }
   after s (Stop more) = record {

@@ -8,7 +8,7 @@ use Rattle.calibration.specs.Gain.{GainValue}
 use Rattle.segment.specs.Segment.{SegmentValue, Stands}
 use Rattle.segment.specs.Name.{name_of}
 use Rattle.segment_store.specs.Holds.{gain_at}
-use Rattle.flow.specs.Flow.{named}
+use Rattle.flow.specs.Flow.{name_of_samples}
 use Rattle.segment_rules.specs.declared.name.Name.{Name}
 use Rattle.recording.specs.Samples.{samples}
 use Rattle.lane_loans.specs.declared.lane.Lane.{Lane}
@@ -47,7 +47,8 @@ lines_more r n block k told told2 told3 ends ends2 so_far from to here =
     ∙ ap (λ (l : Lines). told ++ (held_lines block r n k ++ l))
     (round_both r.names ends (held_after block r n k) ends2 (held_after block r n (suc k)) r.gauges from to)
 
-front_stands : (r : Recorded) (front : SegmentValue) (g at to : ℕ) (gain : GainValue) (left : List ℕ) → name_of front ≡ named g at to
+front_stands : (r : Recorded) (front : SegmentValue) (g at to : ℕ) (gain : GainValue) (left : List ℕ) → name_of front ≡
+    name_of_samples g at to
     → gain ≡ gain_at r.setup g → samples left ≡ drop at (r.samples g) → Stands front gain (take (to - at) (samples left)) → StandsIn r front
 front_stands r front g at to gain left name is rest stands =
     let same : take (to - at) (samples left) ≡ slice_range (r.samples front.gauge) front.from front.to =

@@ -15,7 +15,7 @@ use Rattle.segment_store.specs.Held.{ends_of}
 use Rattle.segment_store.specs.Moments.{StoreValue, IsThere}
 use Rattle.site_config.specs.declared.config.Config.{Config}
 use Rattle.site_config.specs.Valid.{name_of}
-use Rattle.recorded.specs.Recorded.{recorded}
+use Rattle.recorded.specs.Recorded.{recordings}
 use Rattle.held_samples.specs.Told.{round_lines}
 use Rattle.held_samples.specs.Going.{Going, IsStored}
 use Rattle.held_samples.specs.Fronts.{AreFronts, FrontsEnd, FrontsStand}
@@ -34,12 +34,13 @@ pub record Stores {E : Type 0} (tells : Type 0) (conf : Config) (board : BoardVa
     (moments moments2 : MomentsSince) (told told2 : Lines) (seen seen2 : Image) (leaves leaves2 : Image → Type 0)
     (faults faults2 : ℕ)
     (result : Result (Unit {0}) E) : Type 0 where
-  pub going : tells → (files : Files) → IsStored (recorded conf files) old seen leaves →
-      FrontsStand (recorded conf files) board →
-      Going (recorded conf files) (ends_of old.held) clock moments told clock2 moments2 told2 leaves2 (ends_of new.held)
-  pub stored : tells → (files : Files) → IsStored (recorded conf files) old seen leaves →
-      FrontsStand (recorded conf files) board →
-      OnOk result (IsStored (recorded conf files) new seen2 leaves2)
+  pub going : tells → (files : Files) → IsStored (recordings conf files) old seen leaves →
+      FrontsStand (recordings conf files) board →
+      Going (recordings conf files) (ends_of old.held) clock moments told clock2 moments2 told2 leaves2
+      (ends_of new.held)
+  pub stored : tells → (files : Files) → IsStored (recordings conf files) old seen leaves →
+      FrontsStand (recordings conf files) board →
+      OnOk result (IsStored (recordings conf files) new seen2 leaves2)
   pub lines : tells → OnOk result (told2 ≡ told ++
       round_lines (name_of conf) (slice_index (ends_of old.held)) (slice_index (ends_of new.held)) (length conf.gauges))
   pub ends : (to : ℕ → ℕ) → FrontsEnd to board (length conf.gauges) →

@@ -8,7 +8,7 @@ ghost use Rattle.round_making.specs.Round.{RoundDone};
 ghost use Rattle.segment_store.specs.Held.{ends_of};
 ghost use Rattle.segment_store.specs.Moments.{IsThere};
 ghost use Rattle.site_config.specs.Valid.{IsConfig, name_of};
-ghost use Rattle.recorded.specs.Recorded.{recorded};
+ghost use Rattle.recorded.specs.Recorded.{recordings};
 ghost use Rattle.held_samples.specs.Told.{round_lines};
 ghost use Rattle.held_samples.specs.Going.{Going, IsStored};
 ghost use Rattle.held_samples.specs.Fronts.{AreFronts, FrontsStand};
@@ -121,16 +121,17 @@ fn round_beside<R: Threads + Wait + Sync, C: Source + Send, K: Station, G: Gate 
     requires on { K.tells → IsThere store.old (K.seen station.old) (K.leaves station.old) }
     // Of the running round nothing is said here.
     ensures going { K.tells → (files : Files) →
-        IsStored (recorded conf.now files) store.old (K.seen station.old) (K.leaves station.old) →
-        FrontsStand (recorded conf.now files) board.now →
-        Going (recorded conf.now files) (ends_of store.old.held)
+        IsStored (recordings conf.now files) store.old (K.seen station.old) (K.leaves station.old) →
+        FrontsStand (recordings conf.now files) board.now →
+        Going (recordings conf.now files) (ends_of store.old.held)
         (K.clock station.old) (K.moments station.old) (K.told station.old)
         (K.clock station.new) (K.moments station.new) (K.told station.new)
         (K.leaves station.new) (ends_of store.new.held) }
     ensures stored { K.tells → (files : Files) →
-        IsStored (recorded conf.now files) store.old (K.seen station.old) (K.leaves station.old) →
-        FrontsStand (recorded conf.now files) board.now → OnOk result
-        (IsStored (recorded conf.now files) store.new (K.seen station.new) (K.leaves station.new)) }
+        IsStored (recordings conf.now files) store.old (K.seen station.old) (K.leaves station.old) →
+        FrontsStand (recordings conf.now files) board.now → OnOk result
+        (IsStored (recordings conf.now files) store.new (K.seen station.new)
+        (K.leaves station.new)) }
     ensures there { K.tells →
         OnOk result (IsThere store.new (K.seen station.new) (K.leaves station.new)) }
     ensures usable { OnOk result (store.new.shut ≡ false) }
@@ -145,9 +146,9 @@ fn round_beside<R: Threads + Wait + Sync, C: Source + Send, K: Station, G: Gate 
     ensures leads { OnOk result (Leads store.new.head.setup (ends_of store.new.held)
         prepared.new.board lanes.new) }
     ensures stand { C.tells → (files : Files) →
-        AreLanes C.tells C.left (recorded conf.now files) lanes.old → OnOk result
-        (AreLanes C.tells C.left (recorded conf.now files) lanes.new
-        × FrontsStand (recorded conf.now files) prepared.new.board) }
+        AreLanes C.tells C.left (recordings conf.now files) lanes.old → OnOk result
+        (AreLanes C.tells C.left (recordings conf.now files) lanes.new
+        × FrontsStand (recordings conf.now files) prepared.new.board) }
     ensures round { RoundDone C.tells C.left C.faults
         prepared.old prepared.new lanes.old lanes.new }
 {
@@ -183,24 +184,25 @@ pub fn count_rounds<R: Threads + Wait + Sync, C: Source + Send, K: Station, G: G
     requires on { K.tells → IsThere store.old (K.seen station.old) (K.leaves station.old) }
     // Every moment is kept, whatever it answers.
     ensures going { K.tells → C.tells → (files : Files) →
-        AreLanes C.tells C.left (recorded conf.now files) lanes.old →
-        IsStored (recorded conf.now files) store.old (K.seen station.old) (K.leaves station.old) →
-        Going (recorded conf.now files) (ends_of store.old.held)
+        AreLanes C.tells C.left (recordings conf.now files) lanes.old →
+        IsStored (recordings conf.now files) store.old (K.seen station.old) (K.leaves station.old) →
+        Going (recordings conf.now files) (ends_of store.old.held)
         (K.clock station.old) (K.moments station.old) (K.told station.old)
         (K.clock station.new) (K.moments station.new) (K.told station.new)
         (K.leaves station.new) (ends_of store.new.held) }
     ensures stored { K.tells → C.tells → (files : Files) →
-        AreLanes C.tells C.left (recorded conf.now files) lanes.old →
-        IsStored (recorded conf.now files) store.old (K.seen station.old) (K.leaves station.old) →
-        OnOk result (IsStored (recorded conf.now files) store.new
+        AreLanes C.tells C.left (recordings conf.now files) lanes.old →
+        IsStored (recordings conf.now files) store.old (K.seen station.old) (K.leaves station.old) →
+        OnOk result (IsStored (recordings conf.now files) store.new
         (K.seen station.new) (K.leaves station.new)) }
     ensures read { C.tells → (files : Files) →
-        AreLanes C.tells C.left (recorded conf.now files) lanes.old →
-        OnOk result (AreLanes C.tells C.left (recorded conf.now files) lanes.new) }
+        AreLanes C.tells C.left (recordings conf.now files) lanes.old →
+        OnOk result (AreLanes C.tells C.left (recordings conf.now files) lanes.new) }
     ensures told { K.tells → C.tells → (files : Files) →
-        AreLanes C.tells C.left (recorded conf.now files) lanes.old → (n : List ℕ) (told : Lines) →
-        HasTold conf.now.block (recorded conf.now files) n told (K.told station.old) lanes.old →
-        OnOk result (All IsWhole lanes.new → HasTold conf.now.block (recorded conf.now files) n
+        AreLanes C.tells C.left (recordings conf.now files) lanes.old → (n : List ℕ) (told : Lines)
+        →
+        HasTold conf.now.block (recordings conf.now files) n told (K.told station.old) lanes.old →
+        OnOk result (All IsWhole lanes.new → HasTold conf.now.block (recordings conf.now files) n
         told (K.told station.new) lanes.new) }
     ensures ended { OnOk result (All HasEnded lanes.new) }
     ensures there { K.tells →

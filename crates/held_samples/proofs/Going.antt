@@ -15,7 +15,7 @@ use Rattle.station.proofs.Moments.{started, goes_on, continues, entails}
 use Rattle.segment_rules.specs.Parts.{PartsValue}
 use Rattle.segment.specs.Segment.{SegmentValue}
 use Rattle.calibration.specs.declared.setup.Setup.{Setup}
-use Rattle.segment_store.specs.Image.{Reads, IsNext, extended}
+use Rattle.segment_store.specs.Image.{Reads, IsNext, ends_after}
 use Rattle.segment_store.specs.Held.{ends_of}
 use Rattle.segment_store.specs.Holds.{Holds, StandsIn}
 use Rattle.segment_store.specs.Moments.{StoreValue, IsOn, InPut}
@@ -41,7 +41,7 @@ at_most_same a g = omega arith
 pub at_most_trans : (a b c : List ℕ) → EachAtMost a b → EachAtMost b c → EachAtMost a c
 at_most_trans a b c p q g = omega (arith, p g, q g)
 
-grows : (setup : Setup) (ends : List ℕ) (p : PartsValue) → IsNext setup ends p → EachAtMost ends (extended ends p)
+grows : (setup : Setup) (ends : List ℕ) (p : PartsValue) → IsNext setup ends p → EachAtMost ends (ends_after ends p)
 grows setup ends p next g = elim (cases_eq g p.name.gauge) [
   | inr other ↦ omega (arith, get_or-set_other ends p.name.gauge g p.name.to 0 other)
   | inl same ↦ elim (cases_lt g (length ends)) [
@@ -129,7 +129,7 @@ module _ (r : Recorded) (s : StoreValue) (seen : Image) (leaves : Image → Type
     (run : Since start past now since (InPut told s.head stored.bodies (ends_of s.held) p)) (same : told2 ≡ told)
     (counts : (c : Image) → leaves2 c → since start told2 c) where
   holds_more : (c : Image) → IsNext s.head.setup (ends_of s.held) p →
-      Reads s.head (stored.bodies ++ p ∷ []) (extended (ends_of s.held) p) c → Holds r.setup r.samples (extended (ends_of s.held) p) c
+      Reads s.head (stored.bodies ++ p ∷ []) (ends_after (ends_of s.held) p) c → Holds r.setup r.samples (ends_after (ends_of s.held) p) c
   holds_more c next reads = record {
     head = s.head;
     of_setup = stored.setup;
@@ -152,7 +152,7 @@ module _ (r : Recorded) (s : StoreValue) (seen : Image) (leaves : Image → Type
         least = at_most_same (ends_of s.held);
       })
       (λ new. record {
-        held = extended (ends_of s.held) p;
+        held = ends_after (ends_of s.held) p;
         holds = holds_more c new.0 new.1;
         least = grows s.head.setup
             (ends_of s.held) p new.0;
@@ -181,7 +181,7 @@ module _ (r : Recorded) (s : StoreValue) (seen : Image) (leaves : Image → Type
   }
 
   -- with Ok
-  module _ (s2 : StoreValue) (seen2 : Image) (held2 : ends_of s2.held ≡ extended (ends_of s.held) p) (head2 : s2.head ≡ s.head)
+  module _ (s2 : StoreValue) (seen2 : Image) (held2 : ends_of s2.held ≡ ends_after (ends_of s.held) p) (head2 : s2.head ≡ s.head)
       (next : IsNext s.head.setup (ends_of s.held) p) (on : IsOn s2 (stored.bodies ++ p ∷ []) seen2 leaves2) where
     pub put_stored : IsStored r s2 seen2 leaves2
     put_stored = record {
@@ -268,7 +268,8 @@ none : (name : List ℕ) (from to : ℕ) → from ≡ to → [] ≡ gauge_lines 
 none name from to same = grind (arith, nat_tests)
 
 -- what is held of a gauge after its put
-pub end_held : (held held2 : List SegmentValue) (p : PartsValue) → p.name.gauge < length held → ends_of held2 ≡ extended (ends_of held) p →
+pub end_held : (held held2 : List SegmentValue) (p : PartsValue) → p.name.gauge < length held → ends_of held2 ≡ ends_after (ends_of held) p
+    →
     p.name.to ≤ get_or (ends_of held2) p.name.gauge 0
 end_held held held2 p lt is = omega (
   arith,
@@ -277,7 +278,7 @@ end_held held held2 p lt is = omega (
       p.name.to 0 (omega (arith, lt, length-map held (λ (s : SegmentValue). s.to))),
 )
 
-pub held_to : (held held2 : List SegmentValue) (p : PartsValue) → p.name.gauge < length held → ends_of held2 ≡ extended (ends_of held) p →
+pub held_to : (held held2 : List SegmentValue) (p : PartsValue) → p.name.gauge < length held → ends_of held2 ≡ ends_after (ends_of held) p →
     IsHeldTo (ends_of held) p.name.gauge p.name.to (ends_of held2)
 held_to held held2 p lt is = record {
   here = ap (λ (e : List ℕ). get_or e p.name.gauge 0) is ∙ get_or-set_same (ends_of held) p.name.gauge p.name.to 0

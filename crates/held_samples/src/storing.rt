@@ -15,11 +15,11 @@ ghost use Rattle.outside.specs.Fault.{HasCause};
 ghost use Rattle.outside.specs.Site.{Files};
 ghost use Rattle.segment.specs.Parts.{parts_of};
 ghost use Rattle.segment_store.specs.Held.{ends_of};
-ghost use Rattle.segment_store.specs.Image.{extended};
+ghost use Rattle.segment_store.specs.Image.{ends_after};
 ghost use Rattle.segment_store.specs.Moments.{IsThere};
 ghost use Rattle.site_config.specs.declared.limits.TheConstants.{MAX_NAME_BYTES};
 ghost use Rattle.site_config.specs.Valid.{IsConfig, name_of};
-ghost use Rattle.recorded.specs.Recorded.{Recorded, recorded};
+ghost use Rattle.recorded.specs.Recorded.{Recorded, recordings};
 ghost use Rattle.held_samples.specs.Told.{held_line, gauge_lines, round_lines};
 ghost use Rattle.held_samples.specs.Going.{Going, IsStored, AreNames};
 ghost use Rattle.held_samples.specs.Fronts.{IsHeldTo, StandsIn, AreFronts, FrontsEnd, FrontsStand};
@@ -65,7 +65,7 @@ pub fn store_front<K: Station>(
     ensures told { K.tells → OnOk result (K.told station.new ≡
         K.told station.old ++ held_line name.now front.now.to ∷ []) }
     ensures held { OnOk result (ends_of store.new.held ≡
-        extended (ends_of store.old.held) (parts_of front.now)) }
+        ends_after (ends_of store.old.held) (parts_of front.now)) }
     ensures there { K.tells →
         OnOk result (IsThere store.new (K.seen station.new) (K.leaves station.new)) }
     ensures usable { OnOk result (store.new.shut ≡ false) }
@@ -146,16 +146,17 @@ pub fn store_fronts<K: Station>(
     requires on { K.tells → IsThere store.old (K.seen station.old) (K.leaves station.old) }
     // Every moment is kept, whatever it answers.
     ensures going { K.tells → (files : Files) →
-        IsStored (recorded conf.now files) store.old (K.seen station.old) (K.leaves station.old) →
-        FrontsStand (recorded conf.now files) board.now →
-        Going (recorded conf.now files) (ends_of store.old.held)
+        IsStored (recordings conf.now files) store.old (K.seen station.old) (K.leaves station.old) →
+        FrontsStand (recordings conf.now files) board.now →
+        Going (recordings conf.now files) (ends_of store.old.held)
         (K.clock station.old) (K.moments station.old) (K.told station.old)
         (K.clock station.new) (K.moments station.new) (K.told station.new)
         (K.leaves station.new) (ends_of store.new.held) }
     ensures stored { K.tells → (files : Files) →
-        IsStored (recorded conf.now files) store.old (K.seen station.old) (K.leaves station.old) →
-        FrontsStand (recorded conf.now files) board.now → OnOk result
-        (IsStored (recorded conf.now files) store.new (K.seen station.new) (K.leaves station.new)) }
+        IsStored (recordings conf.now files) store.old (K.seen station.old) (K.leaves station.old) →
+        FrontsStand (recordings conf.now files) board.now → OnOk result
+        (IsStored (recordings conf.now files) store.new (K.seen station.new)
+        (K.leaves station.new)) }
     ensures told { K.tells → OnOk result (K.told station.new ≡ K.told station.old
         ++ round_lines (name_of conf.now) (slice_index (ends_of store.old.held))
         (slice_index (ends_of store.new.held)) (length conf.now.gauges)) }

@@ -6,7 +6,7 @@ use Rattle.std.proofs.lemmas.List.{length-replicate}
 use Rattle.std.proofs.lemmas.List.Elements.{All-head, All-tail}
 use Rattle.tally.specs.declared.cells.Bin.{Bin}
 use Rattle.turning_points.specs.EndPoints.{EndPoints}
-use Rattle.tables.specs.Tables.{filled}
+use Rattle.tables.specs.Tables.{table_with_bins}
 use Rattle.tables.specs.Bins.{count_at}
 use Rattle.tables.proofs.Filled.{placed, none_before, filled_at, table_at, table_long}
 use Rattle.lemmas.proofs.Lists.{get_or-zeros}
@@ -45,17 +45,17 @@ abbrev pub IsGrid : ℕ → ℕ → Type 0
 IsGrid classes reference = ((2 ≤ classes) × (classes ≤ MAX_CLASSES)) × ((1 ≤ reference) × (reference < classes))
 
 module _ (classes reference : ℕ) (e : EndPoints) (bins : List Bin) (k : IsGrid classes reference) (c : CanLoad classes e bins) where
-  begins_at : (i : ℕ) → get_or (filled 0 (replicate (classes + 1) 0) bins) i 0 ≡ count_at i bins
+  begins_at : (i : ℕ) → get_or (table_with_bins 0 (replicate (classes + 1) 0) bins) i 0 ≡ count_at i bins
   begins_at = table_at 1 classes (classes + 1) bins c.bins_are (omega arith)
 
-  stops_at : (p : ℕ) → get_or (filled 1 (replicate (classes + 1) 0) bins) p 0 ≡ placed 1 p bins
+  stops_at : (p : ℕ) → get_or (table_with_bins 1 (replicate (classes + 1) 0) bins) p 0 ≡ placed 1 p bins
   stops_at p = let l = length-replicate {A = ℕ} (classes + 1) 0 in omega (
     arith,
     filled_at 1 1 classes (replicate (classes + 1) 0) bins c.bins_are (omega (arith, l)) (λ p h. get_or-zeros (classes + 1) p) p,
     get_or-zeros (classes + 1) p,
   )
 
-  begins_placed : (p : ℕ) → get_or (filled 0 (replicate (classes + 1) 0) bins) p 0 ≡ placed 0 p bins
+  begins_placed : (p : ℕ) → get_or (table_with_bins 0 (replicate (classes + 1) 0) bins) p 0 ≡ placed 0 p bins
   begins_placed p = let l = length-replicate {A = ℕ} (classes + 1) 0 in
       omega (
         arith,
@@ -64,17 +64,17 @@ module _ (classes reference : ℕ) (e : EndPoints) (bins : List Bin) (k : IsGrid
         get_or-zeros (classes + 1) p,
       )
 
-  behind : (i : ℕ) → sum (take (i + 1) (filled 1 (replicate (classes + 1) 0) bins)) ≡ sum
-      (take i (filled 0 (replicate (classes + 1) 0) bins))
+  behind : (i : ℕ) → sum (take (i + 1) (table_with_bins 1 (replicate (classes + 1) 0) bins)) ≡ sum
+      (take i (table_with_bins 0 (replicate (classes + 1) 0) bins))
   behind i =
       let s : i + 1 ≡ suc i = omega arith in
-      ap (λ j. sum (take j (filled 1 (replicate (classes + 1) 0) bins))) s
-      ∙ shifted (filled 0 (replicate (classes + 1) 0) bins) (filled 1 (replicate (classes + 1) 0) bins)
+      ap (λ j. sum (take j (table_with_bins 1 (replicate (classes + 1) 0) bins))) s
+      ∙ shifted (table_with_bins 0 (replicate (classes + 1) 0) bins) (table_with_bins 1 (replicate (classes + 1) 0) bins)
       (stops_at 0 ∙ none_before 1 1 classes 0 bins c.bins_are (omega arith))
       (λ j. stops_at (suc j) ∙ placed_next j bins ∙ sym (begins_placed j)) i
 
   pub crossed_counts : (l : ℕ) → crossing_count (loaded_of classes reference e bins) l ≡ count_at l bins
-  crossed_counts l = omega (arith, at_more (filled 0 (replicate (classes + 1) 0) bins) l, behind l, begins_at l)
+  crossed_counts l = omega (arith, at_more (table_with_bins 0 (replicate (classes + 1) 0) bins) l, behind l, begins_at l)
 
   pub crossed_is : IsCrossings (loaded_of classes reference e bins)
   crossed_is = record {
@@ -87,7 +87,7 @@ module _ (classes reference : ℕ) (e : EndPoints) (bins : List Bin) (k : IsGrid
     enough = λ i. omega (arith, behind i);
     few = λ i. omega (
       arith,
-      at_more (filled 0 (replicate (classes + 1) 0) bins) i,
+      at_more (table_with_bins 0 (replicate (classes + 1) 0) bins) i,
       behind i,
       begins_at i,
       count_few i (MAX_POINTS) bins c.few,
@@ -97,7 +97,7 @@ module _ (classes reference : ℕ) (e : EndPoints) (bins : List Bin) (k : IsGrid
 -- tables are loaded in place of two as long
 pub crossed_closed : (classes reference : ℕ) (e : EndPoints) (bins : List Bin) (k : IsGrid classes reference) (c : CanLoad classes e bins)
     (n m : ℕ) (b s : List ℕ) → n ≡ classes + 1 → m ≡ classes + 1
-    → b ≡ filled 0 (replicate n 0) bins → s ≡ filled 1 (replicate m 0) bins →
+    → b ≡ table_with_bins 0 (replicate n 0) bins → s ≡ table_with_bins 1 (replicate m 0) bins →
     IsCrossings (record {
       classes = classes;
       reference = reference;
@@ -108,8 +108,8 @@ pub crossed_closed : (classes reference : ℕ) (e : EndPoints) (bins : List Bin)
       stops = s;
     })
 crossed_closed classes reference e bins k c n m b s same other is are =
-    let b_is : b ≡ filled 0 (replicate (classes + 1) 0) bins = is ∙ ap (λ j. filled 0 (replicate j 0) bins) same in
-    let s_is : s ≡ filled 1 (replicate (classes + 1) 0) bins = are ∙ ap (λ j. filled 1 (replicate j 0) bins) other in
+    let b_is : b ≡ table_with_bins 0 (replicate (classes + 1) 0) bins = is ∙ ap (λ j. table_with_bins 0 (replicate j 0) bins) same in
+    let s_is : s ≡ table_with_bins 1 (replicate (classes + 1) 0) bins = are ∙ ap (λ j. table_with_bins 1 (replicate j 0) bins) other in
     subst (λ t. IsCrossings (record {
       classes = classes;
       reference = reference;
@@ -124,6 +124,6 @@ crossed_closed classes reference e bins k c n m b s same other is are =
       some = not (eqb e.points 0);
       first = e.first;
       last = e.last;
-      begins = filled 0 (replicate (classes + 1) 0) bins;
+      begins = table_with_bins 0 (replicate (classes + 1) 0) bins;
       stops = t;
     })) (sym s_is) (crossed_is classes reference e bins k c))

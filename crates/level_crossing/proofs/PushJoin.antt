@@ -3,7 +3,7 @@ use Rattle.std.proofs.Common.{◌≡◌, ℕ, zero, suc, ◌+◌, ◌-◌, ◌^�
 use Rattle.std.proofs.lemmas.Bool.{cases_lt}
 use Rattle.std.proofs.lemmas.Bool.Decides.{nat_tests}
 use Rattle.turning_points.specs.EndPoints.{last_point}
-use Rattle.tables.specs.Tables.{raise, added as both}
+use Rattle.tables.specs.Tables.{raise, sum_of_tables as both}
 use Rattle.level_crossing.specs.Halves.{below_at}
 use Rattle.level_crossing.specs.Crossings.{step_crossings, crossings, first_of, has_level, CrossingsValue, count_at, IsCrossings, Crosses, low, high, begin_step, stop_step, level_of, append_of, between, no_crossings}
 use Rattle.tables.proofs.Counting.{sum_cons, length_added, added_at}

@@ -12,7 +12,7 @@
 use Rattle.std.specs.Prelude.{◌≡◌, ℕ, ◌+◌, ◌-◌, ◌<◌, ◌≤◌, Bool, true, false, ◌&&◌, ◌||◌, nat_lt, nat_le, if◌then◌else◌, List, [], ◌∷◌, length, take, sum, replicate, max, min}
 use Rattle.turning_points.specs.Points.{points}
 use Rattle.turning_points.specs.EndPoints.{last_point}
-use Rattle.tables.specs.Tables.{raise, added}
+use Rattle.tables.specs.Tables.{raise, sum_of_tables}
 use Rattle.calibration.specs.declared.grid.TheConstants.{MIN_CLASSES, MAX_CLASSES}
 use Rattle.turning_points.specs.declared.ends.TheConstants.{MAX_POINTS}
 
@@ -120,8 +120,8 @@ append_of v w = record {
   some = v.some || w.some;
   first = if v.some then v.first else w.first;
   last = if w.some then w.last else v.last;
-  begins = begin_step (v.some && w.some) v.reference v.last w.first (added v.begins w.begins);
-  stops = stop_step (v.some && w.some) v.reference v.last w.first (added v.stops w.stops);
+  begins = begin_step (v.some && w.some) v.reference v.last w.first (sum_of_tables v.begins w.begins);
+  stops = stop_step (v.some && w.some) v.reference v.last w.first (sum_of_tables v.stops w.stops);
 }
 
 -- the crossings of a history are those of its points

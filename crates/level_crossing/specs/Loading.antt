@@ -5,7 +5,7 @@
 use Rattle.std.specs.Prelude.{◌≡◌, ◌<◌, ◌≤◌, ℕ, ◌+◌, ◌==◌, not, List, All, replicate}
 use Rattle.tally.specs.declared.cells.Bin.{Bin}
 use Rattle.turning_points.specs.EndPoints.{EndPoints}
-use Rattle.tables.specs.Tables.{filled}
+use Rattle.tables.specs.Tables.{table_with_bins}
 use Rattle.tables.specs.Bins.{AreBinsFrom}
 use Rattle.level_crossing.specs.Crossings.{CrossingsValue}
 use Rattle.turning_points.specs.declared.ends.TheConstants.{MAX_POINTS}
@@ -24,8 +24,8 @@ loaded_of classes reference e bins = record {
   some = not (e.points == 0);
   first = e.first;
   last = e.last;
-  begins = filled 0 (replicate (classes + 1) 0) bins;
-  stops = filled 1 (replicate (classes + 1) 0) bins;
+  begins = table_with_bins 0 (replicate (classes + 1) 0) bins;
+  stops = table_with_bins 1 (replicate (classes + 1) 0) bins;
 }
 
 abbrev pub HasEnds : CrossingsValue → EndPoints → Type 0

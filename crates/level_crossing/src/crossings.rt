@@ -1,6 +1,6 @@
 ghost use Rattle.std.specs.Prelude.{All, replicate, true, List, [], ◌∷◌, ◌++◌, ◌+◌, ◌-◌, ◌<◌, ◌≡◌, ◌≤◌, ◌^◌, ◌&&◌, ◌||◌, if◌then◌else◌, length, slice_index, sum, take, IfOk, ℕ};
 ghost use Rattle.turning_points.specs.Points.{points};
-ghost use Rattle.tables.specs.Tables.{filled};
+ghost use Rattle.tables.specs.Tables.{table_with_bins};
 ghost use Rattle.tables.specs.Bins.{count_at as count_of_bins};
 ghost use Rattle.turning_points.specs.Ends.{end_points};
 ghost use Rattle.turning_points.specs.EndPoints.{last_point};
@@ -134,7 +134,7 @@ fn count_to(begins: &[u64], stops: &[u64], boundary: usize) -> u64
 // A table of bins alone.
 fn load_bins(table: &mut Vec<u64>, by: u16, bins: &[Bin])
     requires { All (λ b. b.key + by < length table.old.items) bins.now }
-    ensures { table.new.items ≡ filled by (replicate (length table.old.items) 0) bins.now }
+    ensures { table.new.items ≡ table_with_bins by (replicate (length table.old.items) 0) bins.now }
 {
     empty(table);
     fill_bins(table, by, bins);

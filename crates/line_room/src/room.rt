@@ -1,6 +1,6 @@
 ghost use Rattle.std.specs.Prelude.{◌≡◌, [], IfOk};
 ghost use Rattle.std.specs.Fmt.{decimal, signed_decimal};
-ghost use Rattle.line_room.specs.Room.{Fits, with_text, shown, shown_byte as shown_byte_of};
+ghost use Rattle.line_room.specs.Room.{Fits, with_text, shown_text, shown_byte as shown_byte_of};
 
 use itoa::Buffer;
 use std::alloc::{AllocError, Global};
@@ -74,8 +74,8 @@ impl LineRoom {
 
     /// Writes a text with a question mark for each control byte, so that it can't end the line.
     pub fn push_shown(&mut self, text: &[u8])
-        requires { Fits self.old (shown text.now) }
-        ensures { self.new ≡ with_text self.old (shown text.now) }
+        requires { Fits self.old (shown_text text.now) }
+        ensures { self.new ≡ with_text self.old (shown_text text.now) }
     {
         for &byte in text {
             self.push(&[shown_byte(byte)]);

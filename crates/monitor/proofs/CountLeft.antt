@@ -1,7 +1,7 @@
 -- `count`, where memory ran out before its configuration was read.
 use Rattle.std.proofs.Common.{◌≡◌, inr, ℕ, List, [], refl, sym, subst}
 use Rattle.station.specs.Station.{Image, Lines}
-use Rattle.recorded.specs.Recorded.{recorded, Recorded}
+use Rattle.recorded.specs.Recorded.{recordings, Recorded}
 use Rattle.held_samples.specs.Going.{AllHold, IsKept}
 use Rattle.outside.specs.Site.{AsksNothing}
 use Rattle.site_config.specs.Configuration.{config_of_bytes}
@@ -34,7 +34,7 @@ pub count_without_memory : (before after : Shown) (s : Status) → s ≡ OutOfMe
     → after.written ≡ before.written →
     AsksNothing before.names_asked after.names_asked → CountRuns before after s
 count_without_memory before after s is only tells ends same none = subst (λ (x : Status). CountRuns before after x) (sym is) (record {
-  every_moment = λ k t c conf is2 a holds. kept_moments before after (recorded conf before.files) a (only k) (tells k) holds;
+  every_moment = λ k t c conf is2 a holds. kept_moments before after (recordings conf before.files) a (only k) (tells k) holds;
   ended = λ k t c conf is2 a holds. tt;
   cut = λ k t c conf is2 a holds no. tt;
   prints = λ o k t c conf is2 a holds. same;

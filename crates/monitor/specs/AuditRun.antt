@@ -4,7 +4,7 @@ use Rattle.outside.specs.Fault.{Rose}
 use Rattle.segment_store.specs.Holds.{Holds}
 use Rattle.site_config.specs.Configuration.{config_of_bytes}
 use Rattle.site_config.specs.declared.config.Config.{Config}
-use Rattle.recorded.specs.Recorded.{recorded}
+use Rattle.recorded.specs.Recorded.{recordings}
 use Rattle.recorded.specs.Asked.{AsksFirst, names_in}
 use Rattle.status.specs.declared.status.Status.{Status}
 use Rattle.status.specs.declared.status.Status.TheVariants.{Done, Usage, ReadFault, WriteFault, DiskFault, OutOfMemory}
@@ -29,7 +29,7 @@ pub record AuditRuns (before after : Shown) (answer : Status) : Type 0 where
   -- Where the bodies stand for samples, these are compared with what the recording begins with.
   pub stands : before.station_tells → before.site_tells → before.config_tells → (c : Config) →
       config_of_bytes before.config ≡ Ok c → (w : ℕ → List ℤ) (n : List ℕ) → Holds c.setup w n before.seen →
-      Finds c (IsStanding c (held_of w n)) (held_of (recorded c before.files).samples n) answer
+      Finds c (IsStanding c (held_of w n)) (held_of (recordings c before.files).samples n) answer
   -- A line for each gauge.
   pub prints : before.output_tells → before.config_tells → (c : Config) →
       config_of_bytes before.config ≡ Ok c → Prints answer c before.written after.written

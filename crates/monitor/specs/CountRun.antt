@@ -5,7 +5,7 @@ use Rattle.station.specs.Station.{Image, Lines}
 use Rattle.segment_store.specs.Holds.{Holds}
 use Rattle.site_config.specs.Configuration.{config_of_bytes}
 use Rattle.site_config.specs.declared.config.Config.{Config}
-use Rattle.recorded.specs.Recorded.{recorded}
+use Rattle.recorded.specs.Recorded.{recordings}
 use Rattle.recorded.specs.Asked.{AsksFirst, names_in}
 use Rattle.held_samples.specs.Going.{AllHold, IsKept}
 use Rattle.held_samples.specs.Told.{Acknowledges}
@@ -23,31 +23,31 @@ use Rattle.monitor.specs.InitRun.{line_for}
 pub record CountRuns (before after : Shown) (answer : Status) : Type 0 where
   -- Every moment of the run holds at least what was acknowledged before, and what was told in it up to that moment.
   pub every_moment : before.station_tells → before.site_tells → before.config_tells → (c : Config) →
-      config_of_bytes before.config ≡ Ok c → (a : List ℕ) → AllHold (recorded c before.files) a before.leaves →
+      config_of_bytes before.config ≡ Ok c → (a : List ℕ) → AllHold (recordings c before.files) a before.leaves →
       (lines : Lines) (image : Image) → after.moments before.clock lines image →
-      IsKept (recorded c before.files) a before.told lines image
+      IsKept (recordings c before.files) a before.told lines image
   -- At a good end all samples are held, and where a recording is torn or too long, as many as a recording may have.
   pub ended : before.station_tells → before.site_tells → before.config_tells → (c : Config) →
-      config_of_bytes before.config ≡ Ok c → (a : List ℕ) → AllHold (recorded c before.files) a before.leaves →
-      HeldAt answer (recorded c before.files) after.leaves
+      config_of_bytes before.config ≡ Ok c → (a : List ℕ) → AllHold (recordings c before.files) a before.leaves →
+      HeldAt answer (recordings c before.files) after.leaves
   pub cut : before.station_tells → before.site_tells → before.config_tells → (c : Config) →
-      config_of_bytes before.config ≡ Ok c → (a : List ℕ) → AllHold (recorded c before.files) a before.leaves →
-      ¬ Rose before.site_faults after.site_faults → HeldCut answer (recorded c before.files) after.leaves
+      config_of_bytes before.config ≡ Ok c → (a : List ℕ) → AllHold (recordings c before.files) a before.leaves →
+      ¬ Rose before.site_faults after.site_faults → HeldCut answer (recordings c before.files) after.leaves
   -- The report is that of all samples, and each round was acknowledged.
   pub prints : before.output_tells → before.station_tells → before.site_tells → before.config_tells → (c : Config) →
-      config_of_bytes before.config ≡ Ok c → (a : List ℕ) → AllHold (recorded c before.files) a before.leaves →
-      Prints answer c (recorded c before.files).samples before.written after.written
+      config_of_bytes before.config ≡ Ok c → (a : List ℕ) → AllHold (recordings c before.files) a before.leaves →
+      Prints answer c (recordings c before.files).samples before.written after.written
   pub nothing : before.output_tells → ¬ IsPrinting answer → after.written ≡ before.written
   pub acknowledged : before.station_tells → before.site_tells → before.config_tells → (c : Config) →
       config_of_bytes before.config ≡ Ok c → (n : List ℕ) →
-      Holds c.setup (recorded c before.files).samples n before.seen → answer ≡ Done →
-      Acknowledges c.block (recorded c before.files) n before.told after.told
+      Holds c.setup (recordings c before.files).samples n before.seen → answer ≡ Done →
+      Acknowledges c.block (recordings c before.files) n before.told after.told
   -- Which answer it is, and when it is `Done`.
   pub answer_is : before.station_tells → before.site_tells → before.config_tells →
       CountAnswers (config_of_bytes before.config) before.seen before.files answer
   pub complete : before.station_tells → before.site_tells → before.config_tells → (c : Config) →
       config_of_bytes before.config ≡ Ok c → (n : List ℕ)
-      (h : Holds c.setup (recorded c before.files).samples n before.seen) → HeadsFit c h.head.heads before.files →
+      (h : Holds c.setup (recordings c before.files).samples n before.seen) → HeadsFit c h.head.heads before.files →
       AllSound c before.files (length c.gauges) →
       ¬ Rose before.config_faults after.config_faults → ¬ Rose before.site_faults after.site_faults →
       ¬ Rose before.station_faults after.station_faults → ¬ Rose before.output_faults after.output_faults →

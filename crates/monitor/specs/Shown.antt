@@ -1,8 +1,8 @@
 -- What a whole run shows, before it and after it.
---   Shown   what the configuration, the site, the station and the output show at one moment
---   shown   the same of four objects
---   Tells   nothing of the station changes but that this line is told at most
---   Ends    this line was told last, unless the station failed
+--   Shown     what the configuration, the site, the station and the output show at one moment
+--   shown_by  the same of four objects
+--   Tells     nothing of the station changes but that this line is told at most
+--   Ends      this line was told last, unless the station failed
 use Rattle.std.specs.Prelude.{◌⊎◌, ℕ, List}
 use Rattle.outside.specs.Fault.{Rose}
 use Rattle.outside.specs.Site.{Files, Asked}
@@ -38,9 +38,10 @@ pub record Shown : Type 1 where
   pub written : List ℕ
   pub output_faults : ℕ
 
-abbrev pub shown : {C S Src K O : Type 0} → source.Ghosts C → site.Ghosts S Src → station.Ghosts K → sink.Ghosts O → C →
+abbrev pub shown_by : {C S Src K O : Type 0} → source.Ghosts C → site.Ghosts S Src → station.Ghosts K → sink.Ghosts O →
+    C →
     S → K → O → Shown
-shown t u v p c s k o = record {
+shown_by t u v p c s k o = record {
   config_tells = t.tells;
   site_tells = u.tells;
   station_tells = v.tells;

@@ -13,7 +13,7 @@ ghost use Rattle.monitor.specs.RepeatRun.{RepeatRuns};
 ghost use Rattle.monitor.specs.AuditRun.{AuditRuns};
 ghost use Rattle.monitor.specs.DemoRun.{DemoRuns};
 ghost use Rattle.monitor.specs.SheetRun.{SheetRuns};
-ghost use Rattle.monitor.specs.Shown.{shown, Tells, Ends};
+ghost use Rattle.monitor.specs.Shown.{shown_by, Tells, Ends};
 
 use crate::column::told_column;
 use crate::demo::told_demo;
@@ -72,28 +72,28 @@ pub fn monitor<
         (outside ⟦<T as Site>⟧ ⟦<O as Sink>⟧ site.new out.new) result }
     // `init`
     ensures init { command_of (map string_bytes words.now) ≡ Some Init → InitRuns
-        (shown ⟦<C as Source>⟧ ⟦<T as Site>⟧ ⟦<K as Station>⟧ ⟦<O as Sink>⟧
+        (shown_by ⟦<C as Source>⟧ ⟦<T as Site>⟧ ⟦<K as Station>⟧ ⟦<O as Sink>⟧
         config.old site.old station.old out.old)
-        (shown ⟦<C as Source>⟧ ⟦<T as Site>⟧ ⟦<K as Station>⟧ ⟦<O as Sink>⟧
+        (shown_by ⟦<C as Source>⟧ ⟦<T as Site>⟧ ⟦<K as Station>⟧ ⟦<O as Sink>⟧
         config.new site.new station.new out.new) result }
     // `count`
     ensures count { (workers : Option ℕ) →
         command_of (map string_bytes words.now) ≡ Some (Count workers) → CountRuns
-        (shown ⟦<C as Source>⟧ ⟦<T as Site>⟧ ⟦<K as Station>⟧ ⟦<O as Sink>⟧
+        (shown_by ⟦<C as Source>⟧ ⟦<T as Site>⟧ ⟦<K as Station>⟧ ⟦<O as Sink>⟧
         config.old site.old station.old out.old)
-        (shown ⟦<C as Source>⟧ ⟦<T as Site>⟧ ⟦<K as Station>⟧ ⟦<O as Sink>⟧
+        (shown_by ⟦<C as Source>⟧ ⟦<T as Site>⟧ ⟦<K as Station>⟧ ⟦<O as Sink>⟧
         config.new site.new station.new out.new) result }
     // `report`
     ensures report { command_of (map string_bytes words.now) ≡ Some Report → ReportRuns
-        (shown ⟦<C as Source>⟧ ⟦<T as Site>⟧ ⟦<K as Station>⟧ ⟦<O as Sink>⟧
+        (shown_by ⟦<C as Source>⟧ ⟦<T as Site>⟧ ⟦<K as Station>⟧ ⟦<O as Sink>⟧
         config.old site.old station.old out.old)
-        (shown ⟦<C as Source>⟧ ⟦<T as Site>⟧ ⟦<K as Station>⟧ ⟦<O as Sink>⟧
+        (shown_by ⟦<C as Source>⟧ ⟦<T as Site>⟧ ⟦<K as Station>⟧ ⟦<O as Sink>⟧
         config.new site.new station.new out.new) result }
     // `audit`
     ensures audit { command_of (map string_bytes words.now) ≡ Some Audit → AuditRuns
-        (shown ⟦<C as Source>⟧ ⟦<T as Site>⟧ ⟦<K as Station>⟧ ⟦<O as Sink>⟧
+        (shown_by ⟦<C as Source>⟧ ⟦<T as Site>⟧ ⟦<K as Station>⟧ ⟦<O as Sink>⟧
         config.old site.old station.old out.old)
-        (shown ⟦<C as Source>⟧ ⟦<T as Site>⟧ ⟦<K as Station>⟧ ⟦<O as Sink>⟧
+        (shown_by ⟦<C as Source>⟧ ⟦<T as Site>⟧ ⟦<K as Station>⟧ ⟦<O as Sink>⟧
         config.new site.new station.new out.new) result }
     // `demo`
     ensures demo { (seed samples workers : ℕ) →
@@ -105,9 +105,9 @@ pub fn monitor<
         AsksNothing (T.names_asked site.old) (T.names_asked site.new) }
     // `repeat`
     ensures repeat { command_of (map string_bytes words.now) ≡ Some Repeat → RepeatRuns
-        (shown ⟦<C as Source>⟧ ⟦<T as Site>⟧ ⟦<K as Station>⟧ ⟦<O as Sink>⟧
+        (shown_by ⟦<C as Source>⟧ ⟦<T as Site>⟧ ⟦<K as Station>⟧ ⟦<O as Sink>⟧
         config.old site.old station.old out.old)
-        (shown ⟦<C as Source>⟧ ⟦<T as Site>⟧ ⟦<K as Station>⟧ ⟦<O as Sink>⟧
+        (shown_by ⟦<C as Source>⟧ ⟦<T as Site>⟧ ⟦<K as Station>⟧ ⟦<O as Sink>⟧
         config.new site.new station.new out.new) result }
     // `column FILE NAME ID PERIOD`
     ensures column { (file name id : List ℕ) (period : ℕ) →
@@ -120,9 +120,9 @@ pub fn monitor<
         (outside ⟦<T as Site>⟧ ⟦<O as Sink>⟧ site.new out.new) result }
     // `sheet`
     ensures sheet { command_of (map string_bytes words.now) ≡ Some Sheet → SheetRuns
-        (shown ⟦<C as Source>⟧ ⟦<T as Site>⟧ ⟦<K as Station>⟧ ⟦<O as Sink>⟧
+        (shown_by ⟦<C as Source>⟧ ⟦<T as Site>⟧ ⟦<K as Station>⟧ ⟦<O as Sink>⟧
         config.old site.old station.old out.old)
-        (shown ⟦<C as Source>⟧ ⟦<T as Site>⟧ ⟦<K as Station>⟧ ⟦<O as Sink>⟧
+        (shown_by ⟦<C as Source>⟧ ⟦<T as Site>⟧ ⟦<K as Station>⟧ ⟦<O as Sink>⟧
         config.new site.new station.new out.new) result }
     // Words that are no command.
     ensures no_command { command_of (map string_bytes words.now) ≡ None →
@@ -140,16 +140,16 @@ pub fn monitor<
     ensures told { (name : List ℕ) →
         IsToldOf (command_of (map string_bytes words.now)) name → K.tells →
         Tells (fault_line result name)
-        (shown ⟦<C as Source>⟧ ⟦<T as Site>⟧ ⟦<K as Station>⟧ ⟦<O as Sink>⟧
+        (shown_by ⟦<C as Source>⟧ ⟦<T as Site>⟧ ⟦<K as Station>⟧ ⟦<O as Sink>⟧
         config.old site.old station.old out.old)
-        (shown ⟦<C as Source>⟧ ⟦<T as Site>⟧ ⟦<K as Station>⟧ ⟦<O as Sink>⟧
+        (shown_by ⟦<C as Source>⟧ ⟦<T as Site>⟧ ⟦<K as Station>⟧ ⟦<O as Sink>⟧
         config.new site.new station.new out.new) }
     ensures last { (name : List ℕ) →
         IsToldOf (command_of (map string_bytes words.now)) name → K.tells →
         result ≢ Status.Done → Ends (fault_line result name)
-        (shown ⟦<C as Source>⟧ ⟦<T as Site>⟧ ⟦<K as Station>⟧ ⟦<O as Sink>⟧
+        (shown_by ⟦<C as Source>⟧ ⟦<T as Site>⟧ ⟦<K as Station>⟧ ⟦<O as Sink>⟧
         config.old site.old station.old out.old)
-        (shown ⟦<C as Source>⟧ ⟦<T as Site>⟧ ⟦<K as Station>⟧ ⟦<O as Sink>⟧
+        (shown_by ⟦<C as Source>⟧ ⟦<T as Site>⟧ ⟦<K as Station>⟧ ⟦<O as Sink>⟧
         config.new site.new station.new out.new) }
     ensures back { T.out site.new ≡ 0 }
     ensures files { T.tells → T.files site.new ≡ T.files site.old }

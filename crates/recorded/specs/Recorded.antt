@@ -1,7 +1,7 @@
 -- What a run is about: the setup, and for each gauge its name, its samples and how many bytes stand behind the last
 -- whole one.
 --   body_in      what stands behind the head of a file
---   recorded     the recordings of a configuration
+--   recordings   the recordings of a configuration
 use Rattle.std.specs.Prelude.{ℕ, ℤ, List, [], drop, length, Option, Some, None}
 use Rattle.outside.specs.Site.{Files}
 use Rattle.recording.specs.Samples.{samples, torn_bytes}
@@ -22,8 +22,8 @@ abbrev pub body_in : Option (List ℕ) → List ℕ
 body_in (Some file) = drop 32 file
 body_in None = []
 
-abbrev pub recorded : Config → Files → Recorded
-recorded c files = record {
+abbrev pub recordings : Config → Files → Recorded
+recordings c files = record {
   setup = c.setup;
   gauges = length c.gauges;
   names = name_of c;

@@ -1,16 +1,16 @@
 -- The rainflow count of a history that repeats (ASTM E1049-85, 5.4.5), over levels: the history is arranged to begin
 -- and to end with its greatest peak, and then full cycles alone are counted. X is the range under consideration, and Y
 -- the previous range adjacent to X.
---   greatest            the greatest level
---   from_first          the levels from the first of this level on
---   before_first        those before it
---   turned              the history arranged so
---   live_after_cycles   the points that are live after the next point was read and its steps were taken
---   cycles_closed       the cycles that these steps count
---   cycle_run           all cycles, in the order in which they are counted
---   repeating_cycles    the cycles of a pair in a history
---   AddsItsCycles       a history that is put behind itself counts two half units more for each of these cycles
---   ClosesFromResult    the cycles are those of a four-point result, and those of its residue put behind itself
+--   greatest               the greatest level
+--   from_first             the levels from the first of this level on
+--   before_first           those before it
+--   history_from_greatest  the history arranged so
+--   live_after_cycles      the points that are live after the next point was read and its steps were taken
+--   cycles_closed          the cycles that these steps count
+--   cycle_run              all cycles, in the order in which they are counted
+--   repeating_cycles       the cycles of a pair in a history
+--   AddsItsCycles          a history that is put behind itself counts two half units more for each of these cycles
+--   ClosesFromResult       the cycles are those of a four-point result, and those of its residue put behind itself
 -- A list of live points has the newest first. The point z that was read last stands apart: X is the range from y to z,
 -- where y is the newest live point, and Y the range from x to y.
 use Rattle.std.specs.Prelude.{◌≡◌, ℕ, ◌+◌, ◌*◌, nat_le, ◌==◌, if◌then◌else◌, max, List, [], ◌∷◌, ◌++◌}
@@ -32,9 +32,9 @@ before_first m [] = []
 before_first m (x ∷ h) = if x == m then [] else x ∷ before_first m h
 
 -- From the first greatest level to the end, then from the beginning to that level.
-abbrev pub turned : List ℕ → List ℕ
-turned [] = []
-turned (x ∷ h) =
+abbrev pub history_from_greatest : List ℕ → List ℕ
+history_from_greatest [] = []
+history_from_greatest (x ∷ h) =
     let m = greatest (x ∷ h) in
     from_first m (x ∷ h) ++ (before_first m (x ∷ h) ++ (m ∷ []))
 
@@ -58,7 +58,7 @@ cycle_run live [] = []
 cycle_run live (z ∷ l) = cycles_closed z live ++ cycle_run (live_after_cycles z live) l
 
 abbrev pub repeating_cycles : List ℕ → ℕ → ℕ → ℕ
-repeating_cycles h lo hi = count_in lo hi (cycle_run [] (points (turned h)))
+repeating_cycles h lo hi = count_in lo hi (cycle_run [] (points (history_from_greatest h)))
 
 abbrev pub AddsItsCycles : Type 0
 AddsItsCycles =

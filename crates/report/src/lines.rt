@@ -6,8 +6,8 @@ use crate::Page;
 
 /// Half units as a number of cycles.
 pub fn push_halved(page: &mut Page, n: u64)
-    requires room { Fits page.old (spec.halved n) }
-    ensures { page.new ≡ with_text page.old (spec.halved n) }
+    requires room { Fits page.old (spec.halves_text n) }
+    ensures { page.new ≡ with_text page.old (spec.halves_text n) }
 {
     page.push_number((n / 2) as u128);
     page.push(if n % 2 == 0 { b".0" } else { b".5" });

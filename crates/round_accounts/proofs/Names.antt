@@ -3,7 +3,7 @@ use Rattle.std.proofs.Common.{◌≡◌, ◌≤◌, ◌<◌, ◌+◌, ◌*◌, �
 use Rattle.std.specs.Prelude.{◌&&◌}
 use Rattle.std.proofs.lemmas.List.{append-nil}
 use Rattle.std.proofs.lemmas.Bool.Decides.{nat_tests}
-use Rattle.flow.specs.Flow.{named}
+use Rattle.flow.specs.Flow.{name_of_samples}
 use Rattle.block_pool.specs.Units.{FilledValue}
 use Rattle.arrivals.specs.Arrivals.{Round, names_of, name_at, fed_to}
 use Rattle.block_workers.specs.declared.desk.Desk.{Desk}
@@ -28,8 +28,8 @@ module _ (block n : ℕ) (r : Round) (d : Desk) (to : ℕ) (is : block ≡ d.blo
       → fed_to block n r d.gauge v (suc k) ≡ fed_to block n r d.gauge v k ++ cond (eqb (k % n) v) (u.name ∷ []) []
   fed_one v k b u i e some =
       let test : ltb (at k) (length (r.samples d.gauge)) ≡ true = ap (λ l. ltb (at k) l) ends ∙ below (at k) to some in
-      let name : name_at block n r d.gauge k ≡ u.name = ap (λ l. named d.gauge (at k) (min (at k + block) l)) ends
-      ∙ ap (λ l. named d.gauge (at k) l) (sym e) ∙ sym i.name in
+      let name : name_at block n r d.gauge k ≡ u.name = ap (λ l. name_of_samples d.gauge (at k) (min (at k + block) l)) ends
+      ∙ ap (λ l. name_of_samples d.gauge (at k) l) (sym e) ∙ sym i.name in
       ap (λ t. fed_to block n r d.gauge v k ++ cond (t && eqb (k % n) v) (name_at block n r d.gauge k ∷ []) []) test
       ∙ ap (λ m. fed_to block n r d.gauge v k ++ cond (eqb (k % n) v) (m ∷ []) []) name
 

@@ -23,7 +23,7 @@ use Rattle.block_workers.specs.declared.worker.Worker.{Worker}
 use Rattle.block_workers.specs.Dealing.{round_of, dealt}
 use Rattle.block_workers.specs.Reading.{AreBlocks, samples_of, ReadDone, SameDesk}
 use Rattle.block_workers.specs.Reading.AreBlocks.{none}
-use Rattle.block_workers.specs.Working.{AreCounts, all_new, new_blocks, returned}
+use Rattle.block_workers.specs.Working.{AreCounts, all_new, new_blocks, return_round}
 use Rattle.block_workers.specs.Jobs.{RingAt, CanRead, ReadJob, NotRead, SameRead, WorkJob, SameWork}
 use Rattle.block_workers.proofs.Blocks.{gives_as}
 use Rattle.block_workers.proofs.Settling.{same_feeders, same_takers, same_backs, still_one}
@@ -240,7 +240,7 @@ pub record WorkerRan (w0 w3 : Worker) : Type 0 where
   pub ends : (g : ℕ) (d : Taker Item) → g < vec_len w0.takers → IsSameTaker (get_or w0.takers.items g d) (get_or w3.takers.items g d)
   pub units : List CountedValue
   pub counts : AreCounts (in_turn (vec_len w0.takers) blocks) units
-  pub fed : fed w3.back ≡ fed w0.back ++ returned units
+  pub fed : fed w3.back ≡ fed w0.back ++ return_round units
   pub same : IsSameFeeder w0.back w3.back
 
 turn_front : {A : Type 0} → (n : ℕ) (f : ℕ → List A) → in_turn (suc n) f ≡ f 0 ++ in_turn n (λ g. f (suc g))

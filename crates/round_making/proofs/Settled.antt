@@ -28,7 +28,7 @@ use Rattle.block_workers.specs.declared.jobs.Reader.{Reader}
 use Rattle.block_workers.specs.declared.worker.Worker.{Worker}
 use Rattle.block_workers.specs.Dealing.{round_of, dealt}
 use Rattle.block_workers.specs.Reading.{AreBlocks, samples_of}
-use Rattle.block_workers.specs.Working.{AreCounts, returned}
+use Rattle.block_workers.specs.Working.{AreCounts, return_round}
 use Rattle.block_workers.specs.Jobs.{CanRead, ReadJob, SameRead, WorkJob, SameWork, Fifo}
 use Rattle.block_workers.proofs.Accounts.{even, blocks_ascend}
 use Rattle.collector.specs.declared.collecting.Return.{Return}
@@ -51,7 +51,7 @@ use Rattle.calibration.specs.Gain.{GainValue}
 use Rattle.segment.specs.Segment.{SegmentValue}
 use Rattle.segment.specs.Name.{name_of}
 use Rattle.segment.specs.Segment.{Stands}
-use Rattle.flow.specs.Flow.{named}
+use Rattle.flow.specs.Flow.{name_of_samples}
 use Rattle.deposits.proofs.Fronting.{front_name}
 use Rattle.block_workers.specs.Reading.AreBlocks.{none, last, more}
 use Rattle.block_workers.proofs.Settling.{still_one}
@@ -74,7 +74,7 @@ kind_of [] = 0
 kind_of (Unit u ∷ l) = 1
 kind_of (Over ∷ l) = 2
 
-same_back : (us vs : List CountedValue) (rest : List Back) → returned us ≡ returned vs ++ rest → (vs ≡ us) × (rest ≡ [])
+same_back : (us vs : List CountedValue) (rest : List Back) → return_round us ≡ return_round vs ++ rest → (vs ≡ us) × (rest ≡ [])
 same_back [] [] rest e = (refl, sym (ap rest_of e))
 same_back [] (v ∷ vs) rest e = let k : 2 ≡ 1 = ap kind_of e in absurd (omega (arith, k))
 same_back (u ∷ us) [] rest e = let k : 1 ≡ 2 = ap kind_of e in absurd (omega (arith, k))
@@ -83,11 +83,12 @@ same_back (u ∷ us) (v ∷ vs) rest e =
     let head_is : v ≡ u = sym (ap (unit_in u) e) in
     (ap (λ x. x ∷ vs) head_is ∙ ap (λ l. u ∷ l) tail_is.0, tail_is.1)
 
-even_back : (f fed taken left : List Back) (us vs : List CountedValue) → fed ≡ f ++ returned us → taken ≡ f ++ returned vs
+even_back : (f fed taken left : List Back) (us vs : List CountedValue) → fed ≡ f ++ return_round us → taken ≡ f ++ return_round vs
     → fed ≡ taken ++ left → (vs ≡ us) × (fed ≡ taken)
 even_back f fed taken left us vs a b e =
-    let both_ends : f ++ returned us ≡ f ++ (returned vs ++ left) = sym a ∙ e ∙ ap (λ t. t ++ left) b ∙ append_assoc f (returned vs) left in
-    let (same, no_more) = same_back us vs left (append_cancel_left f (returned us) (returned vs ++ left) both_ends) in
+    let both_ends : f ++ return_round us ≡ f ++ (return_round vs ++ left) = sym a ∙ e ∙ ap (λ t. t ++ left) b
+    ∙ append_assoc f (return_round vs) left in
+    let (same, no_more) = same_back us vs left (append_cancel_left f (return_round us) (return_round vs ++ left) both_ends) in
     (same, rw (a, b, same) refl)
 
 between_one : (a b i : ℕ) → between a b i ≤ 1
@@ -249,7 +250,7 @@ module _ {C : Type 0} (tells : Type 0) (left : C → List ℕ) (faults : C → �
       let line = s.back_fifo v w k few in
       even_back f0 (fed (get_or ws3 v w).back) (taken (get_or bs1 v k).taker) line.left wr.units (s.collected.lists v)
       wr.fed
-      (s.collected.taken v k (omega (arith, m, s.resting.returns_long)) ∙ ap (λ x. x ++ returned (s.collected.lists v)) (sym start))
+      (s.collected.taken v k (omega (arith, m, s.resting.returns_long)) ∙ ap (λ x. x ++ return_round (s.collected.lists v)) (sym start))
       ((s.fed_back v w few).fed ∙ line.fifo)
 
   counts_at : (v : ℕ) (m : v < workers) (d : Taker Item) (e : Feeder Item)
@@ -470,7 +471,7 @@ module _ {C : Type 0} (tells : Type 0) (left : C → List ℕ) (faults : C → �
     up_at : (g : ℕ) → g < n → (get_or ls0 g l).at ≤ to g
     up_at g m = let q = (lane g m).run in blocks_ascend q.desk (get_or ls0 g l).at (to g) q.units q.blocks
 
-    front_is : (g : ℕ) → g < n → (front : SegmentValue) → IsFront b2 g front → name_of front ≡ named g (at_of ls0 g) (to g)
+    front_is : (g : ℕ) → g < n → (front : SegmentValue) → IsFront b2 g front → name_of front ≡ name_of_samples g (at_of ls0 g) (to g)
     front_is g m front f =
         let rows = board3.2 in
         let known : g < length b1.rows = omega (arith, m, s.plan.2, s.resting.board.2) in
@@ -573,8 +574,9 @@ module _ {C : Type 0} (tells : Type 0) (left : C → List ℕ) (faults : C → �
         let gauge = (s.lanes g l (omega (arith, m, s.long))).gauge in
         let long : to g - (get_or ls0 g l).at ≡ (get_or ls2 g l).at - (get_or ls0 g l).at = let e = b.at in omega (arith, e) in
         record {
-          name = front_is g m front f ∙ ap (λ a. named g a (to g)) (start_at g m) ∙ ap (λ a. named g (get_or ls0 g l).at a) (sym b.at)
-              ∙ ap (λ a. named a (get_or ls0 g l).at (get_or ls2 g l).at) (sym gauge);
+          name = front_is g m front f ∙ ap (λ a. name_of_samples g a (to g)) (start_at g m)
+              ∙ ap (λ a. name_of_samples g (get_or ls0 g l).at a) (sym b.at)
+              ∙ ap (λ a. name_of_samples a (get_or ls0 g l).at (get_or ls2 g l).at) (sym gauge);
           stands = λ src e t. (
               let same : x.before ≡ src = same_Some x.before src (sym x.was ∙ e) in
               subst (Stands front (gain_of g)) (ap samples_of q.is.1 ∙ x.samples t ∙ ap (λ j. take j (samples (left x.before))) long

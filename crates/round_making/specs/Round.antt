@@ -13,7 +13,7 @@ use Rattle.lane_ends.specs.declared.end.End.TheVariants.{More, ReadFault}
 use Rattle.lane_ends.specs.Ends.{Gives}
 use Rattle.segment.specs.Segment.{SegmentValue, Stands}
 use Rattle.segment.specs.Name.{name_of}
-use Rattle.flow.specs.Flow.{named, hits}
+use Rattle.flow.specs.Flow.{name_of_samples, hits}
 use Rattle.flow.specs.Kept.{between}
 use Rattle.block_pool.specs.Units.{FilledValue}
 use Rattle.board.specs.Board.{IsFront}
@@ -54,7 +54,7 @@ module _ {C : Type 0} where
 
   -- The front of a lane stands for the whole samples that it gave, which are the next ones that its source had left.
   pub record FrontDone (tells : Type 0) (left : C → List ℕ) (old new : Lane C) (front : SegmentValue) : Type 0 where
-    pub name : name_of front ≡ named old.gauge old.at new.at
+    pub name : name_of front ≡ name_of_samples old.gauge old.at new.at
     pub stands : (src : C) → old.src ≡ Some src → tells →
         Stands front old.gain (take (new.at - old.at) (samples (left src)))
 

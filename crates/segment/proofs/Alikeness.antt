@@ -2,7 +2,7 @@
 use Rattle.std.proofs.Common.{◌≡◌, ◌≢◌, ℕ, ◌+◌, ◌<◌, ◌≤◌, ◌⊎◌, inl, inr, refl, sym, ap, ◌∙◌, subst, arith}
 use Rattle.std.proofs.lemmas.Bool.{cases_eq, cases_lt}
 use Rattle.turning_points.specs.Points.{IsBetween}
-use Rattle.turning_points.specs.EndPoints.{EndPoints, IsTurn, IsEnds, put, meets}
+use Rattle.turning_points.specs.EndPoints.{EndPoints, IsTurn, IsEnds, ends_prepend, meets}
 use Rattle.turning_points.proofs.Put.{PutCase, at_none, at_equal, at_second, at_turn, at_passed, put_none, put_equal, put_second, put_turn, put_two, put_passed, put_first, put_side}
 use Rattle.turning_points.proofs.PutEnds.{case_of, put_ends}
 use Rattle.turning_points.proofs.MeetEnds.{Left, left_zero, left_one, left_two, left_long, left_of, meets_zero, meets_one, meets_two, meets_long, twice}
@@ -37,14 +37,14 @@ near_side : (q x l b : ℕ) → OnSide l b x → IsBetween q x l → OnSide l b 
 near_side q x l b t u = grind arith
 
 module _ (K : ℕ) (g s : EndPoints) (i : IsEnds K g) (j : IsEnds K s) (a : Alike g s) (p q : ℕ) (d : OnSide g.first p q) where
-  open_second : g.points ≡ 1 → p ≢ g.first → q ≢ s.first → Opened g s (put p g) (put q s)
+  open_second : g.points ≡ 1 → p ≢ g.first → q ≢ s.first → Opened g s (ends_prepend p g) (ends_prepend q s)
   open_second n m o =
       let c = a.short (omega arith) in
       let f : s.points ≡ 1 = omega arith in
       opened_to (put_second p g n m) (put_second q s f o)
       (record { balance = omega arith; short = λ w. refl; many = omega arith; last = a.first; before = d; three = λ w. a.first })
 
-  open_turn : 2 ≤ g.points → IsTurn p g.first g.second → Opened g s (put p g) (put q s)
+  open_turn : 2 ≤ g.points → IsTurn p g.first g.second → Opened g s (ends_prepend p g) (ends_prepend q s)
   open_turn n t =
       let l = a.long n in
       let u : IsTurn q s.first s.second = subst (λ w. IsTurn q w s.second) (sym a.first)
@@ -65,7 +65,7 @@ module _ (K : ℕ) (g s : EndPoints) (i : IsEnds K g) (j : IsEnds K s) (a : Alik
   last_of_two : (e : EndPoints) → IsEnds K e → e.points ≡ 2 → (x : ℕ) → IsBetween x e.first e.second → IsBetween x e.first e.last
   last_of_two e k n x t = subst (λ w. IsBetween x e.first w) (sym (k.two n).1) t
 
-  open_two : g.points ≡ 2 → IsBetween p g.first g.second → Opened g s (put p g) (put q s)
+  open_two : g.points ≡ 2 → IsBetween p g.first g.second → Opened g s (ends_prepend p g) (ends_prepend q s)
   open_two n t =
       let c = a.short (omega arith) in
       let f : s.points ≡ 2 = omega arith in
@@ -83,7 +83,7 @@ module _ (K : ℕ) (g s : EndPoints) (i : IsEnds K g) (j : IsEnds K s) (a : Alik
         three = λ z. absurd (omega arith);
       })
 
-  open_both : 3 ≤ g.points → 3 ≤ s.points → IsBetween p g.first g.second → Opened g s (put p g) (put q s)
+  open_both : 3 ≤ g.points → 3 ≤ s.points → IsBetween p g.first g.second → Opened g s (ends_prepend p g) (ends_prepend q s)
   open_both n m t =
       let u = passes (omega arith) t in
       opened_to (put_passed p g n t) (put_passed q s m u)
@@ -96,7 +96,7 @@ module _ (K : ℕ) (g s : EndPoints) (i : IsEnds K g) (j : IsEnds K s) (a : Alik
         three = λ z. a.three z;
       })
 
-  open_one : 4 ≤ g.points → s.points ≡ 2 → IsBetween p g.first g.second → Opened g s (put p g) (put q s)
+  open_one : 4 ≤ g.points → s.points ≡ 2 → IsBetween p g.first g.second → Opened g s (ends_prepend p g) (ends_prepend q s)
   open_one n m t =
       let u = passes (omega arith) t in
       let w : IsBetween q g.first g.last = subst (λ z. IsBetween q z g.last) a.first
@@ -114,7 +114,8 @@ module _ (K : ℕ) (g s : EndPoints) (i : IsEnds K g) (j : IsEnds K s) (a : Alik
         three = λ z. absurd (omega arith);
       })
 
-  open_more : 3 ≤ g.points → IsBetween p g.first g.second → ((s.points < 3) ⊎ (3 ≤ s.points)) → Opened g s (put p g) (put q s)
+  open_more : 3 ≤ g.points → IsBetween p g.first g.second → ((s.points < 3) ⊎ (3 ≤ s.points)) →
+      Opened g s (ends_prepend p g) (ends_prepend q s)
   open_more n t (inr m) = open_both n m t
   open_more n t (inl m) =
       let l = a.long (omega arith) in
@@ -125,11 +126,12 @@ module _ (K : ℕ) (g s : EndPoints) (i : IsEnds K g) (j : IsEnds K s) (a : Alik
       at_four (inl w) n k = omega arith
       at_four (inr w) n k = let c = a.short w in absurd (omega arith)
 
-  open_passed : 2 ≤ g.points → IsBetween p g.first g.second → ((g.points < 3) ⊎ (3 ≤ g.points)) → Opened g s (put p g) (put q s)
+  open_passed : 2 ≤ g.points → IsBetween p g.first g.second → ((g.points < 3) ⊎ (3 ≤ g.points)) →
+      Opened g s (ends_prepend p g) (ends_prepend q s)
   open_passed n t (inl m) = open_two (omega arith) t
   open_passed n t (inr m) = open_more m t (cases_lt s.points 3)
 
-  pub opened : 1 ≤ g.points → p ≢ g.first → q ≢ s.first → PutCase p g → Opened g s (put p g) (put q s)
+  pub opened : 1 ≤ g.points → p ≢ g.first → q ≢ s.first → PutCase p g → Opened g s (ends_prepend p g) (ends_prepend q s)
   opened n m o (at_none e) = absurd (omega arith)
   opened n m o (at_equal e f) = absurd (m f)
   opened n m o (at_second e f) = open_second e f o
@@ -148,7 +150,7 @@ side_both : (x a n m : ℕ) → OnSide x a n → OnSide x a m → OnSide x n m
 side_both x a n m s t = grind arith
 
 module _ (K : ℕ) (e r : EndPoints) (i : IsEnds K e) (j : IsEnds K r) (a : Alike e r) (x : ℕ) where
-  put_open : 1 ≤ e.points → x ≢ e.first → 1 ≤ r.points → x ≢ r.first → Put e r (put x e) (put x r)
+  put_open : 1 ≤ e.points → x ≢ e.first → 1 ≤ r.points → x ≢ r.first → Put e r (ends_prepend x e) (ends_prepend x r)
   put_open n m l o =
       let c = case_of K x e i in
       let d = case_of K x r j in
@@ -161,15 +163,15 @@ module _ (K : ℕ) (e r : EndPoints) (i : IsEnds K e) (j : IsEnds K r) (a : Alik
           long = λ z. w.many;
           first = (put_first x r d).0 ∙ sym (put_first x e c).0;
           last = w.last;
-          second = λ z. subst (λ b. OnSide b (put x e).second (put x r).second) (sym (put_first x e c).0)
-              (side_both x e.first _ _ s.0 (subst (λ b. OnSide x b (put x r).second) a.first t.0));
+          second = λ z. subst (λ b. OnSide b (ends_prepend x e).second (ends_prepend x r).second) (sym (put_first x e c).0)
+              (side_both x e.first _ _ s.0 (subst (λ b. OnSide x b (ends_prepend x r).second) a.first t.0));
           before = λ z. w.before;
           three = w.three;
         };
         balance = w.balance;
       }
 
-  put_empty : e.points ≡ 0 → Put e r (put x e) (put x r)
+  put_empty : e.points ≡ 0 → Put e r (ends_prepend x e) (ends_prepend x r)
   put_empty n =
       let c = a.short (omega arith) in
       let l : r.points ≡ 0 = omega arith in
@@ -190,16 +192,16 @@ module _ (K : ℕ) (e r : EndPoints) (i : IsEnds K e) (j : IsEnds K r) (a : Alik
   some n (inl m) = let c = a.short (omega arith) in omega arith
   some n (inr m) = let c = a.long m in omega arith
 
-  put_some : 1 ≤ e.points → ((x ≡ e.first) ⊎ (x ≢ e.first)) → Put e r (put x e) (put x r)
+  put_some : 1 ≤ e.points → ((x ≡ e.first) ⊎ (x ≢ e.first)) → Put e r (ends_prepend x e) (ends_prepend x r)
   put_some n (inl m) = put_to (put_equal x e n m) (put_equal x r (some n (cases_lt e.points 2)) (m ∙ sym a.first))
       (record { alike = a; balance = omega arith })
   put_some n (inr m) = put_open n m (some n (cases_lt e.points 2)) (λ q. m (q ∙ a.first))
 
-  put_any : ((e.points < 1) ⊎ (1 ≤ e.points)) → Put e r (put x e) (put x r)
+  put_any : ((e.points < 1) ⊎ (1 ≤ e.points)) → Put e r (ends_prepend x e) (ends_prepend x r)
   put_any (inl n) = let p : e.points ≡ 0 = omega arith in put_empty p
   put_any (inr n) = put_some n (cases_eq x e.first)
 
-  pub put_alike : Put e r (put x e) (put x r)
+  pub put_alike : Put e r (ends_prepend x e) (ends_prepend x r)
   put_alike = put_any (cases_lt e.points 1)
 
 -- what two parts leave, one after the other
@@ -212,10 +214,10 @@ met_to {e} {r} {f} {s} {h} {k} {h'} {k'} p q o = subst (λ w. Met e r f s w k') 
 
 module _ (K : ℕ) (e r f s : EndPoints) (ie : IsEnds K e) (ir : IsEnds K r) (jf : IsEnds K f) (js : IsEnds K s) (a : Alike e r)
     (b : Alike f s) where
-  one_put : Put f s (put e.last f) (put r.last s)
-  one_put = put_to refl (ap (λ w. put w s) a.last) (put_alike K f s jf js b e.last)
+  one_put : Put f s (ends_prepend e.last f) (ends_prepend r.last s)
+  one_put = put_to refl (ap (λ w. ends_prepend w s) a.last) (put_alike K f s jf js b e.last)
 
-  ends_one : IsEnds K (put r.last s)
+  ends_one : IsEnds K (ends_prepend r.last s)
   ends_one = put_ends K r.last s js ir.below.3
 
   meet_zero : e.points ≡ 0 → Met e r f s (meets e f) (meets r s)
@@ -226,18 +228,20 @@ module _ (K : ℕ) (e r f s : EndPoints) (ie : IsEnds K e) (ir : IsEnds K r) (jf
   meet_one n = let c = a.short (omega arith) in let l : r.points ≡ 1 = omega arith in let o = one_put.balance in
       met_to (meets_one e f n) (meets_one r s l) (record { alike = one_put.alike; balance = omega arith })
 
-  opens : 2 ≤ e.points → Opened (put e.last f) (put r.last s) (put e.before (put e.last f)) (put r.before (put r.last s))
+  opens : 2 ≤ e.points → Opened (ends_prepend e.last f) (ends_prepend r.last s) (ends_prepend e.before (ends_prepend e.last f))
+      (ends_prepend r.before (ends_prepend r.last s))
   opens n =
-      let g = put e.last f in
+      let g = ends_prepend e.last f in
       let c = case_of K e.last f jf in
       let d = case_of K r.last s js in
       let p = put_first e.last f c in
       let q = put_first r.last s d in
       let i = put_ends K e.last f jf ie.below.3 in
-      opened K g (put r.last s) i ends_one one_put.alike e.before r.before (subst (λ w. OnSide w e.before r.before) (sym p.0) (a.before n))
+      opened K g (ends_prepend r.last s) i ends_one one_put.alike e.before r.before
+      (subst (λ w. OnSide w e.before r.before) (sym p.0) (a.before n))
       p.1 (λ w. (ie.differ n).1 (w ∙ p.0)) (λ w. (ir.differ (a.long n)).1 (w ∙ q.0)) (case_of K e.before g i)
 
-  balances : (h k : EndPoints) → Opened (put e.last f) (put r.last s) h k → h.points + s.points ≡ f.points + k.points
+  balances : (h k : EndPoints) → Opened (ends_prepend e.last f) (ends_prepend r.last s) h k → h.points + s.points ≡ f.points + k.points
   balances h k o = omega (arith, o.balance, one_put.balance)
 
   meet_two : e.points ≡ 2 → Met e r f s (meets e f) (meets r s)
@@ -246,10 +250,10 @@ module _ (K : ℕ) (e r f s : EndPoints) (ie : IsEnds K e) (ir : IsEnds K r) (jf
       let l : r.points ≡ 2 = omega arith in
       let m : e.before ≡ r.before = (ie.two n).0 ∙ sym a.first ∙ sym (ir.two l).0 in
       let i = put_ends K e.last f jf ie.below.3 in
-      let w = put_alike K (put e.last f) (put r.last s) i ends_one one_put.alike e.before in
+      let w = put_alike K (ends_prepend e.last f) (ends_prepend r.last s) i ends_one one_put.alike e.before in
       let o = one_put.balance in
       let v = w.balance in
-      met_to (meets_two e f n) (meets_two r s l ∙ ap (λ z. put z (put r.last s)) (sym m))
+      met_to (meets_two e f n) (meets_two r s l ∙ ap (λ z. ends_prepend z (ends_prepend r.last s)) (sym m))
       (record { alike = w.alike; balance = omega arith })
 
   meet_long_long : 3 ≤ e.points → 3 ≤ r.points → Met e r f s (meets e f) (meets r s)
@@ -280,7 +284,7 @@ module _ (K : ℕ) (e r f s : EndPoints) (ie : IsEnds K e) (ir : IsEnds K r) (jf
       let m = t.many in
       let y = o.many in
       let x = balances _ _ o in
-      let k = put r.before (put r.last s) in
+      let k = ends_prepend r.before (ends_prepend r.last s) in
       let h = ir.two l in
       let v : OnSide e.first r.second k.second = subst (λ w. OnSide w r.second k.second) (h.0 ∙ a.first)
       (subst (λ w. OnSide r.before w k.second) h.1 u.side) in

@@ -6,7 +6,7 @@ use Rattle.std.proofs.Common.{◌≡◌, ℕ, suc, ◌<◌, ◌≤◌, ◌⊎◌
 use Rattle.std.specs.Prelude.{not}
 use Rattle.std.proofs.lemmas.Bool.{cases_lt}
 use Rattle.std.proofs.lemmas.Bool.Decides.{nat_tests}
-use Rattle.turning_points.specs.EndPoints.{EndPoints, IsEnds, ends_of, ends_push, last_point, meets, put}
+use Rattle.turning_points.specs.EndPoints.{EndPoints, IsEnds, ends_of, ends_push, last_point, meets, ends_prepend}
 use Rattle.turning_points.proofs.Put.{PutCase, at_none, at_equal, at_second, at_turn, at_passed, put_equal, put_first, put_none, put_passed, put_second, put_turn, put_two}
 use Rattle.turning_points.proofs.PutEnds.{case_of, put_ends}
 use Rattle.turning_points.proofs.MeetEnds.{Left, left_zero, left_one, left_two, left_long, left_of, meets_long, meets_one, meets_two, meets_zero, twice}
@@ -15,18 +15,18 @@ use Rattle.level_crossing.specs.Crossings.{CrossingsValue, first_of, has_level}
 use Rattle.level_crossing.specs.Loading.{HasEnds}
 
 -- a level that is put before ends leaves the last one
-put_last_by : (x : ℕ) (e : EndPoints) → PutCase x e → (e.points ≡ 1 → e.last ≡ e.first) → 1 ≤ e.points → (put x e).last ≡ e.last
+put_last_by : (x : ℕ) (e : EndPoints) → PutCase x e → (e.points ≡ 1 → e.last ≡ e.first) → 1 ≤ e.points → (ends_prepend x e).last ≡ e.last
 put_last_by x e (at_none p) o s = absurd (omega (arith, p, s))
 put_last_by x e (at_equal p q) o s = ap (λ g. g.last) (put_equal x e p q)
 put_last_by x e (at_second p q) o s = ap (λ g. g.last) (put_second x e p q) ∙ sym (o p)
 put_last_by x e (at_turn p q) o s = ap (λ g. g.last) (put_turn x e p q)
 put_last_by x e (at_passed p q) o s = passed (cases_lt e.points 3)
   where
-    passed : ((e.points < 3) ⊎ (3 ≤ e.points)) → (put x e).last ≡ e.last
+    passed : ((e.points < 3) ⊎ (3 ≤ e.points)) → (ends_prepend x e).last ≡ e.last
     passed (inl few) = ap (λ g. g.last) (put_two x e (omega (arith, p, few)) q)
     passed (inr many) = ap (λ g. g.last) (put_passed x e many q)
 
-put_last : (k x : ℕ) (e : EndPoints) → IsEnds k e → 1 ≤ e.points → (put x e).last ≡ e.last
+put_last : (k x : ℕ) (e : EndPoints) → IsEnds k e → 1 ≤ e.points → (ends_prepend x e).last ≡ e.last
 put_last k x e i s = put_last_by x e (case_of k x e i) (λ o. (i.one o).2) s
 
 pub record Joint (e f g : EndPoints) : Type 0 where
@@ -37,17 +37,17 @@ pub record Joint (e f g : EndPoints) : Type 0 where
   pub left : 1 ≤ e.points → f.points ≡ 0 → g.last ≡ e.last
 
 module _ (k : ℕ) (e f : EndPoints) (i : IsEnds k e) (j : IsEnds k f) where
-  next_ends : IsEnds k (put e.last f)
+  next_ends : IsEnds k (ends_prepend e.last f)
   next_ends = put_ends k e.last f j i.below.3
 
-  next_first : ((put e.last f).first ≡ e.last) × (1 ≤ (put e.last f).points)
+  next_first : ((ends_prepend e.last f).first ≡ e.last) × (1 ≤ (ends_prepend e.last f).points)
   next_first = let p = put_first e.last f (case_of k e.last f j) in (p.0, p.1)
 
-  next_last : (f.points ≡ 0 → (put e.last f).last ≡ e.last) × (1 ≤ f.points → (put e.last f).last ≡ f.last)
+  next_last : (f.points ≡ 0 → (ends_prepend e.last f).last ≡ e.last) × (1 ≤ f.points → (ends_prepend e.last f).last ≡ f.last)
   next_last = (λ z. ap (λ g. g.last) (put_none e.last f z), λ s. put_last k e.last f j s)
 
-  before_last : (put e.before (put e.last f)).last ≡ (put e.last f).last
-  before_last = put_last k e.before (put e.last f) next_ends next_first.1
+  before_last : (ends_prepend e.before (ends_prepend e.last f)).last ≡ (ends_prepend e.last f).last
+  before_last = put_last k e.before (ends_prepend e.last f) next_ends next_first.1
 
   joint_by : Left e.points → Joint e f (meets e f)
   joint_by (left_zero h) = record {

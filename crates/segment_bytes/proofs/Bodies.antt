@@ -5,7 +5,7 @@ use Rattle.std.proofs.lemmas.Bool.{eqb-true}
 use Rattle.std.proofs.lemmas.List.{append-nil, nil_from_length}
 use Rattle.segment_bytes.specs.declared.fault.BytesFault.{BytesFault}
 use Rattle.segment_bytes.specs.declared.fault.BytesFault.TheVariants.{Trailing}
-use Rattle.segment_bytes.specs.Fields.{◌>>=◌, Reader, number_at, counted, listed}
+use Rattle.segment_bytes.specs.Fields.{◌>>=◌, Reader, number_at, list_at, list_bytes}
 use Rattle.segment_bytes.specs.Grammar.{cell, bin, row, six_bytes, ends, back, body_with, cell_at, bin_at, row_at, Body, six_at, ends_at, back_at, body_at, FitsCell, FitsBin, FitsRow, FitsList, FitsBins, FitsCells, FitsRows, FitsSix, FitsEnds, FitsBack, FitsBody}
 use Rattle.segment_bytes.specs.Decoding.{all_of}
 use Rattle.segment_bytes.proofs.Formats.{IsFormat, IsBytes, bind_ok, ok_is, number16, number32, number64, pair, seen, list}
@@ -30,20 +30,20 @@ ends_format = seen _ _ _ (pair _ _ _ _ _ _ number64 (pair _ _ _ _ _ _ number16
     (λ x. record { points = x.0; first = x.1.0; second = x.1.1.0; before = x.1.1.1.0; last = x.1.1.1.1 })
     (λ e. (e.points, (e.first, (e.second, (e.before, e.last))))) (λ x. refl) (λ y. refl)
 
-levels_format : IsFormat (FitsList (2 ^ 16) (λ n. n < 2 ^ 16)) (listed w16 (to_be_bytes w16)) (counted w16 (number_at w16))
+levels_format : IsFormat (FitsList (2 ^ 16) (λ n. n < 2 ^ 16)) (list_bytes w16 (to_be_bytes w16)) (list_at w16 (number_at w16))
 levels_format = list _ _ _ number16 w16 (2 ^ 16) number16
 
-pub bins_format : IsFormat FitsBins (listed w16 bin) (counted w16 bin_at)
+pub bins_format : IsFormat FitsBins (list_bytes w16 bin) (list_at w16 bin_at)
 bins_format = list _ _ _ bin_format w16 (2 ^ 16) number16
 
-pub cells_format : IsFormat FitsCells (listed w32 cell) (counted w32 cell_at)
+pub cells_format : IsFormat FitsCells (list_bytes w32 cell) (list_at w32 cell_at)
 cells_format = list _ _ _ cell_format w32 (2 ^ 32) number32
 
 row_format : IsFormat FitsRow row row_at
 row_format = seen _ _ _ (pair _ _ _ _ _ _ number16 bins_format) (λ x. record { lo = x.0; bins = x.1 }) (λ r. (r.lo, r.bins)) (λ x. refl)
     (λ y. refl)
 
-pub rows_format : IsFormat FitsRows (listed w16 row) (counted w16 row_at)
+pub rows_format : IsFormat FitsRows (list_bytes w16 row) (list_at w16 row_at)
 rows_format = list _ _ _ row_format w16 (2 ^ 16) number16
 
 guard_ended : {A : Type 0} (b : Bool) (d : BytesFault) (x y : A) → (if b then Ok x else Err d) ≡ Ok y → (b ≡ true) × (x ≡ y)

@@ -8,7 +8,7 @@ use Rattle.std.proofs.lemmas.List.Concat.{flat_map-cons}
 use Rattle.std.proofs.lemmas.Nat.{be_bytes_2, be_bytes_4, be_bytes_8, from_be_bytes-to_be_bytes_2, from_be_bytes-to_be_bytes_4, from_be_bytes-to_be_bytes_8}
 use Rattle.segment_bytes.specs.declared.fault.BytesFault.{BytesFault}
 use Rattle.segment_bytes.specs.declared.fault.BytesFault.TheVariants.{Short}
-use Rattle.segment_bytes.specs.Fields.{◌>>=◌, Reader, number_at, both, seen_as, times, counted, listed}
+use Rattle.segment_bytes.specs.Fields.{◌>>=◌, Reader, number_at, both, seen_as, times, list_at, list_bytes}
 
 abbrev pub IsBytes : List ℕ → Type 0
 IsBytes bytes = (i : ℕ) → (slice_index bytes i) < 256
@@ -209,8 +209,8 @@ module _ {A : Type 0} (F : A → Type 0) (w : A → List ℕ) (one : Reader A) (
       ∙ ap (λ (r : Result (List A × List ℕ) BytesFault). r >>= λ y. Ok (x ∷ y.0, y.1)) (times_again have xs rest fits.1)
 
   module _ (width : Width) (limit : ℕ) (count : IsFormat (λ n. n < limit) (to_be_bytes width) (number_at width)) where
-    counted_takes : (have : ℕ) (bytes : List ℕ) (x : List A × List ℕ) → IsBytes bytes → counted width one have bytes ≡ Ok x
-        → Takes bytes (listed width w x.0) x.1 × ((length x.0 < limit) × AllByRecursion F x.0)
+    counted_takes : (have : ℕ) (bytes : List ℕ) (x : List A × List ℕ) → IsBytes bytes → list_at width one have bytes ≡ Ok x
+        → Takes bytes (list_bytes width w x.0) x.1 × ((length x.0 < limit) × AllByRecursion F x.0)
     counted_takes have bytes x fits e =
         let a = bind_ok (number_at width have bytes) (λ n. times one n.0 have n.1) x e in
         let s = count.takes have bytes a.0 fits a.1 in
@@ -221,12 +221,12 @@ module _ {A : Type 0} (F : A → Type 0) (w : A → List ℕ) (one : Reader A) (
         )
 
     counted_again : (have : ℕ) (xs : List A) (rest : List ℕ) → (length xs < limit) × AllByRecursion F xs
-        → counted width one have (listed width w xs ++ rest) ≡ Ok (xs, rest)
+        → list_at width one have (list_bytes width w xs ++ rest) ≡ Ok (xs, rest)
     counted_again have xs rest fits =
-        ap (counted width one have) (append_assoc (to_be_bytes width (length xs)) (flat_map w xs) rest)
+        ap (list_at width one have) (append_assoc (to_be_bytes width (length xs)) (flat_map w xs) rest)
         ∙ ap (λ (r : Result (ℕ × List ℕ) BytesFault). r >>= λ n. times one n.0 have n.1)
         (count.again have (length xs) (flat_map w xs ++ rest) fits.0)
         ∙ times_again have xs rest fits.1
 
-    pub list : IsFormat (λ (xs : List A). (length xs < limit) × AllByRecursion F xs) (listed width w) (counted width one)
+    pub list : IsFormat (λ (xs : List A). (length xs < limit) × AllByRecursion F xs) (list_bytes width w) (list_at width one)
     list = record { takes = counted_takes; again = counted_again }

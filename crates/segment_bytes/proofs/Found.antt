@@ -7,12 +7,12 @@ use Rattle.segment.specs.Parts.{parts_of}
 use Rattle.segment_bytes.specs.declared.fault.BytesFault.{BytesFault}
 use Rattle.segment_bytes.specs.declared.layout.Layout.{Layout}
 use Rattle.segment_bytes.specs.Fields.{Gives}
-use Rattle.segment_bytes.specs.Decoding.{IsBodyOf, decoded}
+use Rattle.segment_bytes.specs.Decoding.{IsBodyOf, segment_in}
 use Rattle.segment_bytes.proofs.Formats.{IsBytes}
 use Rattle.segment_bytes.proofs.Decoded.{decoded_takes}
 
 pub is_found : (l : Layout) (g : GridValue) (bytes : List ℕ) (r : Result SegmentValue BytesFault) → IsBytes bytes
-    → Gives parts_of r (decoded l g bytes)
+    → Gives parts_of r (segment_in l g bytes)
     → IfOk r (λ s. IsBodyOf l g (parts_of s) bytes)
 is_found l g bytes (Ok s) fits given = decoded_takes l g bytes (parts_of s) fits given
 is_found l g bytes (Err e) fits given = tt

@@ -24,7 +24,7 @@ use Rattle.segment_rules.proofs.Sizes.{IsSmall, is_small, bins_few}
 use Rattle.segment_bytes.specs.declared.layout.Layout.{Layout}
 use Rattle.segment_bytes.specs.declared.layout.Layout.TheVariants.{One, Two}
 use Rattle.segment_bytes.specs.Rows.{RowValue, AreRowsFrom, cell_in, row_cells, cells_of, rows_of}
-use Rattle.segment_bytes.specs.Fields.{listed}
+use Rattle.segment_bytes.specs.Fields.{list_bytes}
 use Rattle.segment_bytes.specs.Grammar.{cell, bin, row, six_bytes, ends, back, six_of, back_of, with_list0, body_of, list0, FitsCell, FitsBin, FitsRow, FitsBins, FitsCells, FitsRows, FitsEnds, FitsBody, Fits}
 use Rattle.segment_bytes.proofs.Rows.{cells_again, rows_are, rows_few, rows_sum}
 use Rattle.segment_bytes.specs.Sizes.{max_body, max_body_of, body_length}
@@ -63,7 +63,7 @@ rows_long (r ∷ l) =
       ap length (flat_map-cons row r l),
       length-append (row r) (flat_map row l),
       rows_long l,
-      length-append (to_be_bytes w16 r.lo) (listed w16 bin r.bins),
+      length-append (to_be_bytes w16 r.lo) (list_bytes w16 bin r.bins),
       listed16 (length r.bins) (flat_map bin r.bins),
       bins_long r.bins,
       length-append (row_cells r) (cells_of l),
@@ -77,15 +77,15 @@ row_long r l =
       arith,
       ap length (flat_map-cons row r l),
       length-append (row r) (flat_map row l),
-      length-append (to_be_bytes w16 r.lo) (listed w16 bin r.bins),
+      length-append (to_be_bytes w16 r.lo) (list_bytes w16 bin r.bins),
       listed16 (length r.bins) (flat_map bin r.bins),
       bins_long r.bins,
     )
 
 -- a body, in the order of its writing
 pub body_is : (l : Layout) (p : PartsValue) → body_of l p ≡ (six_bytes (six_of p) ++ ends p.ends) ++
-    (listed w16 (to_be_bytes w16) p.residue ++ (list0 l p ++
-    (listed w16 bin p.crossings ++ (listed w16 bin p.peaks ++ (listed w16 bin p.valleys ++ listed w16 bin p.ranges)))))
+    (list_bytes w16 (to_be_bytes w16) p.residue ++ (list0 l p ++
+    (list_bytes w16 bin p.crossings ++ (list_bytes w16 bin p.peaks ++ (list_bytes w16 bin p.valleys ++ list_bytes w16 bin p.ranges)))))
 body_is One p = refl
 body_is Two p = refl
 
@@ -93,12 +93,12 @@ back_long : {L : Type 0} (list0 : L → List ℕ) (x : L) (p : PartsValue)
     → length (back list0 (back_of x p)) ≡ 10 + length (list0 x) + 2 * length p.residue + 10 *
     (length p.crossings + (length p.peaks + length p.valleys) + length p.ranges)
 back_long list0 z p =
-    let r = listed w16 (to_be_bytes w16) p.residue in
+    let r = list_bytes w16 (to_be_bytes w16) p.residue in
     let c = list0 z in
-    let x = listed w16 bin p.crossings in
-    let y = listed w16 bin p.peaks in
-    let v = listed w16 bin p.valleys in
-    let k = listed w16 bin p.ranges in
+    let x = list_bytes w16 bin p.crossings in
+    let y = list_bytes w16 bin p.peaks in
+    let v = list_bytes w16 bin p.valleys in
+    let k = list_bytes w16 bin p.ranges in
     omega (
       arith,
       length-append r (c ++ (x ++ (y ++ (v ++ k)))),
@@ -122,16 +122,16 @@ pub body_long : (l : Layout) (p : PartsValue) → length (body_of l p) ≡ body_
 body_long One p =
     omega (
       arith,
-      length-append (six_bytes (six_of p) ++ ends p.ends) (back (listed w32 cell) (back_of p.cells p)),
-      back_long (listed w32 cell) p.cells p,
+      length-append (six_bytes (six_of p) ++ ends p.ends) (back (list_bytes w32 cell) (back_of p.cells p)),
+      back_long (list_bytes w32 cell) p.cells p,
       listed32 (length p.cells) (flat_map cell p.cells),
       cells_long p.cells,
     )
 body_long Two p =
     omega (
       arith,
-      length-append (six_bytes (six_of p) ++ ends p.ends) (back (listed w16 row) (back_of (rows_of p.cells) p)),
-      back_long (listed w16 row) (rows_of p.cells) p,
+      length-append (six_bytes (six_of p) ++ ends p.ends) (back (list_bytes w16 row) (back_of (rows_of p.cells) p)),
+      back_long (list_bytes w16 row) (rows_of p.cells) p,
       listed16 (length (rows_of p.cells)) (flat_map row (rows_of p.cells)),
       rows_long (rows_of p.cells),
       ap length (cells_again p.cells),

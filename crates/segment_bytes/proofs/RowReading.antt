@@ -10,9 +10,9 @@ use Rattle.segment_rules.specs.Tests.{order_broken, wrong_bin}
 use Rattle.segment_bytes.specs.declared.fault.BytesFault.{BytesFault}
 use Rattle.segment_bytes.specs.declared.fault.BytesFault.TheVariants.{Trailing}
 use Rattle.segment_bytes.specs.declared.layout.Layout.TheVariants.{Two}
-use Rattle.segment_bytes.specs.Fields.{◌>>=◌, Fails, Reader, number_at, both, seen_as, times, counted}
+use Rattle.segment_bytes.specs.Fields.{◌>>=◌, Fails, Reader, number_at, both, seen_as, times, list_at}
 use Rattle.segment_bytes.specs.Rows.{RowValue, cell_in, row_cells, cells_of, bin_of, or_next, wrong_row}
-use Rattle.segment_bytes.specs.Grammar.{Back, Body, bin_at, row_at, six_at, ends_at, back_at, body_at, joined, flat}
+use Rattle.segment_bytes.specs.Grammar.{Back, Body, bin_at, row_at, six_at, ends_at, back_at, body_at, parts_of_body, flat}
 use Rattle.segment_bytes.specs.Decoding.{all_of, or_fault, parts_in}
 use Rattle.segment_bytes.specs.RowReading.{FoundRows, no_rows, wrong_in, with_row, with_rows, cells_alone, parts_of_rows}
 use Rattle.segment_bytes.proofs.Formats.{bind_ok, ok_is}
@@ -53,7 +53,7 @@ module _ {B : Type 0} (f : RowValue → B) (have lo count : ℕ) (bytes first re
   pub row_read : seen_as f row_at have bytes ≡ seen (λ bins. f (record { lo = lo; bins = bins })) (times bin_at count have rest)
   row_read =
       ap (λ (r : Result (ℕ × List ℕ) BytesFault). seen f (seen (λ (x : ℕ × List Bin). record { lo = x.0; bins = x.1 })
-      (r >>= λ x. (counted w16 bin_at have x.1 >>= λ y. Ok ((x.0, y.0), y.1))))) lo_is
+      (r >>= λ x. (list_at w16 bin_at have x.1 >>= λ y. Ok ((x.0, y.0), y.1))))) lo_is
       ∙ ap (λ (r : Result (ℕ × List ℕ) BytesFault). seen f (seen (λ (x : ℕ × List Bin). record { lo = x.0; bins = x.1 })
       ((r >>= λ n. times bin_at n.0 have n.1) >>= λ y. Ok ((lo, y.0), y.1)))) count_is
       ∙ as_row (times bin_at count have rest)
@@ -175,7 +175,7 @@ seen_second {A} {B} {C} g one two other have bytes same = by (one have bytes)
     by (Err d) = refl
 
 abbrev four_at : Reader (List Bin × (List Bin × (List Bin × List Bin)))
-four_at = both (counted w16 bin_at) (both (counted w16 bin_at) (both (counted w16 bin_at) (counted w16 bin_at)))
+four_at = both (list_at w16 bin_at) (both (list_at w16 bin_at) (both (list_at w16 bin_at) (list_at w16 bin_at)))
 
 module _ {L M : Type 0} (f : L → M) (list0 : Reader L) where
   abbrev back_as : Back L → Back M
@@ -187,7 +187,7 @@ module _ {L M : Type 0} (f : L → M) (list0 : Reader L) where
   back_seen : (have : ℕ) (bytes : List ℕ) → back_at (seen_as f list0) have bytes ≡ seen back_as (back_at list0 have bytes)
   unfolding back_at
   back_seen have bytes =
-      seen_second (λ x. (f x.0, x.1)) (counted w16 (number_at w16)) (both list0 four_at) (both (seen_as f list0) four_at) have bytes
+      seen_second (λ x. (f x.0, x.1)) (list_at w16 (number_at w16)) (both list0 four_at) (both (seen_as f list0) four_at) have bytes
       (λ l. seen_first f list0 four_at have l)
 
   body_seen : (have : ℕ) (bytes : List ℕ) → body_at (seen_as f list0) have bytes ≡ seen body_as (body_at list0 have bytes)
@@ -216,12 +216,13 @@ module _ {L M : Type 0} (f : L → M) (list0 : Reader L) where
 pub parts_again : (g : GridValue) (bytes : List ℕ) → parts_of_rows g bytes ≡ parts_in Two g bytes
 unfolding parts_in parts_of_rows
 parts_again g bytes =
-    ap (λ (r : Result (Body (List Cell × Option ℕ)) BytesFault). r >>= λ x. or_fault (order_broken 0 x.1.1.0.1) (joined (cells_alone x)))
-    (all_seen (with_rows g.classes no_rows) (counted w16 row_at) bytes)
-    ∙ by (all_of (counted w16 row_at) bytes)
+    ap (λ (r : Result (Body (List Cell × Option ℕ)) BytesFault). r >>=
+    λ x. or_fault (order_broken 0 x.1.1.0.1) (parts_of_body (cells_alone x)))
+    (all_seen (with_rows g.classes no_rows) (list_at w16 row_at) bytes)
+    ∙ by (all_of (list_at w16 row_at) bytes)
   where
     by : (r : Result (Body (List RowValue)) BytesFault)
-        → ((r >>= λ x. Ok (body_as (with_rows g.classes no_rows) (counted w16 row_at) x)) >>= λ x. or_fault (order_broken 0 x.1.1.0.1)
-        (joined (cells_alone x))) ≡ (r >>= λ x. or_fault (order_broken 0 (wrong_row 0 g.classes 0 x.1.1.0)) (joined (flat x)))
+        → ((r >>= λ x. Ok (body_as (with_rows g.classes no_rows) (list_at w16 row_at) x)) >>= λ x. or_fault (order_broken 0 x.1.1.0.1)
+        (parts_of_body (cells_alone x))) ≡ (r >>= λ x. or_fault (order_broken 0 (wrong_row 0 g.classes 0 x.1.1.0)) (parts_of_body (flat x)))
     by (Ok x) = refl
     by (Err d) = refl

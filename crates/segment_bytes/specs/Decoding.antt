@@ -2,7 +2,7 @@
 --   all_of       a body and nothing after it
 --   parts_in     the parts, or the first fault of the bytes: a field that does not fit, bytes after the body, rows out
 --                of order
---   decoded      the parts of a segment, or the first fault: of the bytes, or the first broken rule
+--   segment_in   the parts of a segment, or the first fault: of the bytes, or the first broken rule
 --   IsBodyOf     the bytes are the body of a segment
 --   NoPrefix     in one layout no body is a proper front of another
 use Rattle.std.specs.Prelude.{◌≡◌, ◌==◌, ◌<◌, ◌^◌, if◌then◌else◌, ℕ, List, [], ◌++◌, length, Option, Some, None, Result, Ok, Err}
@@ -15,11 +15,11 @@ use Rattle.segment_bytes.specs.declared.fault.BytesFault.TheVariants.{Trailing, 
 use Rattle.segment_rules.specs.Parts.{PartsValue}
 use Rattle.segment_rules.specs.Rules.{IsSegment}
 use Rattle.segment_rules.specs.Tests.{first_broken, order_broken}
-use Rattle.segment_bytes.specs.Fields.{◌>>=◌, Reader, counted}
+use Rattle.segment_bytes.specs.Fields.{◌>>=◌, Reader, list_at}
 use Rattle.segment_bytes.specs.declared.layout.Layout.{Layout}
 use Rattle.segment_bytes.specs.declared.layout.Layout.TheVariants.{One, Two}
 use Rattle.segment_bytes.specs.Rows.{wrong_row}
-use Rattle.segment_bytes.specs.Grammar.{Body, joined, flat, cell_at, row_at, body_at, body_of}
+use Rattle.segment_bytes.specs.Grammar.{Body, parts_of_body, flat, cell_at, row_at, body_at, body_of}
 
 abbrev pub fault_of : BrokenRule → BytesFault
 fault_of (rules.Order list index) = Order list index
@@ -36,14 +36,14 @@ all_of list0 bytes =
 
 -- the parts that fill the bytes; rows are in order
 unfoldable pub parts_in : Layout → GridValue → List ℕ → Result PartsValue BytesFault
-parts_in One g bytes = all_of (counted w32 cell_at) bytes >>= λ x. Ok (joined x)
+parts_in One g bytes = all_of (list_at w32 cell_at) bytes >>= λ x. Ok (parts_of_body x)
 parts_in Two g bytes =
-    all_of (counted w16 row_at) bytes >>= λ x. or_fault (order_broken 0 (wrong_row 0 g.classes 0 x.1.1.0))
-    (joined (flat x))
+    all_of (list_at w16 row_at) bytes >>= λ x. or_fault (order_broken 0 (wrong_row 0 g.classes 0 x.1.1.0))
+    (parts_of_body (flat x))
 
 -- the parts that keep all rules, or the first fault
-unfoldable pub decoded : Layout → GridValue → List ℕ → Result PartsValue BytesFault
-decoded l g bytes = parts_in l g bytes >>= λ p. or_fault (first_broken g p) p
+unfoldable pub segment_in : Layout → GridValue → List ℕ → Result PartsValue BytesFault
+segment_in l g bytes = parts_in l g bytes >>= λ p. or_fault (first_broken g p) p
 
 pub record IsBodyOf (l : Layout) (g : GridValue) (p : PartsValue) (bytes : List ℕ) : Type 0 where
   pub segment : IsSegment g p

@@ -4,8 +4,8 @@
 --   Reader       a value and the bytes after it, of a body of so many bytes
 --   number_at    a number of so many bytes
 --   both         one, and then the other; seen_as: the same, seen otherwise
---   times        so many; counted: a number, and so many
---   listed       how a list is written: the number of its entries, and each
+--   times        so many; list_at: a number, and so many
+--   list_bytes   how a list is written: the number of its entries, and each
 use Rattle.std.specs.Prelude.{◌≡◌, ◌+◌, ◌-◌, ℕ, zero, suc, List, [], ◌∷◌, ◌++◌, length, take, drop, Result, Ok, Err, nat_lt, if◌then◌else◌}
 use Rattle.std.specs.Int.{Width, byte_len, from_be_bytes, to_be_bytes}
 use Rattle.std.specs.List.{flat_map}
@@ -44,8 +44,8 @@ unfoldable pub times : {A : Type 0} → Reader A → ℕ → Reader (List A)
 times one zero have bytes = Ok ([], bytes)
 times one (suc n) have bytes = one have bytes >>= λ x. times one n have x.1 >>= λ y. Ok (x.0 ∷ y.0, y.1)
 
-abbrev pub counted : {A : Type 0} → Width → Reader A → Reader (List A)
-counted w one have bytes = number_at w have bytes >>= λ n. times one n.0 have n.1
+abbrev pub list_at : {A : Type 0} → Width → Reader A → Reader (List A)
+list_at w one have bytes = number_at w have bytes >>= λ n. times one n.0 have n.1
 
-abbrev pub listed : {A : Type 0} → Width → (A → List ℕ) → List A → List ℕ
-listed w one xs = to_be_bytes w (length xs) ++ flat_map one xs
+abbrev pub list_bytes : {A : Type 0} → Width → (A → List ℕ) → List A → List ℕ
+list_bytes w one xs = to_be_bytes w (length xs) ++ flat_map one xs

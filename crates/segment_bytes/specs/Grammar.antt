@@ -14,7 +14,7 @@ use Rattle.segment_rules.specs.Parts.{PartsValue}
 use Rattle.segment_bytes.specs.declared.layout.Layout.{Layout}
 use Rattle.segment_bytes.specs.declared.layout.Layout.TheVariants.{One, Two}
 use Rattle.segment_bytes.specs.Rows.{RowValue, cells_of, rows_of}
-use Rattle.segment_bytes.specs.Fields.{Reader, number_at, both, seen_as, counted, listed}
+use Rattle.segment_bytes.specs.Fields.{Reader, number_at, both, seen_as, list_at, list_bytes}
 
 -- ---- a body's numbers and lists
 
@@ -38,8 +38,8 @@ back_of list0 p = (p.residue, (list0, (p.crossings, (p.peaks, (p.valleys, p.rang
 abbrev pub with_list0 : {L : Type 0} → L → PartsValue → Body L
 with_list0 list0 p = ((six_of p, p.ends), back_of list0 p)
 
-abbrev pub joined : Body (List Cell) → PartsValue
-joined x = record {
+abbrev pub parts_of_body : Body (List Cell) → PartsValue
+parts_of_body x = record {
   name = record { gauge = x.0.0.0; from = x.0.0.1.0; to = x.0.0.1.1.0 };
   used = x.0.0.1.1.1.0;
   missing = x.0.0.1.1.1.1.0;
@@ -67,7 +67,7 @@ bin b = to_be_bytes w16 b.key ++ to_be_bytes w64 b.n
 
 -- the cells of one lower level
 abbrev pub row : RowValue → List ℕ
-row r = to_be_bytes w16 r.lo ++ listed w16 bin r.bins
+row r = to_be_bytes w16 r.lo ++ list_bytes w16 bin r.bins
 
 abbrev pub ends : EndPoints → List ℕ
 ends e = to_be_bytes w64 e.points ++ (to_be_bytes w16 e.first ++
@@ -79,20 +79,21 @@ six_bytes x = to_be_bytes w16 x.0 ++ (to_be_bytes w64 x.1.0 ++ (to_be_bytes w64 
 
 -- where list0 writes list 0
 abbrev pub back : {L : Type 0} → (L → List ℕ) → Back L → List ℕ
-back list0 x = listed w16 (to_be_bytes w16) x.0 ++ (list0 x.1.0 ++ (listed w16 bin x.1.1.0 ++ (listed w16 bin x.1.1.1.0
-    ++ (listed w16 bin x.1.1.1.1.0 ++ listed w16 bin x.1.1.1.1.1))))
+back list0 x = list_bytes w16 (to_be_bytes w16) x.0
+    ++ (list0 x.1.0 ++ (list_bytes w16 bin x.1.1.0 ++ (list_bytes w16 bin x.1.1.1.0
+    ++ (list_bytes w16 bin x.1.1.1.1.0 ++ list_bytes w16 bin x.1.1.1.1.1))))
 
 abbrev pub body_with : {L : Type 0} → (L → List ℕ) → Body L → List ℕ
 body_with list0 x = (six_bytes x.0.0 ++ ends x.0.1) ++ back list0 x.1
 
 abbrev pub body_of : Layout → PartsValue → List ℕ
-body_of One p = body_with (listed w32 cell) (with_list0 p.cells p)
-body_of Two p = body_with (listed w16 row) (with_list0 (rows_of p.cells) p)
+body_of One p = body_with (list_bytes w32 cell) (with_list0 p.cells p)
+body_of Two p = body_with (list_bytes w16 row) (with_list0 (rows_of p.cells) p)
 
 -- the cells of a body
 abbrev pub list0 : Layout → PartsValue → List ℕ
-list0 One p = listed w32 cell p.cells
-list0 Two p = listed w16 row (rows_of p.cells)
+list0 One p = list_bytes w32 cell p.cells
+list0 Two p = list_bytes w16 row (rows_of p.cells)
 
 -- ---- how it is read
 
@@ -104,7 +105,7 @@ abbrev pub bin_at : Reader Bin
 bin_at = seen_as (λ x. record { key = x.0; n = x.1 }) (both (number_at w16) (number_at w64))
 
 abbrev pub row_at : Reader RowValue
-row_at = seen_as (λ x. record { lo = x.0; bins = x.1 }) (both (number_at w16) (counted w16 bin_at))
+row_at = seen_as (λ x. record { lo = x.0; bins = x.1 }) (both (number_at w16) (list_at w16 bin_at))
 
 unfoldable pub six_at : Reader Six
 six_at = both (number_at w16) (both (number_at w64) (both (number_at w64)
@@ -115,8 +116,8 @@ ends_at = seen_as (λ x. record { points = x.0; first = x.1.0; second = x.1.1.0;
     (both (number_at w64) (both (number_at w16) (both (number_at w16) (both (number_at w16) (number_at w16)))))
 
 unfoldable pub back_at : {L : Type 0} → Reader L → Reader (Back L)
-back_at list0 = both (counted w16 (number_at w16)) (both list0 (both (counted w16 bin_at) (both (counted w16 bin_at)
-    (both (counted w16 bin_at) (counted w16 bin_at)))))
+back_at list0 = both (list_at w16 (number_at w16)) (both list0 (both (list_at w16 bin_at) (both (list_at w16 bin_at)
+    (both (list_at w16 bin_at) (list_at w16 bin_at)))))
 
 unfoldable pub body_at : {L : Type 0} → Reader L → Reader (Body L)
 body_at list0 = both (both six_at ends_at) (back_at list0)

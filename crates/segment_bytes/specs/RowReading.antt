@@ -12,8 +12,8 @@ use Rattle.segment_rules.specs.Parts.{PartsValue}
 use Rattle.segment_rules.specs.Tests.{wrong_bin, order_broken}
 use Rattle.segment_bytes.specs.declared.fault.BytesFault.{BytesFault}
 use Rattle.segment_bytes.specs.Rows.{RowValue, row_cells, cells_of, or_next, wrong_row}
-use Rattle.segment_bytes.specs.Fields.{◌>>=◌, Reader, seen_as, counted}
-use Rattle.segment_bytes.specs.Grammar.{Body, joined, row_at}
+use Rattle.segment_bytes.specs.Fields.{◌>>=◌, Reader, seen_as, list_at}
+use Rattle.segment_bytes.specs.Grammar.{Body, parts_of_body, row_at}
 use Rattle.segment_bytes.specs.Decoding.{all_of, or_fault}
 
 pub record FoundRows : Type 0 where
@@ -42,11 +42,11 @@ with_rows classes found rows =
     (found.cells ++ cells_of rows, or_next found.wrong (wrong_row found.from classes (length found.cells) rows))
 
 abbrev pub rows_at : ℕ → Reader (List Cell × Option ℕ)
-rows_at classes = seen_as (with_rows classes no_rows) (counted w16 row_at)
+rows_at classes = seen_as (with_rows classes no_rows) (list_at w16 row_at)
 
 abbrev pub cells_alone : Body (List Cell × Option ℕ) → Body (List Cell)
 cells_alone x = (x.0, (x.1.0, (x.1.1.0.0, x.1.1.1)))
 
 unfoldable pub parts_of_rows : GridValue → List ℕ → Result PartsValue BytesFault
 parts_of_rows g bytes =
-    all_of (rows_at g.classes) bytes >>= λ x. or_fault (order_broken 0 x.1.1.0.1) (joined (cells_alone x))
+    all_of (rows_at g.classes) bytes >>= λ x. or_fault (order_broken 0 x.1.1.0.1) (parts_of_body (cells_alone x))

@@ -4,7 +4,7 @@ ghost use Rattle.segment_rules.specs.Tests.{first_broken};
 ghost use Rattle.segment.specs.Loading.{longest_of};
 ghost use Rattle.segment.specs.Parts.{parts_of};
 ghost use Rattle.segment_bytes.specs.Fields.{Gives};
-ghost use Rattle.segment_bytes.specs.Decoding.{IsBodyOf, decoded, or_fault};
+ghost use Rattle.segment_bytes.specs.Decoding.{IsBodyOf, segment_in, or_fault};
 ghost use Rattle.segment_bytes.specs.declared.layout.Layout.TheVariants as layouts;
 ghost use Rattle.segment_bytes.specs.declared.layout.TheConstants.{MAX_CLASSES_ONE};
 
@@ -31,11 +31,11 @@ fn loaded(alloc: Global, grid: &Grid, parts: &Parts) -> Result<Segment, BytesFau
     }
 }
 
-#[tactic(auto, unfolding(crate::specs::Decoding::decoded))]
+#[tactic(auto, unfolding(crate::specs::Decoding::segment_in_in))]
 fn checked(alloc: Global, layout: Layout, grid: &Grid, bytes: &[u8]) -> Result<Segment, BytesFault>
     ensures grid { IfOk result (λ s. s.grid ≡ grid.now) }
     ensures longest { IfOk result (λ s. s.longest ≡ longest_of (parts_of s).name) }
-    ensures reads { Gives parts_of result (decoded layout grid.now bytes.now) }
+    ensures reads { Gives parts_of result (segment_in layout grid.now bytes.now) }
 {
     let parts = parts_in(alloc, layout, grid, bytes)?;
     loaded(alloc, grid, &parts)
@@ -60,7 +60,7 @@ pub fn decode(
     ensures complete { (p : PartsValue) → IsBodyOf layout grid.now p bytes.now →
         Gives parts_of result (Ok p) }
     // Which fault it is.
-    ensures exact { Gives parts_of result (decoded layout grid.now bytes.now) }
+    ensures exact { Gives parts_of result (segment_in layout grid.now bytes.now) }
 {
     let _classes = grid.classes();
     checked(alloc, layout, grid, bytes)

@@ -5,7 +5,7 @@ ghost use Rattle.turning_points.specs.Ends.{end_points};
 ghost use Rattle.segment.specs.Parts.{parts_of};
 ghost use Rattle.segment_bytes.specs.declared.layout.Layout.TheVariants.{One, Two};
 ghost use Rattle.segment_bytes.specs.Decoding.{IsBodyOf};
-ghost use Rattle.segment_bytes.specs.Fields.{listed};
+ghost use Rattle.segment_bytes.specs.Fields.{list_bytes};
 ghost use Rattle.segment_bytes.specs.Grammar.{bin, body_of, cell, ends, list0, row, six_bytes, six_of};
 ghost use Rattle.segment_bytes.specs.Rows.{cell_in, rows_of};
 ghost use Rattle.segment_bytes.specs.Sizes.{body_length, list0_length, max_body, max_body_of};
@@ -27,7 +27,7 @@ const PLACES: usize = MAX_CLASSES as usize;
 fn put_table(buf: &mut [u8], at: usize, seg: &Segment, table: Table, counts: &mut [u64]) -> usize
     requires places { seg.now.grid.classes ≤ length counts.old }
     requires room { at + 2 + 10 * length (bins_in (parts_of seg.now) table) ≤ length buf.old }
-    ensures puts { Puts at (listed w16 bin (bins_in (parts_of seg.now) table)) buf.old buf.new
+    ensures puts { Puts at (list_bytes w16 bin (bins_in (parts_of seg.now) table)) buf.old buf.new
         result }
     ensures next { result ≡ at + 2 + 10 * length (bins_in (parts_of seg.now) table) }
 {

@@ -1,6 +1,6 @@
 ghost use Rattle.std.specs.Prelude.{◌≡◌, ◌+◌, ◌-◌, ◌≤◌, ◌<◌, ◌^◌, length, IfOk};
 ghost use Rattle.std.specs.Int.{w16, w32};
-ghost use Rattle.segment_bytes.specs.Fields.{Gives, number_at, times, counted, both};
+ghost use Rattle.segment_bytes.specs.Fields.{Gives, number_at, times, list_at, both};
 ghost use Rattle.segment_bytes.specs.Grammar.{cell_at, bin_at, back_at};
 ghost use Rattle.segment_bytes.specs.RowReading.{rows_at};
 ghost use Rattle.segment_bytes.specs.Views.{lists, row_lists, four};
@@ -79,7 +79,7 @@ fn levels_in(alloc: Global, have: usize, bytes: &[u8]) -> Result<(Vec<u16>, &[u8
     requires within { length bytes.now ≤ have }
     requires small { have < 2 ^ 63 }
     ensures reads { Gives (λ x. (x.0.items, x.1.now)) result
-        (counted w16 (number_at w16) have bytes.now) }
+        (list_at w16 (number_at w16) have bytes.now) }
     ensures rest { IfOk result (λ x. length x.1.now ≤ length bytes.now) }
 {
     let (count, rest) = u16_at(have, bytes)?;
@@ -90,7 +90,7 @@ fn cells_in(alloc: Global, have: usize, bytes: &[u8]) -> Result<(Vec<Cell>, &[u8
     requires within { length bytes.now ≤ have }
     requires small { have < 2 ^ 63 }
     ensures reads { Gives (λ x. (x.0.items, x.1.now)) result
-        (counted w32 cell_at have bytes.now) }
+        (list_at w32 cell_at have bytes.now) }
     ensures rest { IfOk result (λ x. length x.1.now ≤ length bytes.now) }
 {
     let (count, rest) = u32_at(have, bytes)?;
@@ -101,7 +101,7 @@ fn bins_in(alloc: Global, have: usize, bytes: &[u8]) -> Result<(Vec<Bin>, &[u8])
     requires within { length bytes.now ≤ have }
     requires small { have < 2 ^ 63 }
     ensures reads { Gives (λ x. (x.0.items, x.1.now)) result
-        (counted w16 bin_at have bytes.now) }
+        (list_at w16 bin_at have bytes.now) }
     ensures rest { IfOk result (λ x. length x.1.now ≤ length bytes.now) }
 {
     let (count, rest) = u16_at(have, bytes)?;
@@ -137,8 +137,8 @@ fn four_of(alloc: Global, have: usize, bytes: &[u8]) -> Result<(Four, &[u8]), By
     requires within { length bytes.now ≤ have }
     requires small { have < 2 ^ 63 }
     ensures reads { Gives (λ x. (four x.0, x.1.now)) result
-        (both (counted w16 bin_at) (both (counted w16 bin_at)
-        (both (counted w16 bin_at) (counted w16 bin_at))) have bytes.now) }
+        (both (list_at w16 bin_at) (both (list_at w16 bin_at)
+        (both (list_at w16 bin_at) (list_at w16 bin_at))) have bytes.now) }
 {
     let (crossings, rest) = bins_in(alloc, have, bytes)?;
     let (peaks, rest) = bins_in(alloc, have, rest)?;
@@ -178,7 +178,7 @@ pub(crate) fn lists_of(
     requires within { length bytes.now ≤ have }
     requires small { have < 2 ^ 63 }
     ensures reads { Gives (λ x. (lists x.0, x.1.now)) result
-        (back_at (counted w32 cell_at) have bytes.now) }
+        (back_at (list_at w32 cell_at) have bytes.now) }
 {
     let (residue, rest) = levels_in(alloc, have, bytes)?;
     let (cells, rest) = cells_in(alloc, have, rest)?;

@@ -2,7 +2,7 @@ ghost use Rattle.std.specs.Prelude.{◌≡◌, length};
 ghost use Rattle.std.specs.Int.{w32};
 ghost use Rattle.segment_rules.specs.Parts.{parts_value};
 ghost use Rattle.segment_rules.specs.Tests.{order_broken};
-ghost use Rattle.segment_bytes.specs.Fields.{Gives, counted};
+ghost use Rattle.segment_bytes.specs.Fields.{Gives, list_at};
 ghost use Rattle.segment_bytes.specs.Grammar.{cell_at};
 ghost use Rattle.segment_bytes.specs.Decoding.{all_of, or_fault, parts_in};
 ghost use Rattle.segment_bytes.specs.RowReading.{parts_of_rows, rows_at};
@@ -27,7 +27,7 @@ fn trailing(rest: &[u8]) -> BytesFault
 
 #[tactic(auto, unfolding(crate::specs::Decoding::all_of))]
 fn all_cells(alloc: Global, bytes: &[u8]) -> Result<Parts, BytesFault>
-    ensures { Gives cells_body result (all_of (counted w32 cell_at) bytes.now) }
+    ensures { Gives cells_body result (all_of (list_at w32 cell_at) bytes.now) }
 {
     let (parts, rest) = parts_of(alloc, bytes.len(), bytes)?;
     if !rest.is_empty() {

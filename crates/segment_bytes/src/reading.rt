@@ -2,8 +2,8 @@ ghost use Rattle.std.specs.Prelude.{◌≡◌, ◌≤◌, ◌<◌, ◌^◌, leng
 ghost use Rattle.std.specs.Int.{w32};
 ghost use Rattle.turning_points.specs.Ends.{end_points};
 ghost use Rattle.segment_rules.specs.Parts.{parts_value};
-ghost use Rattle.segment_bytes.specs.Fields.{Gives, counted};
-ghost use Rattle.segment_bytes.specs.Grammar.{body_at, cell_at, joined as joined_is};
+ghost use Rattle.segment_bytes.specs.Fields.{Gives, list_at};
+ghost use Rattle.segment_bytes.specs.Grammar.{body_at, cell_at, parts_of_body as joined_is};
 ghost use Rattle.segment_bytes.specs.RowReading.{rows_at};
 ghost use Rattle.segment_bytes.specs.Views.{cells_body, four, rows_body, six};
 
@@ -51,7 +51,7 @@ pub(crate) fn parts_of(
     requires within { length bytes.now ≤ have }
     requires small { have < 2 ^ 63 }
     ensures { Gives (λ x. (cells_body x.0, x.1.now)) result
-        (body_at (counted w32 cell_at) have bytes.now) }
+        (body_at (list_at w32 cell_at) have bytes.now) }
 {
     let (front, rest) = six_of(have, bytes)?;
     let (ends, rest) = ends_of(have, rest)?;

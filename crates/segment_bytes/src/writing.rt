@@ -1,7 +1,7 @@
 ghost use Rattle.std.specs.Prelude.{◌≡◌, ◌<◌, ◌≤◌, ◌^◌, ◌+◌, ◌*◌, ◌++◌, true, false, length, map, take, drop, [], ◌∷◌};
 ghost use Rattle.std.specs.Int.{w16, w32, w64, to_be_bytes};
 ghost use Rattle.std.specs.List.{flat_map};
-ghost use Rattle.segment_bytes.specs.Fields.{listed};
+ghost use Rattle.segment_bytes.specs.Fields.{list_bytes};
 ghost use Rattle.segment_bytes.specs.Grammar.{bin, cell, row};
 ghost use Rattle.segment_bytes.specs.Rows.{cell_in};
 ghost use Rattle.segment_bytes.specs.Writing.{Puts, bins_of, row_of};
@@ -44,7 +44,7 @@ fn put_bin(buf: &mut [u8], at: usize, b: &Bin) -> usize
 pub(crate) fn put_levels(buf: &mut [u8], at: usize, levels: &[u16]) -> usize
     requires few { length levels.now < 2 ^ 16 }
     requires room { at + 2 + 2 * length levels.now ≤ length buf.old }
-    ensures puts { Puts at (listed w16 (to_be_bytes w16) levels.now) buf.old buf.new result }
+    ensures puts { Puts at (list_bytes w16 (to_be_bytes w16) levels.now) buf.old buf.new result }
     ensures next { result ≡ at + 2 + 2 * length levels.now }
 {
     let mut at = put_u16(buf, at, levels.len() as u16);
@@ -109,7 +109,7 @@ fn put_bins(buf: &mut [u8], at: usize, key: u16, counts: &[u64]) -> usize
 pub(crate) fn put_list(buf: &mut [u8], at: usize, key: u16, counts: &[u64]) -> usize
     requires few { key + length counts.now < 2 ^ 16 }
     requires room { at + 2 + 10 * length (bins_of key counts.now) ≤ length buf.old }
-    ensures puts { Puts at (listed w16 bin (bins_of key counts.now)) buf.old buf.new result }
+    ensures puts { Puts at (list_bytes w16 bin (bins_of key counts.now)) buf.old buf.new result }
     ensures next { result ≡ at + 2 + 10 * length (bins_of key counts.now) }
 {
     let end = put_bins(buf, at + 2, key, counts);

@@ -25,16 +25,16 @@ use Rattle.segment_store.specs.Held.{AreHeld, ends_of}
 use Rattle.segment_store.specs.Moments.{StoreValue, IsAt, IsOn}
 use Rattle.segment_store.specs.Resuming.{Walks, Ends}
 use Rattle.segment_store.specs.Reading.{IsFound, NoDamage, StartsAt}
-use Rattle.segment_store.specs.Opening.{fault_is, refused, IsHeadAnswer, DiskRose, WalksAs, Resumes, IsUnharmed}
+use Rattle.segment_store.specs.Opening.{fault_is, resume_fault_of, IsHeadAnswer, DiskRose, WalksAs, Resumes, IsUnharmed}
 
 -- ---- faults of the head
 
-pub head_answer_err : (X : Type 0) (f : HeadFault) (o : Option HeadFault) → o ≡ Some f → IsHeadAnswer {X = X} (Err (refused f)) o
+pub head_answer_err : (X : Type 0) (f : HeadFault) (o : Option HeadFault) → o ≡ Some f → IsHeadAnswer {X = X} (Err (resume_fault_of f)) o
 head_answer_err X heads.NotAStore o e = e
 head_answer_err X (heads.Version v) o e = e
 head_answer_err X (heads.Differs field kept found) o e = e
 
-pub rose_err : (X : Type 0) (f : HeadFault) (a b : ℕ) → DiskRose {X = X} a b (Err (refused f))
+pub rose_err : (X : Type 0) (f : HeadFault) (a b : ℕ) → DiskRose {X = X} a b (Err (resume_fault_of f))
 rose_err X heads.NotAStore a b = tt
 rose_err X (heads.Version v) a b = tt
 rose_err X (heads.Differs field kept found) a b = tt

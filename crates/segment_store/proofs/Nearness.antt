@@ -13,11 +13,11 @@ use Rattle.segment_bytes.specs.declared.layout.Layout.TheVariants.{One, Two}
 use Rattle.segment_bytes.specs.declared.layout.Layout.{Layout}
 use Rattle.segment_bytes.specs.Decoding.{IsBodyOf}
 use Rattle.segment_bytes.proofs.Lengths.{segment_small}
-use Rattle.segment_store.specs.Image.{extended}
+use Rattle.segment_store.specs.Image.{ends_after}
 use Rattle.segment_store.specs.Places.{IsNear, IsStep}
 
 pub near_step : (place next : ℕ) (ends : List ℕ) (p : PartsValue) → p.name.gauge < length ends → IsStep ends place p next
-    → IsNear place ends → IsNear next (extended ends p)
+    → IsNear place ends → IsNear next (ends_after ends p)
 near_step place next ends p known s n =
     let e = sum_by-set (λ k. k) ends p.name.gauge p.name.to 0 known in
     record {

@@ -10,15 +10,15 @@ use Rattle.station.specs.Station.{Image}
 use Rattle.segment_rules.specs.Parts.{PartsValue}
 use Rattle.segment_bytes.specs.declared.layout.Layout.{Layout}
 use Rattle.segment_bytes.specs.Grammar.{body_of}
-use Rattle.segment_bytes.specs.Decoding.{decoded}
+use Rattle.segment_bytes.specs.Decoding.{segment_in}
 use Rattle.segment_bytes.proofs.Decoded.{decoded_again}
 use Rattle.segment_store.specs.declared.damage.Damage.{Damage}
 use Rattle.calibration.specs.declared.setup.Setup.{Setup}
 use Rattle.store_head.specs.Head.{IsSetup}
 use Rattle.store_head.proofs.Gauges.{slice_range-middle}
-use Rattle.segment_store.specs.Image.{signed, stored, open_bodies, extended, IsBody, IsNext, Tiles, none, one}
+use Rattle.segment_store.specs.Image.{with_length, with_digest, open_bodies, ends_after, IsBody, IsNext, Tiles, none, one}
 use Rattle.segment_store.specs.Resuming.{field_at, length_at, bytes_at, kept_at, found_at, Checks, digest, no_body, stranger, empty, apart, sound, Finds, no_length, too_long, no_gate, whole, Walks, shut, damaged, more}
-use Rattle.segment_store.proofs.Bodies.{length-stored}
+use Rattle.segment_store.proofs.Bodies.{length-with_digest}
 use Rattle.lemmas.proofs.Outcomes.{same_ok}
 
 okay : {E : Type 0} → PartsValue → Result PartsValue E
@@ -32,21 +32,21 @@ module _ (lay : Layout) (setup : Setup) (valid : IsSetup setup) (limit : ℕ) (s
   field = to_be_bytes w32 (length (body_of lay p))
 
   abbrev image : List ℕ
-  image = a ++ 1 ∷ (stored (body_of lay p) ++ t)
+  image = a ++ 1 ∷ (with_digest (body_of lay p) ++ t)
 
-  tail_is : stored (body_of lay p) ++ t ≡ field ++ (body_of lay p ++ (sha256 (signed (body_of lay p)) ++ t))
-  tail_is = append_assoc (signed (body_of lay p)) (sha256 (signed (body_of lay p))) t
-      ∙ append_assoc field (body_of lay p) (sha256 (signed (body_of lay p)) ++ t)
+  tail_is : with_digest (body_of lay p) ++ t ≡ field ++ (body_of lay p ++ (sha256 (with_length (body_of lay p)) ++ t))
+  tail_is = append_assoc (with_length (body_of lay p)) (sha256 (with_length (body_of lay p))) t
+      ∙ append_assoc field (body_of lay p) (sha256 (with_length (body_of lay p)) ++ t)
 
-  regroup1 : image ≡ (a ++ 1 ∷ []) ++ (field ++ (body_of lay p ++ (sha256 (signed (body_of lay p)) ++ t)))
+  regroup1 : image ≡ (a ++ 1 ∷ []) ++ (field ++ (body_of lay p ++ (sha256 (with_length (body_of lay p)) ++ t)))
   regroup1 = ap (λ (l : List ℕ). a ++ 1 ∷ l) tail_is ∙ sym
-      (append_assoc a (1 ∷ []) (field ++ (body_of lay p ++ (sha256 (signed (body_of lay p)) ++ t))))
+      (append_assoc a (1 ∷ []) (field ++ (body_of lay p ++ (sha256 (with_length (body_of lay p)) ++ t))))
 
-  regroup2 : image ≡ ((a ++ 1 ∷ []) ++ field) ++ (body_of lay p ++ (sha256 (signed (body_of lay p)) ++ t))
-  regroup2 = regroup1 ∙ sym (append_assoc (a ++ 1 ∷ []) field (body_of lay p ++ (sha256 (signed (body_of lay p)) ++ t)))
+  regroup2 : image ≡ ((a ++ 1 ∷ []) ++ field) ++ (body_of lay p ++ (sha256 (with_length (body_of lay p)) ++ t))
+  regroup2 = regroup1 ∙ sym (append_assoc (a ++ 1 ∷ []) field (body_of lay p ++ (sha256 (with_length (body_of lay p)) ++ t)))
 
-  regroup3 : image ≡ (((a ++ 1 ∷ []) ++ field) ++ body_of lay p) ++ (sha256 (signed (body_of lay p)) ++ t)
-  regroup3 = regroup2 ∙ sym (append_assoc ((a ++ 1 ∷ []) ++ field) (body_of lay p) (sha256 (signed (body_of lay p)) ++ t))
+  regroup3 : image ≡ (((a ++ 1 ∷ []) ++ field) ++ body_of lay p) ++ (sha256 (with_length (body_of lay p)) ++ t)
+  regroup3 = regroup2 ∙ sym (append_assoc ((a ++ 1 ∷ []) ++ field) (body_of lay p) (sha256 (with_length (body_of lay p)) ++ t))
 
   front1 : length (a ++ 1 ∷ []) ≡ at + 1
   front1 = omega (arith, here, length-append a (1 ∷ []))
@@ -59,7 +59,7 @@ module _ (lay : Layout) (setup : Setup) (valid : IsSetup setup) (limit : ℕ) (s
 
   field_is : field_at image at ≡ field
   field_is = ap (λ i. slice_range i (at + 1) (at + 5)) regroup1
-      ∙ slice_range-middle (a ++ 1 ∷ []) field (body_of lay p ++ (sha256 (signed (body_of lay p)) ++ t)) (at + 1) (at + 5) (sym front1)
+      ∙ slice_range-middle (a ++ 1 ∷ []) field (body_of lay p ++ (sha256 (with_length (body_of lay p)) ++ t)) (at + 1) (at + 5) (sym front1)
       (omega (arith, front1))
 
   length_is : length_at image at ≡ length (body_of lay p)
@@ -69,37 +69,37 @@ module _ (lay : Layout) (setup : Setup) (valid : IsSetup setup) (limit : ℕ) (s
   bytes_is =
       ap (λ n. slice_range image (at + 5) (at + 5 + n)) length_is
       ∙ ap (λ i. slice_range i (at + 5) (at + 5 + length (body_of lay p))) regroup2
-      ∙ slice_range-middle ((a ++ 1 ∷ []) ++ field) (body_of lay p) (sha256 (signed (body_of lay p)) ++ t) (at + 5)
+      ∙ slice_range-middle ((a ++ 1 ∷ []) ++ field) (body_of lay p) (sha256 (with_length (body_of lay p)) ++ t) (at + 5)
       (at + 5 + length (body_of lay p)) (sym front2) (omega (arith, front2))
 
-  kept_is : kept_at image at ≡ sha256 (signed (body_of lay p))
+  kept_is : kept_at image at ≡ sha256 (with_length (body_of lay p))
   kept_is =
       ap (λ n. slice_range image (at + 5 + n) (at + 5 + n + 32)) length_is
       ∙ ap (λ i. slice_range i (at + 5 + length (body_of lay p)) (at + 5 + length (body_of lay p) + 32)) regroup3
-      ∙ slice_range-middle (((a ++ 1 ∷ []) ++ field) ++ body_of lay p) (sha256 (signed (body_of lay p))) t
+      ∙ slice_range-middle (((a ++ 1 ∷ []) ++ field) ++ body_of lay p) (sha256 (with_length (body_of lay p))) t
       (at + 5 + length (body_of lay p)) (at + 5 + length (body_of lay p) + 32) (sym front3)
-      (omega (arith, front3, length-sha256 (signed (body_of lay p))))
+      (omega (arith, front3, length-sha256 (with_length (body_of lay p))))
 
   found_is : found_at image at ≡ kept_at image at
   found_is = ap (λ (l : List ℕ). sha256 (l ++ bytes_at image at)) field_is ∙ ap (λ (l : List ℕ). sha256 (field ++ l)) bytes_is ∙ sym kept_is
 
-  pub decodes : decoded lay setup.grid (bytes_at image at) ≡ Ok p
-  decodes = ap (decoded lay setup.grid) bytes_is ∙ decoded_again lay setup.grid (body_of lay p) p valid.grid
+  pub decodes : segment_in lay setup.grid (bytes_at image at) ≡ Ok p
+  decodes = ap (segment_in lay setup.grid) bytes_is ∙ decoded_again lay setup.grid (body_of lay p) p valid.grid
       (record { segment = next.body.segment; gauge = omega (arith, next.body.gauge, valid.few); bytes_are = refl })
 
   long : length image ≡ at + 1 + (length (body_of lay p) + 36) + length t
   long = omega (
     arith,
     here,
-    length-append a (1 ∷ (stored (body_of lay p) ++ t)),
-    length-append (stored (body_of lay p)) t,
-    length-stored
+    length-append a (1 ∷ (with_digest (body_of lay p) ++ t)),
+    length-append (with_digest (body_of lay p)) t,
+    length-with_digest
         (body_of lay p),
   )
 
   pub gate_is : get_or image at 0 ≡ 1
   gate_is = let lt : at < length image = omega (arith, long) in
-      ap (λ (l : List ℕ). get_or l 0 0) (sym (drop_more image at 0 lt) ∙ drop_at a (1 ∷ (stored (body_of lay p) ++ t)) at (sym here))
+      ap (λ (l : List ℕ). get_or l 0 0) (sym (drop_more image at 0 lt) ∙ drop_at a (1 ∷ (with_digest (body_of lay p) ++ t)) at (sym here))
 
   checks_only : (r : Result PartsValue Damage) → Checks lay setup ends (bytes_at image at) (kept_at image at) (found_at image at) r
       → r ≡ Ok p
@@ -121,8 +121,8 @@ module _ (lay : Layout) (setup : Setup) (valid : IsSetup setup) (limit : ℕ) (s
   finds_only r (whole w c) = checks_only r c
 
   -- the next gate
-  pub next_gate : at + length_at image at + 37 ≡ length (a ++ 1 ∷ stored (body_of lay p))
-  next_gate = omega (arith, length_is, here, length-append a (1 ∷ stored (body_of lay p)), length-stored (body_of lay p))
+  pub next_gate : at + length_at image at + 37 ≡ length (a ++ 1 ∷ with_digest (body_of lay p))
+  next_gate = omega (arith, length_is, here, length-append a (1 ∷ with_digest (body_of lay p)), length-with_digest (body_of lay p))
 
 good : {E : Type 0} → ℕ × List ℕ → Result (ℕ × List ℕ) E
 good x = Ok x
@@ -148,28 +148,28 @@ walks_only lay setup valid limit fits image gate rest is_shut small a index at e
 walks_only lay setup valid limit fits image gate rest is_shut small a index at ends last bodies r here is
     (one {p = p} {ps = ps} next tiles) (shut n) =
     let t = open_bodies lay ps ++ gate ∷ rest in
-    let grouped = is ∙ ap (λ (l : List ℕ). a ++ 1 ∷ l) (append_assoc (stored (body_of lay p)) (open_bodies lay ps) (gate ∷ rest)) in
+    let grouped = is ∙ ap (λ (l : List ℕ). a ++ 1 ∷ l) (append_assoc (with_digest (body_of lay p)) (open_bodies lay ps) (gate ∷ rest)) in
     absurd (n (ap (λ (i : List ℕ). get_or i at 0) grouped ∙ gate_is lay setup valid limit fits a t at here ends p next (small p next.body)
     (some_left lay ps gate rest)))
 walks_only lay setup valid limit fits image gate rest is_shut small a index at ends last bodies r here is
     (one {p = p} {ps = ps} next tiles) (damaged {d = d} e f) =
     let t = open_bodies lay ps ++ gate ∷ rest in
-    let grouped = is ∙ ap (λ (l : List ℕ). a ++ 1 ∷ l) (append_assoc (stored (body_of lay p)) (open_bodies lay ps) (gate ∷ rest)) in
+    let grouped = is ∙ ap (λ (l : List ℕ). a ++ 1 ∷ l) (append_assoc (with_digest (body_of lay p)) (open_bodies lay ps) (gate ∷ rest)) in
     let found = finds_only lay setup valid limit fits a t at here ends p next (small p next.body) (some_left lay ps gate rest) (Err d)
     (subst (λ i. Finds lay setup limit i ends at (Err d)) grouped f) in
     absurd cc
 walks_only lay setup valid limit fits image gate rest is_shut small a index at ends last bodies r here is
     (one {p = p} {ps = ps} next tiles) (more {p = q} e f w) =
     let t = open_bodies lay ps ++ gate ∷ rest in
-    let grouped = is ∙ ap (λ (l : List ℕ). a ++ 1 ∷ l) (append_assoc (stored (body_of lay p)) (open_bodies lay ps) (gate ∷ rest)) in
+    let grouped = is ∙ ap (λ (l : List ℕ). a ++ 1 ∷ l) (append_assoc (with_digest (body_of lay p)) (open_bodies lay ps) (gate ∷ rest)) in
     let found = finds_only lay setup valid limit fits a t at here ends p next (small p next.body) (some_left lay ps gate rest) (Ok q)
     (subst (λ i. Finds lay setup limit i ends at (Ok q)) grouped f) in
     let same : q ≡ p = cc in
-    let place : at + length_at image at + 37 ≡ length (a ++ 1 ∷ stored (body_of lay p)) =
+    let place : at + length_at image at + 37 ≡ length (a ++ 1 ∷ with_digest (body_of lay p)) =
     ap (λ (i : List ℕ). at + length_at i at + 37) grouped
     ∙ next_gate lay setup valid limit fits a t at here ends p next (small p next.body) (some_left lay ps gate rest) in
-    let next_is : image ≡ (a ++ 1 ∷ stored (body_of lay p)) ++ (open_bodies lay ps ++ gate ∷ rest) = grouped
-    ∙ sym (append_assoc a (1 ∷ stored (body_of lay p)) t) in
-    walks_only lay setup valid limit fits image gate rest is_shut small (a ++ 1 ∷ stored (body_of lay p)) (index + 1)
-    (at + length_at image at + 37) (extended ends p) last ps r place next_is tiles
-    (subst (λ (x : PartsValue). Walks lay setup limit image (index + 1) (at + length_at image at + 37) (extended ends x) r) same w)
+    let next_is : image ≡ (a ++ 1 ∷ with_digest (body_of lay p)) ++ (open_bodies lay ps ++ gate ∷ rest) = grouped
+    ∙ sym (append_assoc a (1 ∷ with_digest (body_of lay p)) t) in
+    walks_only lay setup valid limit fits image gate rest is_shut small (a ++ 1 ∷ with_digest (body_of lay p)) (index + 1)
+    (at + length_at image at + 37) (ends_after ends p) last ps r place next_is tiles
+    (subst (λ (x : PartsValue). Walks lay setup limit image (index + 1) (at + length_at image at + 37) (ends_after ends x) r) same w)

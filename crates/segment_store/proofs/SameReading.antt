@@ -8,12 +8,12 @@ use Rattle.segment_rules.specs.Parts.{PartsValue}
 use Rattle.segment_bytes.specs.declared.layout.Layout.{Layout}
 use Rattle.segment_bytes.specs.Grammar.{body_of}
 use Rattle.segment_bytes.specs.Sizes.{max_body}
-use Rattle.segment_bytes.specs.Decoding.{decoded}
+use Rattle.segment_bytes.specs.Decoding.{segment_in}
 use Rattle.segment_bytes.proofs.Lengths.{segment_small}
 use Rattle.store_head.specs.Head.{HeadValue, IsSetup, front, gauges, head_of}
 use Rattle.store_head.proofs.Passing.{layout_told, heads_told}
 use Rattle.segment_store.specs.Held.{ends_of}
-use Rattle.segment_store.specs.Image.{stored, open_bodies, extended, IsBody, Tiles, none, one, Reads}
+use Rattle.segment_store.specs.Image.{with_digest, open_bodies, ends_after, IsBody, Tiles, none, one, Reads}
 use Rattle.segment_store.specs.Moments.{StoreValue, IsOn}
 use Rattle.segment_store.specs.Resuming.{bytes_at}
 use Rattle.segment_store.proofs.Nearness.{max_small}
@@ -22,8 +22,8 @@ use Rattle.lemmas.proofs.Outcomes.{same_ok}
 
 -- a body in front
 grouped : (lay : Layout) (a : List ℕ) (p : PartsValue) (ps : List PartsValue) (rest : List ℕ)
-    → a ++ (open_bodies lay (p ∷ ps) ++ rest) ≡ a ++ 1 ∷ (stored (body_of lay p) ++ (open_bodies lay ps ++ rest))
-grouped lay a p ps rest = ap (λ (z : List ℕ). a ++ 1 ∷ z) (append_assoc (stored (body_of lay p)) (open_bodies lay ps) rest)
+    → a ++ (open_bodies lay (p ∷ ps) ++ rest) ≡ a ++ 1 ∷ (with_digest (body_of lay p) ++ (open_bodies lay ps ++ rest))
+grouped lay a p ps rest = ap (λ (z : List ℕ). a ++ 1 ∷ z) (append_assoc (with_digest (body_of lay p)) (open_bodies lay ps) rest)
 
 module _ (lay : Layout) (setup : Setup) (valid : IsSetup setup) (limit : ℕ) (small : limit < 2 ^ 32) (fits : (p : PartsValue)
     → IsBody setup p → length (body_of lay p) ≤ limit) (gate gate2 : ℕ) (rest rest2 : List ℕ) (shut : gate ≢ 1) (shut2 : gate2 ≢ 1) where
@@ -44,18 +44,18 @@ module _ (lay : Layout) (setup : Setup) (valid : IsSetup setup) (limit : ℕ) (s
   same_bodies a ends last last2 ps qs (one {p = p} {ps = ps2} next tiles) (one {p = q} {ps = qs2} next2 tiles2) same =
       let t = open_bodies lay ps2 ++ gate ∷ rest in
       let t2 = open_bodies lay qs2 ++ gate2 ∷ rest2 in
-      let i = a ++ 1 ∷ (stored (body_of lay p) ++ t) in
-      let j = a ++ 1 ∷ (stored (body_of lay q) ++ t2) in
+      let i = a ++ 1 ∷ (with_digest (body_of lay p) ++ t) in
+      let j = a ++ 1 ∷ (with_digest (body_of lay q) ++ t2) in
       let eq : i ≡ j = sym (grouped lay a p ps2 (gate ∷ rest)) ∙ same ∙ grouped lay a q qs2 (gate2 ∷ rest2) in
       let first = decodes lay setup valid limit small a t (length a) refl ends p next (fits p next.body) (some_left lay ps2 gate rest) in
       let second = decodes lay setup valid limit small a t2 (length a) refl ends q next2 (fits q next2.body)
       (some_left lay qs2 gate2 rest2) in
-      let pq : p ≡ q = same_ok first (ap (λ (x : List ℕ). decoded lay setup.grid (bytes_at x (length a))) eq ∙ second) in
-      let eq2 : i ≡ a ++ 1 ∷ (stored (body_of lay p) ++ t2) = eq ∙ ap (λ x. a ++ 1 ∷ (stored (body_of lay x) ++ t2)) (sym pq) in
-      let moved : (a ++ 1 ∷ stored (body_of lay p)) ++ t ≡ (a ++ 1 ∷ stored (body_of lay p)) ++ t2 =
-      append_assoc a (1 ∷ stored (body_of lay p)) t ∙ eq2 ∙ sym (append_assoc a (1 ∷ stored (body_of lay p)) t2) in
-      let more = same_bodies (a ++ 1 ∷ stored (body_of lay p)) (extended ends p) last last2 ps2 qs2 tiles
-      (subst (λ x. Tiles setup (extended ends x) qs2 last2) (sym pq) tiles2) moved in
+      let pq : p ≡ q = same_ok first (ap (λ (x : List ℕ). segment_in lay setup.grid (bytes_at x (length a))) eq ∙ second) in
+      let eq2 : i ≡ a ++ 1 ∷ (with_digest (body_of lay p) ++ t2) = eq ∙ ap (λ x. a ++ 1 ∷ (with_digest (body_of lay x) ++ t2)) (sym pq) in
+      let moved : (a ++ 1 ∷ with_digest (body_of lay p)) ++ t ≡ (a ++ 1 ∷ with_digest (body_of lay p)) ++ t2 =
+      append_assoc a (1 ∷ with_digest (body_of lay p)) t ∙ eq2 ∙ sym (append_assoc a (1 ∷ with_digest (body_of lay p)) t2) in
+      let more = same_bodies (a ++ 1 ∷ with_digest (body_of lay p)) (ends_after ends p) last last2 ps2 qs2 tiles
+      (subst (λ x. Tiles setup (ends_after ends x) qs2 last2) (sym pq) tiles2) moved in
       (ap (λ x. x ∷ ps2) pq ∙ ap (λ l. q ∷ l) more.0, more.1)
 
 abbrev made : Layout → Setup → List Head → HeadValue

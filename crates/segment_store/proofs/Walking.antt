@@ -12,7 +12,7 @@ use Rattle.segment.specs.Parts.{parts_of}
 use Rattle.segment_store.specs.declared.damage.Damage.{Damage}
 use Rattle.segment_store.specs.declared.damage.Stop.{Stop}
 use Rattle.segment_store.specs.declared.damage.Stop.TheVariants as stops
-use Rattle.segment_store.specs.Image.{extended}
+use Rattle.segment_store.specs.Image.{ends_after}
 use Rattle.segment_store.specs.Resuming.{length_at, Finds, Told, Walks, Ends, damaged, more}
 use Rattle.segment_store.specs.Reading.{NoDamage}
 
@@ -36,9 +36,9 @@ module _ (lay : Layout) (setup : Setup) (limit limit2 : ℕ) (image image2 : Ima
       (subst (λ l. Finds lay setup l image2 ends at r) limit_same (subst (λ e. Finds lay setup limit2 image2 e at r) ends_same f))
 
   pub step : (p : PartsValue) (next : ℕ) → Finds lay setup limit2 image2 ends2 at (Ok p) → next ≡ at + length_at image2 at + 37
-      → (r : Result (ℕ × List ℕ) (ℕ × Damage)) → Walks lay setup limit image (index + 1) next (extended ends p) r
+      → (r : Result (ℕ × List ℕ) (ℕ × Damage)) → Walks lay setup limit image (index + 1) next (ends_after ends p) r
       → Walks lay setup limit image index at ends r
-  step p next f is r w = more gate (moved (Ok p) f) (subst (λ n. Walks lay setup limit image (index + 1) n (extended ends p) r) (is
+  step p next f is r w = more gate (moved (Ok p) f) (subst (λ n. Walks lay setup limit image (index + 1) n (ends_after ends p) r) (is
       ∙ ap (λ i. at + length_at i at + 37) same) w)
 
   pub stops_here : (W : Result (ℕ × List ℕ) (ℕ × Damage) → Type 0) (see : ℕ × ℕ → ℕ × List ℕ) (stop : Stop)

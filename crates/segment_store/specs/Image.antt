@@ -1,5 +1,5 @@
 -- Which images read, and as what.
---   stored        a body with its length, and the digest of both
+--   with_digest   a body with its length, and the digest of both
 --   open_bodies   open gates, each with its body
 --   IsBody        a body that a store of this setup may have; IsNext: it may come next, where each gauge is held up to
 --                 its end
@@ -16,15 +16,15 @@ use Rattle.segment_bytes.specs.declared.layout.Layout.{Layout}
 use Rattle.segment_bytes.specs.Grammar.{body_of}
 use Rattle.store_head.specs.Head.{HeadValue, IsHead, head_of}
 
-abbrev pub signed : List ℕ → List ℕ
-signed body = to_be_bytes w32 (length body) ++ body
+abbrev pub with_length : List ℕ → List ℕ
+with_length body = to_be_bytes w32 (length body) ++ body
 
-abbrev pub stored : List ℕ → List ℕ
-stored body = signed body ++ sha256 (signed body)
+abbrev pub with_digest : List ℕ → List ℕ
+with_digest body = with_length body ++ sha256 (with_length body)
 
 abbrev pub open_bodies : Layout → List PartsValue → List ℕ
 open_bodies l [] = []
-open_bodies l (p ∷ ps) = 1 ∷ (stored (body_of l p) ++ open_bodies l ps)
+open_bodies l (p ∷ ps) = 1 ∷ (with_digest (body_of l p) ++ open_bodies l ps)
 
 pub record IsBody (setup : Setup) (p : PartsValue) : Type 0 where
   pub segment : IsSegment setup.grid p
@@ -36,14 +36,14 @@ pub record IsNext (setup : Setup) (ends : List ℕ) (p : PartsValue) : Type 0 wh
   pub joins : p.name.from ≡ slice_index ends p.name.gauge
 
 -- where each gauge ends after the body
-abbrev pub extended : List ℕ → PartsValue → List ℕ
-extended ends p = slice_set ends p.name.gauge p.name.to
+abbrev pub ends_after : List ℕ → PartsValue → List ℕ
+ends_after ends p = slice_set ends p.name.gauge p.name.to
 
 -- from these ends to those
 pub data Tiles (setup : Setup) : List ℕ → List PartsValue → List ℕ → Type 0 where
   none : {ends : List ℕ} → Tiles setup ends [] ends
   one : {ends : List ℕ} {p : PartsValue} {ps : List PartsValue} {last : List ℕ} → IsNext setup ends p
-      → Tiles setup (extended ends p) ps last → Tiles setup ends (p ∷ ps) last
+      → Tiles setup (ends_after ends p) ps last → Tiles setup ends (p ∷ ps) last
 
 -- no gauge holds anything
 abbrev pub nothing_held : Setup → List ℕ

@@ -11,7 +11,7 @@ use Rattle.segment_rules.specs.Parts.{PartsValue}
 use Rattle.segment.specs.Segment.{SegmentValue}
 use Rattle.store_head.specs.Head.{HeadValue, head_of}
 use Rattle.segment_store.specs.Held.{AreHeld, ends_of}
-use Rattle.segment_store.specs.Image.{open_bodies, extended, IsNext, Reads}
+use Rattle.segment_store.specs.Image.{open_bodies, ends_after, IsNext, Reads}
 
 pub record StoreValue : Type 0 where
   pub head : HeadValue
@@ -43,7 +43,7 @@ IsThere s seen leaves = (bodies : List PartsValue) × IsOn s bodies seen leaves
 abbrev pub InPut : Lines → HeadValue → List PartsValue → List ℕ → PartsValue → IsMoment
 InPut told head bodies ends p lines c =
     (lines ≡ told) × (Reads head bodies ends c ⊎ (IsNext head.setup ends p × Reads head (bodies ++ p ∷ [])
-    (extended ends p) c))
+    (ends_after ends p) c))
 
 -- the lines are those told so far, and the image is one that a crash could leave, with a write of n bytes there torn
 abbrev pub InWrite : Lines → (Image → Type 0) → ℕ → ℕ → IsMoment

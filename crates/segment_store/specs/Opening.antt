@@ -60,10 +60,10 @@ IsUnharmed (Err (Damaged index d)) = ⊥
 IsUnharmed (Err DiskFault) = Unit {0}
 IsUnharmed (Err OutOfMemory) = Unit {0}
 
-abbrev pub refused : HeadFault → ResumeFault
-refused heads.NotAStore = NotAStore
-refused (heads.Version v) = Version v
-refused (heads.Differs field kept found) = Differs field kept found
+abbrev pub resume_fault_of : HeadFault → ResumeFault
+resume_fault_of heads.NotAStore = NotAStore
+resume_fault_of (heads.Version v) = Version v
+resume_fault_of (heads.Differs field kept found) = Differs field kept found
 
 abbrev pub IsHeadAnswer : {X : Type 0} → Result X ResumeFault → Option HeadFault → Type 0
 IsHeadAnswer (Ok x) o = o ≡ None

@@ -16,9 +16,9 @@ use Rattle.segment.specs.declared.segment.join.JoinRefusal.TheVariants as refusa
 use Rattle.segment_bytes.specs.declared.fault.BytesFault.{BytesFault}
 use Rattle.segment_bytes.specs.declared.fault.BytesFault.TheVariants as faults
 use Rattle.segment_bytes.specs.declared.layout.Layout.{Layout}
-use Rattle.segment_bytes.specs.Decoding.{decoded, IsBodyOf}
+use Rattle.segment_bytes.specs.Decoding.{segment_in, IsBodyOf}
 use Rattle.segment_rules.specs.Parts.{PartsValue}
-use Rattle.segment_store.specs.Image.{extended}
+use Rattle.segment_store.specs.Image.{ends_after}
 use Rattle.segment_store.specs.declared.damage.Damage.{Damage}
 use Rattle.segment_store.specs.declared.damage.Damage.TheVariants as damages
 use Rattle.segment_store.specs.declared.damage.Stop.{Stop}
@@ -51,13 +51,13 @@ pub record IsWhole (limit : ℕ) (image : Image) (at : ℕ) : Type 0 where
 pub data Checks (l : Layout) (setup : Setup) (ends : List ℕ) (bytes kept found : List ℕ) : Result PartsValue Damage →
     Type 0 where
   digest : found ≢ kept → Checks l setup ends bytes kept found (Err (damages.Digest kept found))
-  no_body : {f : BytesFault} → found ≡ kept → decoded l setup.grid bytes ≡ Err f
+  no_body : {f : BytesFault} → found ≡ kept → segment_in l setup.grid bytes ≡ Err f
       → Checks l setup ends bytes kept found (Err (damages.Bytes f))
-  stranger : {p : PartsValue} → found ≡ kept → decoded l setup.grid bytes ≡ Ok p → length setup.gains ≤ p.name.gauge
+  stranger : {p : PartsValue} → found ≡ kept → segment_in l setup.grid bytes ≡ Ok p → length setup.gains ≤ p.name.gauge
       → Checks l setup ends bytes kept found (Err (damages.Gauge p.name.gauge))
-  empty : {p : PartsValue} → found ≡ kept → decoded l setup.grid bytes ≡ Ok p → p.name.gauge < length setup.gains
+  empty : {p : PartsValue} → found ≡ kept → segment_in l setup.grid bytes ≡ Ok p → p.name.gauge < length setup.gains
       → p.name.to ≤ p.name.from → Checks l setup ends bytes kept found (Err damages.Empty)
-  apart : {p : PartsValue} → found ≡ kept → decoded l setup.grid bytes ≡ Ok p → p.name.gauge < length setup.gains
+  apart : {p : PartsValue} → found ≡ kept → segment_in l setup.grid bytes ≡ Ok p → p.name.gauge < length setup.gains
       → p.name.from < p.name.to → p.name.from ≢ slice_index ends p.name.gauge
       → Checks l setup ends bytes kept found (Err (damages.Join
       (refusals.NotNext (slice_index ends p.name.gauge) p.name.from)))
@@ -89,7 +89,7 @@ pub data Walks (l : Layout) (setup : Setup) (limit : ℕ) (image : Image) : ℕ 
   more : {index at : ℕ} {ends : List ℕ} {p : PartsValue} {r : Result (ℕ × List ℕ) (ℕ × Damage)} →
       slice_index image at ≡ 1
       → Finds l setup limit image ends at (Ok p) →
-      Walks l setup limit image (index + 1) (at + length_at image at + 37) (extended ends p) r →
+      Walks l setup limit image (index + 1) (at + length_at image at + 37) (ends_after ends p) r →
       Walks l setup limit image index at ends r
 
 -- what a call answered is one of these, unless memory ran out or the disk failed

@@ -22,7 +22,7 @@ ghost use Rattle.segment.specs.Parts.{parts_of};
 ghost use Rattle.segment_bytes.specs.Grammar.{body_of};
 ghost use Rattle.segment_bytes.specs.Sizes.{max_body, max_body_of};
 ghost use Rattle.segment_bytes.specs.declared.layout.Layout.TheVariants.{One};
-ghost use Rattle.segment_store.specs.Image.{signed, stored};
+ghost use Rattle.segment_store.specs.Image.{with_length, with_digest};
 ghost use Rattle.segment_bytes.specs.declared.layout.TheConstants.{MAX_CLASSES_ONE};
 
 use segment::Segment;
@@ -46,7 +46,7 @@ fn seal(buf: &mut [u8], n: usize) -> usize
 fn sign(layout: Layout, buf: &mut [u8], segment: &Segment) -> usize
     requires narrow { layout ≡ One → segment.now.grid.classes ≤ MAX_CLASSES_ONE }
     requires room { 4 + max_body layout segment.now.grid.classes ≤ length buf.old }
-    ensures signed { take result buf.new ≡ signed (body_of layout (parts_of segment.now)) }
+    ensures signed { take result buf.new ≡ with_length (body_of layout (parts_of segment.now)) }
     ensures len { result ≡ 4 + length (body_of layout (parts_of segment.now)) }
     ensures bound { result ≤ 4 + max_body layout segment.now.grid.classes }
     ensures by_samples { result ≤
@@ -65,7 +65,7 @@ fn fill(layout: Layout, buf: &mut [u8], segment: &Segment) -> usize
     requires narrow { layout ≡ One → segment.now.grid.classes ≤ MAX_CLASSES_ONE }
     requires room { 37 + max_body layout segment.now.grid.classes ≤ length buf.old }
     ensures filled { take result buf.new ≡
-        stored (body_of layout (parts_of segment.now)) ++ 0 ∷ [] }
+        with_digest (body_of layout (parts_of segment.now)) ++ 0 ∷ [] }
     ensures len { result ≡ 37 + length (body_of layout (parts_of segment.now)) }
     ensures bound { result ≤ 37 + max_body layout segment.now.grid.classes }
     ensures by_samples { result ≤
@@ -80,7 +80,7 @@ pub(crate) fn stage(layout: Layout, buf: &mut Vec<u8>, segment: &Segment) -> usi
     requires narrow { layout ≡ One → segment.now.grid.classes ≤ MAX_CLASSES_ONE }
     requires room { 37 + max_body layout segment.now.grid.classes ≤ vec_len buf.old }
     ensures filled { take result buf.new.items ≡
-        stored (body_of layout (parts_of segment.now)) ++ 0 ∷ [] }
+        with_digest (body_of layout (parts_of segment.now)) ++ 0 ∷ [] }
     ensures len { result ≡ 37 + length (body_of layout (parts_of segment.now)) }
     ensures bound { result ≤ 37 + max_body layout segment.now.grid.classes }
     ensures by_samples { result ≤

@@ -27,7 +27,7 @@ ghost use Rattle.store_head.specs.Judging.{
   gauge_at,
   layout_in,
 };
-ghost use Rattle.segment_store.specs.Opening.{IsHeadAnswer, DiskRose, refused as refused_as};
+ghost use Rattle.segment_store.specs.Opening.{IsHeadAnswer, DiskRose, resume_fault_of as refused_as};
 ghost use Rattle.segment_store.specs.Quiet.{IsQuiet};
 ghost use Rattle.calibration.specs.declared.limits.TheConstants.{MAX_GAUGES};
 ghost use Rattle.segment_bytes.specs.declared.layout.TheConstants.{MAX_CLASSES_ONE};

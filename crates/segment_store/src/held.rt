@@ -16,7 +16,7 @@ ghost use Rattle.segment_rules.specs.Parts.{PartsValue};
 ghost use Rattle.segment.specs.Parts.{parts_of};
 ghost use Rattle.segment.specs.Segment.{SegmentValue};
 ghost use Rattle.segment_store.specs.Held.{AreHeld, ends_of};
-ghost use Rattle.segment_store.specs.Image.{extended};
+ghost use Rattle.segment_store.specs.Image.{ends_after};
 
 use calibration::Grid;
 use recording::MAX_SAMPLES;
@@ -86,7 +86,7 @@ impl Held {
         requires held { (bodies : List PartsValue) × AreHeld segment.now.grid bodies self.old }
         ensures held { (bodies : List PartsValue) → AreHeld segment.now.grid bodies self.old →
             AreHeld segment.now.grid (bodies ++ parts_of segment.now ∷ []) self.new }
-        ensures ends { ends_of self.new ≡ extended (ends_of self.old) (parts_of segment.now) }
+        ensures ends { ends_of self.new ≡ ends_after (ends_of self.old) (parts_of segment.now) }
         ensures gauges { length self.new ≡ length self.old }
     {
         let gauge = usize::from(segment.name().gauge);

@@ -24,7 +24,7 @@ ghost use Rattle.segment_rules.specs.Parts.{PartsValue};
 ghost use Rattle.segment.specs.Parts.{parts_of};
 ghost use Rattle.store_head.specs.Head.{HeadValue, see_head};
 ghost use Rattle.segment_store.specs.Held.{AreHeld, ends_of};
-ghost use Rattle.segment_store.specs.Image.{extended, IsBody, IsNext};
+ghost use Rattle.segment_store.specs.Image.{ends_after, IsBody, IsNext};
 ghost use Rattle.segment_store.specs.Keeping.{IsKept};
 ghost use Rattle.segment_store.specs.Moments.{IsAt, InPut};
 ghost use Rattle.segment_store.specs.Putting.{Refuses, Unwritten};
@@ -95,7 +95,7 @@ impl State {
             OnOk result (AreHeld self.old.head.setup.grid
             (bodies ++ parts_of segment.now ∷ []) self.new.held) }
         ensures held { OnOk result (ends_of self.new.held ≡
-            extended (ends_of self.old.held) (parts_of segment.now)) }
+            ends_after (ends_of self.old.held) (parts_of segment.now)) }
         ensures counted { OnOk result (self.new.count ≡ self.old.count + 1) }
         ensures unchanged { OnErr result ((self.new.held ≡ self.old.held)
             × (self.new.count ≡ self.old.count) × (self.new.place ≡ self.old.place)) }

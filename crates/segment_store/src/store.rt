@@ -26,7 +26,7 @@ ghost use Rattle.segment.specs.Parts.{parts_of};
 ghost use Rattle.segment.specs.Segment.{SegmentValue};
 ghost use Rattle.store_head.specs.Head.{HeadValue, see_head};
 ghost use Rattle.segment_store.specs.Held.{ends_of};
-ghost use Rattle.segment_store.specs.Image.{Reads, extended, IsNext};
+ghost use Rattle.segment_store.specs.Image.{Reads, ends_after, IsNext};
 ghost use Rattle.segment_store.specs.Moments.{StoreValue, IsOn, IsThere, InPut};
 ghost use Rattle.segment_store.specs.Opening.{DiskRose, Resumes, IsUnharmed};
 ghost use Rattle.segment_store.specs.Putting.{Refuses, Unwritten};
@@ -137,7 +137,7 @@ impl Store {
         ensures shut { (result ≡ Err DiskFault) ⊎ (self.new.shut ≡ self.old.shut) }
         // What is held.
         ensures held { OnOk result (ends_of self.new.held ≡
-            extended (ends_of self.old.held) (parts_of segment.now)) }
+            ends_after (ends_of self.old.held) (parts_of segment.now)) }
         ensures unchanged { OnErr result ((self.new.held ≡ self.old.held)
             × (self.new.count ≡ self.old.count) × (self.new.place ≡ self.old.place)) }
         ensures gauges { length self.new.held ≡ length self.old.held }

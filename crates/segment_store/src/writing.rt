@@ -20,7 +20,7 @@ ghost use Rattle.station.specs.Station.{Image, Lines, Since, Overwrites, Only};
 ghost use Rattle.segment_rules.specs.Parts.{PartsValue};
 ghost use Rattle.segment_bytes.specs.Grammar.{body_of};
 ghost use Rattle.store_head.specs.Head.{HeadValue};
-ghost use Rattle.segment_store.specs.Image.{stored, extended, IsNext};
+ghost use Rattle.segment_store.specs.Image.{with_digest, ends_after, IsNext};
 ghost use Rattle.segment_store.specs.Moments.{IsAt, InPut, InWrite};
 
 use outside::Failed;
@@ -55,14 +55,14 @@ pub(crate) fn write_body<K: Station>(
     ensures stored { K.tells → (head : HeadValue) (bodies : List PartsValue) (ends : List ℕ)
         (p : PartsValue) →
         IsAt head bodies ends place (K.seen station.old) (K.leaves station.old) →
-        IsNext head.setup ends p → bytes.now ≡ stored (body_of head.layout p) ++ 0 ∷ [] →
-        OnOk result (IsAt head (bodies ++ p ∷ []) (extended ends p)
-        (place + length (stored (body_of head.layout p)) + 1)
+        IsNext head.setup ends p → bytes.now ≡ with_digest (body_of head.layout p) ++ 0 ∷ [] →
+        OnOk result (IsAt head (bodies ++ p ∷ []) (ends_after ends p)
+        (place + length (with_digest (body_of head.layout p)) + 1)
         (K.seen station.new) (K.leaves station.new)) }
     ensures any_moment { K.tells → (head : HeadValue) (bodies : List PartsValue) (ends : List ℕ)
         (p : PartsValue) →
         IsAt head bodies ends place (K.seen station.old) (K.leaves station.old) →
-        IsNext head.setup ends p → bytes.now ≡ stored (body_of head.layout p) ++ 0 ∷ [] →
+        IsNext head.setup ends p → bytes.now ≡ with_digest (body_of head.layout p) ++ 0 ∷ [] →
         Since (K.clock station.old) (K.moments station.old) (K.clock station.new)
         (K.moments station.new) (InPut (K.told station.old) head bodies ends p) }
     ensures told { K.tells → K.told station.new ≡ K.told station.old }

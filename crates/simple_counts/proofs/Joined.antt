@@ -1,10 +1,10 @@
 -- Two values joined: the rules, and the histories.
 use Rattle.std.proofs.Common.{◌≡◌, ℕ, ◌+◌, ◌<◌, ◌≤◌, List, ◌++◌, length, sym, ap, ◌∙◌, subst, arith}
 use Rattle.turning_points.specs.Points.{points}
-use Rattle.turning_points.specs.EndPoints.{EndPoints, ends_of, last_point, last_but_one, IsEnds, put}
+use Rattle.turning_points.specs.EndPoints.{EndPoints, ends_of, last_point, last_but_one, IsEnds, ends_prepend}
 use Rattle.turning_points.proofs.Zigzag.{IsZigzag, zig_points}
 use Rattle.turning_points.proofs.Over.{over, over_points, over_of_points}
-use Rattle.tables.specs.Tables.{added as both}
+use Rattle.tables.specs.Tables.{sum_of_tables as both}
 use Rattle.simple_counts.specs.Simple.{decide, decided_at, SimpleValue, Counts, IsSimple, decide_join, mark_join, join_of}
 use Rattle.level_crossing.specs.Extremes.{extremes_at}
 use Rattle.tables.proofs.Counting.{added_at, length_added}
@@ -46,7 +46,7 @@ module _ (K r : ℕ) (e f : EndPoints) (d m l s : List ℕ) (ld : length d ≡ K
   join_many h =
       subst (λ t. At K r (λ k. 0) (λ k. 0) (over l s) t (mark_join r (ends_of l) (ends_of s) m))
       (sym (decide_join_more (ends_of l) (ends_of s) d h))
-      (subst (λ t. At K r (λ k. 0) (λ k. 0) (over l s) (decide (last_but_one l) (put (last_point l) (ends_of s))
+      (subst (λ t. At K r (λ k. 0) (λ k. 0) (over l s) (decide (last_but_one l) (ends_prepend (last_point l) (ends_of s))
       (decide (last_point l) (ends_of s) d)) t) (sym (mark_join_more r (ends_of l) (ends_of s) m h))
       (at_many K r d m s ld lm z (subst (IsEnds K) q j) l y (subst (IsEnds K) p i) h g))
 

@@ -5,7 +5,7 @@ use Rattle.std.proofs.lemmas.Bool.{cases_eq}
 use Rattle.tally.specs.declared.cells.Bin.{Bin}
 use Rattle.calibration.specs.declared.grid.TheConstants.{MIN_CLASSES, MAX_CLASSES}
 use Rattle.turning_points.specs.EndPoints.{EndPoints}
-use Rattle.tables.specs.Tables.{lower, filled, is_at}
+use Rattle.tables.specs.Tables.{lower, table_with_bins, is_at}
 use Rattle.tables.specs.Bins.{count_at, sum_of}
 use Rattle.tables.proofs.Counting.{lower_at, sum_lower}
 use Rattle.tables.proofs.Filled.{filled_at, filled_sum, filled_long, table_at, table_sum, table_long, placed_counts, count_below, count_above}
@@ -42,36 +42,36 @@ IsGrid classes reference = ((MIN_CLASSES ≤ classes) × (classes ≤ MAX_CLASSE
 module _ (classes reference : ℕ) (e : EndPoints) (peaks valleys ranges : List Bin) (c : CanLoad classes reference e peaks valleys ranges)
   where
     all : List ℕ
-    all = filled 0 (replicate classes 0) ranges
+    all = table_with_bins 0 (replicate classes 0) ranges
 
-    all_at : (i : ℕ) → get_or (filled 0 (replicate classes 0) ranges) i 0 ≡ count_at i ranges
+    all_at : (i : ℕ) → get_or (table_with_bins 0 (replicate classes 0) ranges) i 0 ≡ count_at i ranges
     all_at = table_at 1 classes classes ranges c.ranges_are (omega arith)
 
-    pub last_there : 2 ≤ e.points → 1 ≤ get_or (filled 0 (replicate classes 0) ranges) (last_range e) 0
+    pub last_there : 2 ≤ e.points → 1 ≤ get_or (table_with_bins 0 (replicate classes 0) ranges) (last_range e) 0
     last_there le = let n = (c.counted le).last in omega (arith, n, all_at (last_range e))
 
     pub last_within : last_range e < classes
     last_within = range_below classes e.before e.last c.ends.below.2 c.ends.below.3
 
     decided_by : (b : Bool) → leb 2 e.points ≡ b →
-        Decided classes e ranges (cond b (lower (filled 0 (replicate classes 0) ranges) (last_range e))
-        (filled 0 (replicate classes 0) ranges))
+        Decided classes e ranges (cond b (lower (table_with_bins 0 (replicate classes 0) ranges) (last_range e))
+        (table_with_bins 0 (replicate classes 0) ranges))
     decided_by true is =
         let le = leb_true e.points is in
         let long = table_long 0 classes ranges in
-        let within : last_range e < length (filled 0 (replicate classes 0) ranges) = omega (arith, long, last_within) in
+        let within : last_range e < length (table_with_bins 0 (replicate classes 0) ranges) = omega (arith, long, last_within) in
         record {
-          long = length-set (filled 0 (replicate classes 0) ranges) (last_range e)
-              (get_or (filled 0 (replicate classes 0) ranges) (last_range e) 0 - 1) ∙ long;
+          long = length-set (table_with_bins 0 (replicate classes 0) ranges) (last_range e)
+              (get_or (table_with_bins 0 (replicate classes 0) ranges) (last_range e) 0 - 1) ∙ long;
           at = λ i. omega (
             arith,
-            lower_at (filled 0 (replicate classes 0) ranges) (last_range e) i within (last_there le),
+            lower_at (table_with_bins 0 (replicate classes 0) ranges) (last_range e) i within (last_there le),
             opened_at (leb 2 e.points) (is_at i (last_range e)) is,
             all_at i,
           );
           total = omega (
             arith,
-            sum_lower (filled 0 (replicate classes 0) ranges) (last_range e) within (last_there le),
+            sum_lower (table_with_bins 0 (replicate classes 0) ranges) (last_range e) within (last_there le),
             table_sum 1 classes classes ranges c.ranges_are (omega arith),
             c.sides,
             le,
@@ -111,30 +111,31 @@ module _ (classes reference : ℕ) (e : EndPoints) (peaks valleys ranges : List 
 
     module _ (grid : IsGrid classes reference) where
       low : List ℕ
-      low = filled 0 (replicate classes 0) valleys
+      low = table_with_bins 0 (replicate classes 0) valleys
 
-      low_at : (i : ℕ) → get_or (filled 0 (replicate classes 0) valleys) i 0 ≡ count_at i valleys
+      low_at : (i : ℕ) → get_or (table_with_bins 0 (replicate classes 0) valleys) i 0 ≡ count_at i valleys
       low_at = table_at 0 reference classes valleys c.valleys_are (omega (arith, grid.1.1))
 
-      low_long : length (filled 0 (replicate classes 0) valleys) ≡ classes
+      low_long : length (table_with_bins 0 (replicate classes 0) valleys) ≡ classes
       low_long = table_long 0 classes valleys
 
-      low_none : (p : ℕ) → reference + 0 ≤ p → get_or (filled 0 (replicate classes 0) valleys) p 0 ≡ 0
+      low_none : (p : ℕ) → reference + 0 ≤ p → get_or (table_with_bins 0 (replicate classes 0) valleys) p 0 ≡ 0
       low_none p le = low_at p ∙ count_above 0 reference p valleys c.valleys_are (omega (arith, le))
 
-      extremes_at : (i : ℕ) → get_or (filled 0 (filled 0 (replicate classes 0) valleys) peaks) i 0 ≡ count_at i valleys + count_at i peaks
+      extremes_at : (i : ℕ) → get_or (table_with_bins 0 (table_with_bins 0 (replicate classes 0) valleys) peaks) i 0 ≡
+          count_at i valleys + count_at i peaks
       extremes_at i = omega (
         arith,
-        filled_at 0 reference classes (filled 0 (replicate classes 0) valleys) peaks c.peaks_are
+        filled_at 0 reference classes (table_with_bins 0 (replicate classes 0) valleys) peaks c.peaks_are
             (omega (arith, low_long)) low_none i,
         low_at i,
         placed_counts i peaks,
       )
 
-      extremes_sum : sum (filled 0 (filled 0 (replicate classes 0) valleys) peaks) ≡ sum_of valleys + sum_of peaks
+      extremes_sum : sum (table_with_bins 0 (table_with_bins 0 (replicate classes 0) valleys) peaks) ≡ sum_of valleys + sum_of peaks
       extremes_sum = omega (
         arith,
-        filled_sum 0 reference classes (filled 0 (replicate classes 0) valleys) peaks c.peaks_are
+        filled_sum 0 reference classes (table_with_bins 0 (replicate classes 0) valleys) peaks c.peaks_are
             (omega (arith, low_long)) low_none,
         table_sum 0 reference classes valleys c.valleys_are (omega (arith, grid.1.1)),
       )
@@ -146,7 +147,7 @@ module _ (classes reference : ℕ) (e : EndPoints) (peaks valleys ranges : List 
         classes = grid.0;
         reference = grid.1;
         decided = decided.long;
-        extremes = filled_long 0 (filled 0 (replicate classes 0) valleys) peaks ∙ low_long;
+        extremes = filled_long 0 (table_with_bins 0 (replicate classes 0) valleys) peaks ∙ low_long;
         ends = c.ends;
         agrees = record {
           sum_of = omega (arith, decided.total);
@@ -168,7 +169,7 @@ module _ (classes reference : ℕ) (e : EndPoints) (peaks valleys ranges : List 
           under r l e = grind (arith, nat_tests)
 
           by : (b : Bool) → leb reference l ≡ b →
-              cond b (get_or (filled 0 (filled 0 (replicate classes 0) valleys) peaks) l 0) 0 ≡ count_at l peaks
+              cond b (get_or (table_with_bins 0 (table_with_bins 0 (replicate classes 0) valleys) peaks) l 0) 0 ≡ count_at l peaks
           by true is = omega (arith, extremes_at l, count_above 0 reference l valleys c.valleys_are (at_or_above reference l is))
           by false is = sym (count_below reference classes l peaks c.peaks_are (under reference l is))
 
@@ -182,7 +183,7 @@ module _ (classes reference : ℕ) (e : EndPoints) (peaks valleys ranges : List 
           under r l e = grind (arith, nat_tests)
 
           by : (b : Bool) → leb reference l ≡ b →
-              cond b 0 (get_or (filled 0 (filled 0 (replicate classes 0) valleys) peaks) l 0) ≡ count_at l valleys
+              cond b 0 (get_or (table_with_bins 0 (table_with_bins 0 (replicate classes 0) valleys) peaks) l 0) ≡ count_at l valleys
           by true is = sym (count_above 0 reference l valleys c.valleys_are (at_or_above reference l is))
           by false is = omega (arith, extremes_at l, count_below reference classes l peaks c.peaks_are (under reference l is))
 
@@ -190,12 +191,12 @@ module _ (classes reference : ℕ) (e : EndPoints) (peaks valleys ranges : List 
 pub loaded_closed : (classes reference : ℕ) (e : EndPoints) (peaks valleys ranges : List Bin)
     (c : CanLoad classes reference e peaks valleys ranges) (grid : IsGrid classes reference) (n m : ℕ) (d x : List ℕ) →
     n ≡ classes → m ≡ classes
-    → d ≡ decided_of n e ranges → x ≡ filled 0 (filled 0 (replicate m 0) valleys) peaks →
+    → d ≡ decided_of n e ranges → x ≡ table_with_bins 0 (table_with_bins 0 (replicate m 0) valleys) peaks →
     IsSimple (record { classes = classes; reference = reference; ends = e; decided = d; extremes = x })
 loaded_closed classes reference e peaks valleys ranges c grid n m d x same other is are =
     let d_is : d ≡ decided_of classes e ranges = is ∙ ap (λ k. decided_of k e ranges) same in
-    let x_is : x ≡ filled 0 (filled 0 (replicate classes 0) valleys) peaks = are
-    ∙ ap (λ k. filled 0 (filled 0 (replicate k 0) valleys) peaks) other in
+    let x_is : x ≡ table_with_bins 0 (table_with_bins 0 (replicate classes 0) valleys) peaks = are
+    ∙ ap (λ k. table_with_bins 0 (table_with_bins 0 (replicate k 0) valleys) peaks) other in
     subst (λ t. IsSimple (record { classes = classes; reference = reference; ends = e; decided = t; extremes = x })) (sym d_is)
     (subst (λ t. IsSimple (record {
       classes = classes;
@@ -207,6 +208,7 @@ loaded_closed classes reference e peaks valleys ranges c grid n m d x same other
 
 pub last_in : (classes reference : ℕ) (e : EndPoints) (peaks valleys ranges : List Bin)
     (c : CanLoad classes reference e peaks valleys ranges) (n : ℕ) → n ≡ classes → 2 ≤ e.points →
-    1 ≤ get_or (filled 0 (replicate n 0) ranges) (last_range e) 0
-last_in classes reference e peaks valleys ranges c n same le = subst (λ k. 1 ≤ get_or (filled 0 (replicate k 0) ranges) (last_range e) 0)
+    1 ≤ get_or (table_with_bins 0 (replicate n 0) ranges) (last_range e) 0
+last_in classes reference e peaks valleys ranges c n same le =
+    subst (λ k. 1 ≤ get_or (table_with_bins 0 (replicate k 0) ranges) (last_range e) 0)
     (sym same) (last_there classes reference e peaks valleys ranges c le)

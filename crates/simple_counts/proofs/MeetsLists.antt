@@ -1,6 +1,6 @@
 -- Two parts of a history, one after the other: the tables.
 use Rattle.std.proofs.Common.{◌≡◌, ℕ, ◌<◌, ◌≤◌, List, [], ◌∷◌, ◌++◌, length, sym, ap, ◌∙◌, subst, arith}
-use Rattle.turning_points.specs.EndPoints.{EndPoints, ends_of, last_point, last_but_one, IsEnds, put}
+use Rattle.turning_points.specs.EndPoints.{EndPoints, ends_of, last_point, last_but_one, IsEnds, ends_prepend}
 use Rattle.turning_points.proofs.Zigzag.{add, is_added, IsZigzag, zig_added}
 use Rattle.turning_points.proofs.Over.{over}
 use Rattle.turning_points.proofs.Joining.{met_points, met, tail, put_is, last_behind, before_behind}
@@ -12,7 +12,7 @@ use Rattle.turning_points.proofs.PutEnds.{put_ends}
 use Rattle.turning_points.proofs.Push.{end_differs}
 use Rattle.simple_counts.proofs.PutLists.{decide_length, mark_length, At, at_added}
 
-pub put_list : (x : ℕ) (l : List ℕ) → IsZigzag l → ends_of (add x l) ≡ put x (ends_of l)
+pub put_list : (x : ℕ) (l : List ℕ) → IsZigzag l → ends_of (add x l) ≡ ends_prepend x (ends_of l)
 put_list x l z = put_is x l z ∙ sym (put_same x (ends_of l))
 
 -- the tables after the last two levels of a list were put before s one by one
@@ -21,8 +21,8 @@ module _ (K r : ℕ) (a b : ℕ → ℕ) (d m s : List ℕ) (ld : length d ≡ K
   at_once x h g = at_added K r a b d m ld lm (is_added x s z) h i g
 
   pub at_twice : (p x : ℕ) → p < K → x < K → At K r a b s d m →
-      At K r a b (add p (add x s)) (decide p (put x (ends_of s)) (decide x (ends_of s) d))
-      (mark r p (put x (ends_of s)) (mark r x (ends_of s) m))
+      At K r a b (add p (add x s)) (decide p (ends_prepend x (ends_of s)) (decide x (ends_of s) d))
+      (mark r p (ends_prepend x (ends_of s)) (mark r x (ends_of s) m))
   at_twice p x q h g =
       let e = put_list x s z in
       let j = put_ends K x (ends_of s) i h in
@@ -59,16 +59,16 @@ behind K r f p x s d m y z g =
 
 -- the tables of the two, with the levels that may change put before the second
 abbrev pub decide_twice : EndPoints → EndPoints → List ℕ → List ℕ
-decide_twice e f d = decide e.before (put e.last f) (decide e.last f d)
+decide_twice e f d = decide e.before (ends_prepend e.last f) (decide e.last f d)
 
 abbrev pub mark_twice : ℕ → EndPoints → EndPoints → List ℕ → List ℕ
-mark_twice r e f m = mark r e.before (put e.last f) (mark r e.last f m)
+mark_twice r e f m = mark r e.before (ends_prepend e.last f) (mark r e.last f m)
 
 module _ (K r : ℕ) (d m s : List ℕ) (ld : length d ≡ K) (lm : length m ≡ K) (z : IsZigzag s) (i : IsEnds K (ends_of s)) where
   long_case : (f : List ℕ) (p x : ℕ) → IsZigzag (f ++ (p ∷ x ∷ [])) → p < K → x < K →
       At K r (λ k. decided_at k (f ++ (p ∷ x ∷ []))) (λ k. extremes_at r k (f ++ (p ∷ x ∷ []))) s d m →
-      At K r (λ k. 0) (λ k. 0) (over (f ++ (p ∷ x ∷ [])) s) (decide p (put x (ends_of s)) (decide x (ends_of s) d))
-      (mark r p (put x (ends_of s)) (mark r x (ends_of s) m))
+      At K r (λ k. 0) (λ k. 0) (over (f ++ (p ∷ x ∷ [])) s) (decide p (ends_prepend x (ends_of s)) (decide x (ends_of s) d))
+      (mark r p (ends_prepend x (ends_of s)) (mark r x (ends_of s) m))
   long_case f p x y h q g = behind K r f p x s _ _ y z (at_twice K r _ _ d m s ld lm z i p x h q g)
 
   by_tail : (l : List ℕ) → IsZigzag l → IsEnds K (ends_of l) → (f : List ℕ) (p x : ℕ) → l ≡ f ++ (p ∷ x ∷ []) →
@@ -80,12 +80,13 @@ module _ (K r : ℕ) (d m s : List ℕ) (ld : length d ≡ K) (lm : length m ≡
       let h : p < K = omega (arith, j.below.2, b) in
       let q : x < K = omega (arith, j.below.3, c) in
       let w = long_case f p x (subst IsZigzag e y) h q (subst (λ k. At K r (λ n. decided_at n k) (λ n. extremes_at r n k) s d m) e g) in
-      let v = subst (λ k. At K r (λ k. 0) (λ k. 0) (over k s) (decide p (put x (ends_of s)) (decide x (ends_of s) d))
-      (mark r p (put x (ends_of s)) (mark r x (ends_of s) m))) (sym e) w in
-      subst (λ n. At K r (λ k. 0) (λ k. 0) (over l s) (decide n (put (last_point l) (ends_of s)) (decide (last_point l) (ends_of s) d))
-      (mark r n (put (last_point l) (ends_of s)) (mark r (last_point l) (ends_of s) m))) (sym b)
-      (subst (λ n. At K r (λ k. 0) (λ k. 0) (over l s) (decide p (put n (ends_of s)) (decide n (ends_of s) d))
-      (mark r p (put n (ends_of s)) (mark r n (ends_of s) m))) (sym c) v)
+      let v = subst (λ k. At K r (λ k. 0) (λ k. 0) (over k s) (decide p (ends_prepend x (ends_of s)) (decide x (ends_of s) d))
+      (mark r p (ends_prepend x (ends_of s)) (mark r x (ends_of s) m))) (sym e) w in
+      subst (λ n. At K r (λ k. 0) (λ k. 0) (over l s)
+      (decide n (ends_prepend (last_point l) (ends_of s)) (decide (last_point l) (ends_of s) d))
+      (mark r n (ends_prepend (last_point l) (ends_of s)) (mark r (last_point l) (ends_of s) m))) (sym b)
+      (subst (λ n. At K r (λ k. 0) (λ k. 0) (over l s) (decide p (ends_prepend n (ends_of s)) (decide n (ends_of s) d))
+      (mark r p (ends_prepend n (ends_of s)) (mark r n (ends_of s) m))) (sym c) v)
 
   pub at_many : (l : List ℕ) → IsZigzag l → IsEnds K (ends_of l) → 2 ≤ length l →
       At K r (λ k. decided_at k l) (λ k. extremes_at r k l) s d m →

@@ -4,7 +4,7 @@ use Rattle.std.proofs.lemmas.Bool.{cases_eq, cases_lt}
 use Rattle.std.proofs.lemmas.Bool.Decides.{nat_tests}
 use Rattle.turning_points.specs.Points.{IsBetween}
 use Rattle.turning_points.specs.Pairs.{range}
-use Rattle.turning_points.specs.EndPoints.{EndPoints, ends_of, IsTurn, IsEnds, put}
+use Rattle.turning_points.specs.EndPoints.{EndPoints, ends_of, IsTurn, IsEnds, ends_prepend}
 use Rattle.turning_points.proofs.Zigzag.{Added, first, equal, second, turn, between, Turn}
 use Rattle.tables.specs.Tables.{raise, lower, is_at}
 use Rattle.simple_counts.specs.Simple.{Agrees, decide, mark, decided_at}
@@ -79,14 +79,14 @@ module _ (K r x A B : ℕ) (a : ℕ → ℕ) (e : EndPoints) (d m : List ℕ) (i
       }
 
   agrees_between : 2 ≤ e.points → IsBetween x e.first e.second → ((e.points < 3) ⊎ (3 ≤ e.points)) →
-      Agrees A B a (put x e) (decide x e d) (mark r x e m)
+      Agrees A B a (ends_prepend x e) (decide x e d) (mark r x e m)
   agrees_between p b (inl s) =
       let q : e.points ≡ 2 = omega arith in
       agrees_to _ _ _ (put_two x e q b) (decide_two x e d q b) (mark_passed r x e m b)
       (record { sum_of = g.sum_of; first = λ s. absurd (omega arith); above = g.above; few = g.few })
   agrees_between p b (inr s) = agrees_to _ _ _ (put_passed x e s b) (decide_passed x e d s b) (mark_passed r x e m b) (agrees_passed s b)
 
-  agrees_case : PutCase x e → Agrees A B a (put x e) (decide x e d) (mark r x e m)
+  agrees_case : PutCase x e → Agrees A B a (ends_prepend x e) (decide x e d) (mark r x e m)
   agrees_case (at_none p) =
       let q : e.points < 2 = omega arith in
       agrees_to _ _ _ (put_none x e p) (decide_short x e d q) (mark_short r x e m q)
@@ -99,7 +99,7 @@ module _ (K r x A B : ℕ) (a : ℕ → ℕ) (e : EndPoints) (d m : List ℕ) (i
   agrees_case (at_turn p t) = agrees_to _ _ _ (put_turn x e p t) (decide_turn x e d p t) (mark_turn r x e m p t) (agrees_turn p t)
   agrees_case (at_passed p b) = agrees_between p b (cases_lt e.points 3)
 
-  pub put_agrees : Agrees A B a (put x e) (decide x e d) (mark r x e m)
+  pub put_agrees : Agrees A B a (ends_prepend x e) (decide x e d) (mark r x e m)
   put_agrees = agrees_case (case_of K x e i)
 
 length_mark : (m : List ℕ) (b : Bool) (j : ℕ) → length (cond b (raise m j) m) ≡ length m

@@ -1,8 +1,8 @@
 -- After the first of the two levels was put before.
 use Rattle.std.proofs.Common.{◌≡◌, ℕ, ◌+◌, ◌-◌, ◌^◌, ◌<◌, ◌≤◌, cond, leb, ◌&&◌, List, length, get_or, sum, refl, sym, ap, ◌∙◌, subst, arith}
 use Rattle.turning_points.specs.Pairs.{range}
-use Rattle.turning_points.specs.EndPoints.{EndPoints, IsEnds, put, meets, ends_push}
-use Rattle.tables.specs.Tables.{added as both, raise}
+use Rattle.turning_points.specs.EndPoints.{EndPoints, IsEnds, ends_prepend, meets, ends_push}
+use Rattle.tables.specs.Tables.{sum_of_tables as both, raise}
 use Rattle.simple_counts.proofs.Joined.{joined_counted}
 use Rattle.simple_counts.proofs.Pushed.{pushed_counted}
 use Rattle.simple_counts.specs.Simple.{SimpleValue, IsSimple, Agrees, none_at, decide, mark, decide_join, mark_join, turns_at}
@@ -23,7 +23,7 @@ pub record Stage (e : EndPoints) (d m : List ℕ) : Type 0 where
 
 pub stage : (r x : ℕ) (e e' : EndPoints) (d m d' m' : List ℕ) → IsEnds (length d) e → x < length d → length m ≡ length d →
     (3 ≤ e.points → 1 ≤ get_or d (range e.first e.second) 0) → e.points - 2 ≤ sum d → e.points < 2 ^ 61 → sum d < 2 ^ 61 → sum m < 2 ^ 61 →
-    e' ≡ put x e → d' ≡ decide x e d → m' ≡ mark r x e m → Stage e' d' m'
+    e' ≡ ends_prepend x e → d' ≡ decide x e d → m' ≡ mark r x e m → Stage e' d' m'
 stage r x e e' d m d' m' i h l f n p sd sm q s t =
     let a : Agrees (sum d - (e.points - 2)) (sum m) none_at e d m = record
     { sum_of = omega arith; first = λ w. omega (arith, f w); above = λ k. omega arith; few = omega arith } in
@@ -38,7 +38,7 @@ stage r x e e' d m d' m' i h l f n p sd sm q s t =
       ends = subst (λ w. IsEnds w e') (sym ld) (subst (IsEnds (length d)) (sym q) j);
       ends_again = subst (λ w. IsEnds w e') (sym lm) (subst (IsEnds (length d)) (sym q) j);
       first = subst (λ w. 3 ≤ w.points → 1 ≤ get_or d' (range w.first w.second) 0) (sym q)
-          (subst (λ w. 3 ≤ (put x e).points → 1 ≤ get_or w (range (put x e).first (put x e).second) 0) (sym s)
+          (subst (λ w. 3 ≤ (ends_prepend x e).points → 1 ≤ get_or w (range (ends_prepend x e).first (ends_prepend x e).second) 0) (sym s)
           (λ w. omega (arith, g.first w)));
       room = λ k. omega (arith, get_or-le-sum d' k, g.sum_of, b);
       space = λ k. omega (arith, get_or-le-sum m' k, g.few, b);

@@ -2,7 +2,7 @@
 use Rattle.std.proofs.Common.{◌≡◌, ◌≢◌, ℕ, ◌<◌, ◌≤◌, ◌⊎◌, inl, inr, List, set, get_or, ap, ◌∙◌, arith, get_or-set_other}
 use Rattle.std.proofs.lemmas.Bool.{cases_lt}
 use Rattle.turning_points.specs.Pairs.{range}
-use Rattle.turning_points.specs.EndPoints.{EndPoints, IsEnds, put}
+use Rattle.turning_points.specs.EndPoints.{EndPoints, IsEnds, ends_prepend}
 use Rattle.turning_points.proofs.Put.{PutCase, at_none, at_equal, at_second, at_turn, at_passed}
 use Rattle.turning_points.proofs.PutEnds.{case_of, put_ends, turn_differs, between_differs}
 use Rattle.turning_points.proofs.MeetEnds.{Left, left_zero, left_one, left_two, left_long, left_of}
@@ -43,7 +43,7 @@ module _ (K : ℕ) (e f : EndPoints) (d : List ℕ) (i : IsEnds K e) (j : IsEnds
   zero_more : 2 ≤ e.points → get_or (decide_join e f d) 0 0 ≡ 0
   zero_more h =
       ap (λ l. get_or l 0 0) (decide_join_more e f d h)
-      ∙ zero_decide K e.before (put e.last f) (decide e.last f d) (put_ends K e.last f j i.below.3) (zero_decide K e.last f d j z)
+      ∙ zero_decide K e.before (ends_prepend e.last f) (decide e.last f d) (put_ends K e.last f j i.below.3) (zero_decide K e.last f d j z)
 
   zero_by : Left e.points → get_or (decide_join e f d) 0 0 ≡ 0
   zero_by (left_zero h) = ap (λ l. get_or l 0 0) (decide_join_zero e f d h) ∙ z

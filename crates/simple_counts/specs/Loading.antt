@@ -7,7 +7,7 @@ use Rattle.std.specs.Prelude.{◌≡◌, ◌≤◌, ℕ, ◌+◌, ◌-◌, nat_l
 use Rattle.tally.specs.declared.cells.Bin.{Bin}
 use Rattle.turning_points.specs.Pairs.{range}
 use Rattle.turning_points.specs.EndPoints.{EndPoints, IsEnds}
-use Rattle.tables.specs.Tables.{filled, lower}
+use Rattle.tables.specs.Tables.{table_with_bins, lower}
 use Rattle.tables.specs.Bins.{AreBinsFrom, count_at, sum_of}
 use Rattle.simple_counts.specs.Simple.{SimpleValue}
 use Rattle.turning_points.specs.declared.ends.TheConstants.{MAX_POINTS}
@@ -36,8 +36,8 @@ pub record CanLoad (classes reference : ℕ) (e : EndPoints) (peaks valleys rang
 
 -- the ranges but the last one
 abbrev pub decided_of : ℕ → EndPoints → List Bin → List ℕ
-decided_of k e ranges = if nat_le 2 e.points then lower (filled 0 (replicate k 0) ranges) (last_range e)
-    else filled 0 (replicate k 0) ranges
+decided_of k e ranges = if nat_le 2 e.points then lower (table_with_bins 0 (replicate k 0) ranges) (last_range e)
+    else table_with_bins 0 (replicate k 0) ranges
 
 abbrev pub loaded_of : ℕ → ℕ → EndPoints → List Bin → List Bin → List Bin → SimpleValue
 loaded_of classes reference e peaks valleys ranges = record {
@@ -45,5 +45,5 @@ loaded_of classes reference e peaks valleys ranges = record {
   reference = reference;
   ends = e;
   decided = decided_of classes e ranges;
-  extremes = filled 0 (filled 0 (replicate classes 0) valleys) peaks;
+  extremes = table_with_bins 0 (table_with_bins 0 (replicate classes 0) valleys) peaks;
 }

@@ -12,9 +12,9 @@
 use Rattle.std.specs.Prelude.{◌≡◌, ℕ, ◌+◌, ◌-◌, ◌<◌, ◌≤◌, Bool, ◌&&◌, ◌||◌, nat_lt, nat_le, ◌==◌, if◌then◌else◌, List, [], ◌∷◌, length, slice_index, sum, take, replicate}
 use Rattle.turning_points.specs.Points.{is_turn, points}
 use Rattle.turning_points.specs.Pairs.{range}
-use Rattle.turning_points.specs.EndPoints.{EndPoints, IsEnds, ends_of, ends_push, meets, no_ends, put}
+use Rattle.turning_points.specs.EndPoints.{EndPoints, IsEnds, ends_of, ends_push, meets, no_ends, ends_prepend}
 use Rattle.level_crossing.specs.Extremes.{extremes_at, is_extreme, triples}
-use Rattle.tables.specs.Tables.{added, is_at, lower, raise}
+use Rattle.tables.specs.Tables.{sum_of_tables, is_at, lower, raise}
 use Rattle.calibration.specs.declared.grid.TheConstants.{MIN_CLASSES, MAX_CLASSES}
 use Rattle.turning_points.specs.declared.ends.TheConstants.{MAX_POINTS}
 
@@ -105,19 +105,19 @@ mark r x e t =
 -- the tables of two parts, one after the other, where d and m are those of both added
 abbrev pub decide_join : EndPoints → EndPoints → List ℕ → List ℕ
 decide_join e f d = if e.points == 0 then d else if e.points == 1 then decide e.last f d
-    else decide e.before (put e.last f) (decide e.last f d)
+    else decide e.before (ends_prepend e.last f) (decide e.last f d)
 
 abbrev pub mark_join : ℕ → EndPoints → EndPoints → List ℕ → List ℕ
 mark_join r e f m = if e.points == 0 then m else if e.points == 1 then mark r e.last f m
-    else mark r e.before (put e.last f) (mark r e.last f m)
+    else mark r e.before (ends_prepend e.last f) (mark r e.last f m)
 
 abbrev pub join_of : SimpleValue → SimpleValue → SimpleValue
 join_of s t = record {
   classes = s.classes;
   reference = s.reference;
   ends = meets s.ends t.ends;
-  decided = decide_join s.ends t.ends (added s.decided t.decided);
-  extremes = mark_join s.reference s.ends t.ends (added s.extremes t.extremes);
+  decided = decide_join s.ends t.ends (sum_of_tables s.decided t.decided);
+  extremes = mark_join s.reference s.ends t.ends (sum_of_tables s.extremes t.extremes);
 }
 
 abbrev pub turns_at : ℕ → EndPoints → Bool

@@ -1,10 +1,10 @@
 ghost use Rattle.std.specs.Prelude.{All, List, [], ◌∷◌, ◌++◌, ◌+◌, ◌-◌, ◌<◌, ◌≡◌, ◌≤◌, ◌^◌, ◌↔◌, nat_le, length, slice_index, sum, IfOk, IsTrue, ◌&&◌, ℕ, replicate};
 ghost use Rattle.turning_points.specs.Points.{is_turn, points};
 ghost use Rattle.turning_points.specs.Pairs.{range};
-ghost use Rattle.turning_points.specs.EndPoints.{IsEnds, ends_of, ends_push, meets, no_ends, put};
+ghost use Rattle.turning_points.specs.EndPoints.{IsEnds, ends_of, ends_push, meets, no_ends, ends_prepend};
 ghost use Rattle.turning_points.specs.Ends.{end_points};
 ghost use Rattle.level_crossing.specs.Crossings.{Crosses, CrossesPoints, IsCrossings, no_crossings};
-ghost use Rattle.tables.specs.Tables.{filled, raise};
+ghost use Rattle.tables.specs.Tables.{table_with_bins, raise};
 ghost use Rattle.tables.specs.Bins.{count_at};
 ghost use Rattle.simple_counts.specs.Loading.{CanLoad, decided_of, last_range, loaded_of};
 ghost use Rattle.simple_counts.specs.Simple.{Agrees, SimpleValue, Counts, IsSimple, decide, decide_join, join_of, mark, mark_join, none_at, nothing, peak_count, peaks_at, push_of, range_count, ranges_at, turns_at, valley_count, valleys_at};
@@ -201,7 +201,7 @@ fn decides_extreme(reference: u16, level: u16, e: &Ends) -> bool
 fn load_ranges(table: &mut Vec<u64>, ends: &Ends, ranges: &[Bin])
     requires within { All (λ b. b.key + 0 < length table.old.items) ranges.now }
     requires last { 2 ≤ ends.now.points →
-        1 ≤ slice_index (filled 0 (replicate (length table.old.items) 0) ranges.now)
+        1 ≤ slice_index (table_with_bins 0 (replicate (length table.old.items) 0) ranges.now)
         (last_range (end_points ends.now)) }
     requires below { last_range (end_points ends.now) < length table.old.items }
     ensures { table.new.items ≡
@@ -218,7 +218,8 @@ fn load_extremes(table: &mut Vec<u64>, peaks: &[Bin], valleys: &[Bin])
     requires peaks { All (λ b. b.key + 0 < length table.old.items) peaks.now }
     requires valleys { All (λ b. b.key + 0 < length table.old.items) valleys.now }
     ensures { table.new.items ≡
-        filled 0 (filled 0 (replicate (length table.old.items) 0) valleys.now) peaks.now }
+        table_with_bins 0 (table_with_bins 0 (replicate (length table.old.items) 0) valleys.now)
+        peaks.now }
 {
     empty(table);
     fill_bins(table, 0, valleys);

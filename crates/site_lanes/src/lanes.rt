@@ -21,7 +21,7 @@ ghost use Rattle.outside.specs.Site.{Asks};
 ghost use Rattle.lane_loans.specs.Lent.{CanRound};
 ghost use Rattle.segment_store.specs.Held.{ends_of};
 ghost use Rattle.site_config.specs.Valid.{IsConfig, file_of};
-ghost use Rattle.recorded.specs.Recorded.{recorded};
+ghost use Rattle.recorded.specs.Recorded.{recordings};
 ghost use Rattle.recorded.specs.Asked.{AsksFirst, file_names};
 ghost use Rattle.site_lanes.specs.Lanes.{IsLane, AreLanes, AreHeldTo, HasSource, IsNew};
 ghost use Rattle.site_lanes.specs.Answers.{IsOpening, GaugeAnswers, OpenAnswers};
@@ -58,7 +58,7 @@ fn open_lane<T: Site>(
     requires heads { length store.now.head.heads ≡ length conf.now.gauges }
     requires few { T.out site.old < MAX_SOURCES_OUT }
     ensures lane { T.tells → IfOk result (IsLane T.Src.tells T.Src.left
-        (recorded conf.now (T.files site.old)) gauge) }
+        (recordings conf.now (T.files site.old)) gauge) }
     ensures held { IfOk result (λ l. CanRound gauge l
         × (slice_index (ends_of store.now.held) gauge ≡ l.at)) }
     ensures source { IfOk result HasSource }
@@ -116,7 +116,7 @@ pub fn open_lanes<T: Site>(
     requires room { length conf.now.gauges ≤ vec_capacity lanes.old }
     ensures all { OnOk result (vec_len lanes.new ≡ length conf.now.gauges) }
     ensures lanes { T.tells → AreLanes T.Src.tells T.Src.left
-        (recorded conf.now (T.files site.old)) lanes.new.items }
+        (recordings conf.now (T.files site.old)) lanes.new.items }
     ensures held { AreHeldTo (ends_of store.now.held) lanes.new.items }
     ensures sources { All HasSource lanes.new.items }
     ensures new { All IsNew lanes.new.items }

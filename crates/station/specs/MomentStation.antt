@@ -4,7 +4,7 @@
 --   IsCounted      a call was made
 --   content_of, lines_told, LeavesImage    what a read gives, the told lines, what a crash may leave
 use Rattle.std.specs.Prelude.{◌≡◌, ◌≤◌, ◌+◌, ℕ, List, length, Result, OnOk, OnErr, IsErr, Contains}
-use Rattle.outside.specs.Fault.{raised}
+use Rattle.outside.specs.Fault.{next_count}
 use Rattle.station.specs.declared.moment_station.MomentStation.{MomentStation}
 use Rattle.station.specs.Station.{Image, Lines}
 use Rattle.station.specs.Calls.{Past, disk, told_lines, MayLeave}
@@ -28,7 +28,7 @@ pub record IsCounted {T E : Type 0} (old new : StationState) (result : Result T 
   pub no_more : length new.past.calls ≤ length old.past.calls + 1
   pub by_number : Contains old.failing (length old.past.calls) → IsErr result
   pub no_fault : OnOk result (new.faults ≡ old.faults)
-  pub fault : OnErr result (new.faults ≡ raised old.faults)
+  pub fault : OnErr result (new.faults ≡ next_count old.faults)
 
 -- what a read gives
 abbrev pub content_of : MomentStation → Image

@@ -1,5 +1,5 @@
 ghost use Rattle.std.specs.Prelude.{◌≡◌, ◌≤◌, ◌<◌, ◌+◌, ◌^◌, [], length, slice_range, IfOk, OnOk, OnErr, IsErr, IsTrue, Contains, ◌↔◌};
-ghost use Rattle.outside.specs.Fault.{HasCause, raised};
+ghost use Rattle.outside.specs.Fault.{HasCause, next_count};
 ghost use Rattle.station.specs.Station.{Overwrites, IsTornWrite, Follows, Only, SameImages, NoNew, Tells};
 ghost use Rattle.station.specs.Calls.{disk, told_lines, bytes_of, first_calls, MayLeave, HadMoment, Passes};
 ghost use Rattle.station.specs.Moments.{may_leave-seen, had_moment-now, had_moment-only};
@@ -79,7 +79,7 @@ impl MomentStation {
         ensures failed { IsErr result }
         ensures recorder { self.new.recorder ≡ self.old.recorder }
         ensures failing { self.new.failing.items ≡ self.old.failing.items }
-        ensures raised { self.new.faults ≡ raised self.old.faults }
+        ensures raised { self.new.faults ≡ next_count self.old.faults }
         ensures cause { HasCause self.old.faults self.new.faults result }
     {
         self.faults = self.faults.saturating_add(1);

@@ -24,7 +24,7 @@ use Rattle.store_head.specs.declared.fault.HeadFault.{HeadFault}
 use Rattle.calibration.specs.declared.setup.Setup.{Setup}
 use Rattle.recording.specs.Head.{IsRecorded}
 use Rattle.store_head.specs.Head.{IsSetup, version_of, front, numbers, gauge}
-use Rattle.store_head.specs.Judging.{number, signed_number, differs, is_version, layout_of, front_fault, gauge_fault, recorded}
+use Rattle.store_head.specs.Judging.{number, signed_number, differs, is_version, layout_of, front_fault, gauge_fault, recording_in}
 
 -- ---- tests
 
@@ -220,7 +220,7 @@ is_front l s size i narrow le =
 
 -- ---- a gauge
 
-pub gauge_is : (g : ℕ) (x : GainValue) (b : List ℕ) → length b ≡ 40 → IsBytes b → gauge_fault g x b ≡ None → b ≡ gauge (recorded b) x
+pub gauge_is : (g : ℕ) (x : GainValue) (b : List ℕ) → length b ≡ 40 → IsBytes b → gauge_fault g x b ≡ None → b ≡ gauge (recording_in b) x
 gauge_is g x b long fits none =
     let a = both_none _ _ none in
     let d = both_none _ _ a.1 in
@@ -247,7 +247,7 @@ head_made : (i j : List ℕ) (p q : ℕ) → i ≡ j → p ≡ q → made i p �
 head_made i j p q e f = ap (λ (l : List ℕ). made l p) e ∙ ap (made j) f
 
 pub is_gauge : (g : ℕ) (h : Head) (x : GainValue) → IsRecorded h → IsGain x
-    → (gauge_fault g x (gauge h x) ≡ None) × (recorded (gauge h x) ≡ h)
+    → (gauge_fault g x (gauge h x) ≡ None) × (recording_in (gauge h x) ≡ h)
 is_gauge g h x r i =
     let b = numbers h x in
     let num : signed_number 20 (gauge h x) ≡ x.num = ap (λ (l : List ℕ). cast_signed w64 (from_be_bytes w64 l)) (behind h.id b 4 12 r.id)

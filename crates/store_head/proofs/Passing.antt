@@ -10,7 +10,7 @@ use Rattle.segment_bytes.specs.declared.layout.Layout.{Layout}
 use Rattle.segment_bytes.specs.declared.layout.Layout.TheVariants.{One, Two}
 use Rattle.recording.specs.Head.{IsRecorded}
 use Rattle.store_head.specs.Head.{HeadValue, IsHead, version_of, front, numbers, gauge, gauges, head_of, start_of}
-use Rattle.store_head.specs.Judging.{front_fault, gauge_fault, gauge_at, gauges_fault, head_fault, layout_in, recorded}
+use Rattle.store_head.specs.Judging.{front_fault, gauge_fault, gauge_at, gauges_fault, head_fault, layout_in, recording_in}
 use Rattle.lemmas.proofs.Outcomes.{none_both}
 use Rattle.segment_rules.proofs.Chosen.{kept_none}
 use Rattle.store_head.proofs.Judged.{is_front, is_gauge}
@@ -98,7 +98,7 @@ heads_told (h ∷ hs) (h2 ∷ hs2) (x ∷ gs) t t2 e e2 r r2 i same =
     let rest : gauges hs gs ++ t ≡ gauges hs2 gs ++ t2 =
     sym (drop_at (gauge h x) (gauges hs gs ++ t) 40 long) ∙ ap (drop 40) grouped
     ∙ drop_at (gauge h2 x) (gauges hs2 gs ++ t2) 40 long2 in
-    let first : h ≡ h2 = sym (is_gauge 0 h x rh ix).1 ∙ ap recorded one ∙ (is_gauge 0 h2 x rh2 ix).1 in
+    let first : h ≡ h2 = sym (is_gauge 0 h x rh ix).1 ∙ ap recording_in one ∙ (is_gauge 0 h2 x rh2 ix).1 in
     let others = heads_told hs hs2 gs t t2 (omega (arith, e)) (omega (arith, e2)) (All-tail IsRecorded h hs r)
     (All-tail IsRecorded h2 hs2 r2)
     (All-tail IsGain x gs i) rest in

@@ -87,5 +87,5 @@ abbrev pub head_fault : Setup → List ℕ → Option HeadFault
 head_fault s image = option_or (start_fault s image) (gauges_fault 0 s.gains image)
 
 -- the recording that a gauge's bytes name
-abbrev pub recorded : List ℕ → Head
-recorded b = record { id = take 16 b; period_us = number w32 16 b }
+abbrev pub recording_in : List ℕ → Head
+recording_in b = record { id = take 16 b; period_us = number w32 16 b }

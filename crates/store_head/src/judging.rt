@@ -10,7 +10,7 @@ ghost use Rattle.store_head.specs.Judging.{
   is_version as is_version_in,
   is_whole as is_whole_in,
   layout_of as layout_in,
-  recorded as recorded_in,
+  recording_in as recorded_in,
 };
 ghost use Rattle.calibration.specs.declared.limits.TheConstants.{MAX_GAUGES};
 

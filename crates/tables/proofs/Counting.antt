@@ -5,7 +5,7 @@ use Rattle.std.proofs.lemmas.Bool.{cases_eq}
 use Rattle.std.proofs.lemmas.Bool.Decides.{nat_tests}
 use Rattle.std.proofs.lemmas.List.Sums.{sum_by-cons}
 use Rattle.std.proofs.lemmas.List.{set-get_or}
-use Rattle.tables.specs.Tables.{raise, lower, added, is_at}
+use Rattle.tables.specs.Tables.{raise, lower, sum_of_tables, is_at}
 
 pub sum_cons : (x : ℕ) (t : List ℕ) → sum (x ∷ t) ≡ x + sum t
 sum_cons x t = sum_by-cons (λ y. y) x t
@@ -43,20 +43,20 @@ sum_lower [] i h m = absurd (omega arith)
 sum_lower (x ∷ t) zero h m = omega (arith, sum_cons (x - 1) t, sum_cons x t)
 sum_lower (x ∷ t) (suc i) h m = omega (arith, sum_cons x (lower t i), sum_cons x t, sum_lower t i (omega arith) m)
 
-pub added_at : (s t : List ℕ) (k : ℕ) → length s ≡ length t → get_or (added s t) k 0 ≡ get_or s k 0 + get_or t k 0
+pub added_at : (s t : List ℕ) (k : ℕ) → length s ≡ length t → get_or (sum_of_tables s t) k 0 ≡ get_or s k 0 + get_or t k 0
 added_at [] [] k h = refl
 added_at [] (y ∷ t) k h = absurd (omega arith)
 added_at (x ∷ s) [] k h = absurd (omega arith)
 added_at (x ∷ s) (y ∷ t) zero h = refl
 added_at (x ∷ s) (y ∷ t) (suc k) h = added_at s t k (omega arith)
 
-pub sum_added : (s t : List ℕ) → length s ≡ length t → sum (added s t) ≡ sum s + sum t
+pub sum_added : (s t : List ℕ) → length s ≡ length t → sum (sum_of_tables s t) ≡ sum s + sum t
 sum_added [] [] h = refl
 sum_added [] (y ∷ t) h = absurd (omega arith)
 sum_added (x ∷ s) [] h = absurd (omega arith)
-sum_added (x ∷ s) (y ∷ t) h = omega (arith, sum_cons (x + y) (added s t), sum_cons x s, sum_cons y t, sum_added s t (omega arith))
+sum_added (x ∷ s) (y ∷ t) h = omega (arith, sum_cons (x + y) (sum_of_tables s t), sum_cons x s, sum_cons y t, sum_added s t (omega arith))
 
-pub length_added : (s t : List ℕ) → length (added s t) ≡ length s
+pub length_added : (s t : List ℕ) → length (sum_of_tables s t) ≡ length s
 length_added [] t = refl
 length_added (x ∷ s) [] = refl
 length_added (x ∷ s) (y ∷ t) = ap suc (length_added s t)

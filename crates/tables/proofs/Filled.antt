@@ -9,7 +9,7 @@ use Rattle.std.proofs.lemmas.List.Sums.{sum_by-set, sum_by-cons}
 use Rattle.tally.specs.declared.cells.Bin.{Bin}
 use Rattle.lemmas.proofs.Lists.{get_or-zeros}
 use Rattle.tables.specs.Bins.{AreBinsFrom, count_at, sum_of}
-use Rattle.tables.specs.Tables.{filled}
+use Rattle.tables.specs.Tables.{table_with_bins}
 
 -- what stands at a place of an empty table when it is filled
 abbrev pub placed : ℕ → ℕ → List Bin → ℕ
@@ -41,7 +41,7 @@ filled_step by from p t b bs x w z none h (inr n) =
     omega (arith, h, s, pass (placed by p bs) p (b.key + by) b.n n)
 
 pub filled_at : (by from to : ℕ) (t : List ℕ) (bs : List Bin) → AreBinsFrom from to bs → to + by ≤ length t →
-    ((p : ℕ) → from + by ≤ p → get_or t p 0 ≡ 0) → (p : ℕ) → get_or (filled by t bs) p 0 ≡ get_or t p 0 + placed by p bs
+    ((p : ℕ) → from + by ≤ p → get_or t p 0 ≡ 0) → (p : ℕ) → get_or (table_with_bins by t bs) p 0 ≡ get_or t p 0 + placed by p bs
 filled_at by from to t [] a w z p = omega arith
 filled_at by from to t (b ∷ bs) a w z p =
     let long = length-set t (b.key + by) b.n in
@@ -53,7 +53,7 @@ filled_at by from to t (b ∷ bs) a w z p =
     (omega (arith, long, w)) zeros p) (cases_eq p (b.key + by))
 
 pub filled_sum : (by from to : ℕ) (t : List ℕ) (bs : List Bin) → AreBinsFrom from to bs → to + by ≤ length t →
-    ((p : ℕ) → from + by ≤ p → get_or t p 0 ≡ 0) → sum (filled by t bs) ≡ sum t + sum_of bs
+    ((p : ℕ) → from + by ≤ p → get_or t p 0 ≡ 0) → sum (table_with_bins by t bs) ≡ sum t + sum_of bs
 filled_sum by from to t [] a w z = omega arith
 filled_sum by from to t (b ∷ bs) a w z =
     let long = length-set t (b.key + by) b.n in
@@ -71,7 +71,7 @@ filled_sum by from to t (b ∷ bs) a w z =
       sum_by-cons (λ b. b.n) b bs,
     )
 
-pub filled_long : (by : ℕ) (t : List ℕ) (bs : List Bin) → length (filled by t bs) ≡ length t
+pub filled_long : (by : ℕ) (t : List ℕ) (bs : List Bin) → length (table_with_bins by t bs) ≡ length t
 filled_long by t [] = refl
 filled_long by t (b ∷ bs) = filled_long by (set t (b.key + by) b.n) bs ∙ length-set t (b.key + by) b.n
 
@@ -93,7 +93,7 @@ placed_counts k (b ∷ bs) =
     ap (λ q. cond (eqb k q) b.n (placed 0 k bs)) e ∙ ap (λ c. cond (eqb k b.key) b.n c) (placed_counts k bs)
 
 pub table_at : (from to n : ℕ) (bs : List Bin) → AreBinsFrom from to bs → to ≤ n → (k : ℕ) →
-    get_or (filled 0 (replicate n 0) bs) k 0 ≡ count_at k bs
+    get_or (table_with_bins 0 (replicate n 0) bs) k 0 ≡ count_at k bs
 table_at from to n bs a w k =
     let l = length-replicate {A = ℕ} n 0 in
     omega (
@@ -103,12 +103,12 @@ table_at from to n bs a w k =
       placed_counts k bs,
     )
 
-pub table_sum : (from to n : ℕ) (bs : List Bin) → AreBinsFrom from to bs → to ≤ n → sum (filled 0 (replicate n 0) bs) ≡ sum_of bs
+pub table_sum : (from to n : ℕ) (bs : List Bin) → AreBinsFrom from to bs → to ≤ n → sum (table_with_bins 0 (replicate n 0) bs) ≡ sum_of bs
 table_sum from to n bs a w =
     let l = length-replicate {A = ℕ} n 0 in
     omega (arith, filled_sum 0 from to (replicate n 0) bs a (omega (arith, l, w)) (λ p h. get_or-zeros n p), zeros_sum n)
 
-pub table_long : (by n : ℕ) (bs : List Bin) → length (filled by (replicate n 0) bs) ≡ n
+pub table_long : (by n : ℕ) (bs : List Bin) → length (table_with_bins by (replicate n 0) bs) ≡ n
 table_long by n bs = filled_long by (replicate n 0) bs ∙ length-replicate {A = ℕ} n 0
 
 -- nothing is counted outside the keys

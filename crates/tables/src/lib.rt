@@ -4,7 +4,7 @@
 //! the clauses of a caller speak of the items of its fields.
 #![tactic(auto)]
 
-ghost use Rattle.tables.specs.Tables.{added, filled, lower, raise};
+ghost use Rattle.tables.specs.Tables.{sum_of_tables, table_with_bins, lower, raise};
 ghost use Rattle.std.specs.Prelude.{All, Bool, if◌then◌else◌, slice_index, length, replicate, sum, ◌+◌, ◌<◌, ◌≡◌, ◌≤◌, ◌^◌, ℕ};
 
 use tally::Bin;
@@ -31,7 +31,7 @@ pub fn lower(table: &mut [u64], place: usize)
 pub fn add_all(left: &mut [u64], right: &[u64])
     requires same { length left.old ≡ length right.now }
     requires room { (k : ℕ) → slice_index left.old k + slice_index right.now k < 2 ^ 63 }
-    ensures { left.new ≡ added left.old right.now }
+    ensures { left.new ≡ sum_of_tables left.old right.now }
 {
     for i in 0..left.len() {
         left[i] += right[i];
@@ -42,7 +42,7 @@ pub fn add_all(left: &mut [u64], right: &[u64])
 pub fn add_to(left: &mut Vec<u64>, right: &[u64])
     requires same { length left.old.items ≡ length right.now }
     requires room { (k : ℕ) → slice_index left.old.items k + slice_index right.now k < 2 ^ 63 }
-    ensures { left.new.items ≡ added left.old.items right.now }
+    ensures { left.new.items ≡ sum_of_tables left.old.items right.now }
 {
     add_all(left, right);
 }
@@ -83,7 +83,7 @@ pub fn add_if(table: &mut [u64], place: usize, yes: bool)
 /// Puts the count of each bin at its key's place, so many places further on.
 pub fn fill(table: &mut Vec<u64>, by: u16, bins: &[Bin])
     requires { All (λ b. b.key + by < length table.old.items) bins.now }
-    ensures filled { table.new.items ≡ filled by table.old.items bins.now }
+    ensures filled { table.new.items ≡ table_with_bins by table.old.items bins.now }
     ensures long { length table.new.items ≡ length table.old.items }
 {
     for bin in bins {

@@ -6,7 +6,7 @@ use Rattle.std.specs.Prelude.{All}
 use Rattle.std.proofs.lemmas.List.Elements.{All-nil, All-cons, All-head, All-tail}
 use Rattle.lemmas.proofs.Lists.{All-behind}
 use Rattle.turning_points.specs.Points.{points}
-use Rattle.turning_points.specs.Turned.{but_last, decided, HasGiven}
+use Rattle.turning_points.specs.Turned.{but_last, decided_points, HasGiven}
 use Rattle.turning_points.specs.declared.turner.Recent.{Recent}
 use Rattle.turning_points.proofs.Levels.{All-points, length-points}
 
@@ -15,7 +15,7 @@ All-but_last P [] a = All-nil P
 All-but_last P (x ∷ []) a = All-nil P
 All-but_last P (x ∷ y ∷ l) a = All-cons P x (but_last (y ∷ l)) (All-head P x (y ∷ l) a) (All-but_last P (y ∷ l) (All-tail P x (y ∷ l) a))
 
-All-decided : (P : ℕ → Type 0) (l : List ℕ) → All P l → All P (decided l)
+All-decided : (P : ℕ → Type 0) (l : List ℕ) → All P l → All P (decided_points l)
 All-decided P [] a = All-nil P
 All-decided P (x ∷ []) a = a
 All-decided P (x ∷ y ∷ l) a = All-cons P x (but_last (y ∷ l)) (All-head P x (y ∷ l) a) (All-but_last P (y ∷ l) (All-tail P x (y ∷ l) a))
@@ -25,10 +25,10 @@ length-but_last [] = omega arith
 length-but_last (x ∷ []) = omega arith
 length-but_last (x ∷ y ∷ l) = omega (arith, length-but_last (y ∷ l))
 
-length-decided : (l : List ℕ) → length (decided l) ≤ length l
-length-decided [] = omega arith
-length-decided (x ∷ []) = omega arith
-length-decided (x ∷ y ∷ l) = omega (arith, length-but_last (y ∷ l))
+length-decided_points : (l : List ℕ) → length (decided_points l) ≤ length l
+length-decided_points [] = omega arith
+length-decided_points (x ∷ []) = omega arith
+length-decided_points (x ∷ y ∷ l) = omega (arith, length-but_last (y ∷ l))
 
 pub All-given : (P : ℕ → Type 0) {h given : List ℕ} {kept : Recent} → All P h → HasGiven h given kept → All P given
 All-given P {h} a t = subst (All P) (sym t.given_are) (All-decided P (points h) (All-points P h a))
@@ -38,4 +38,5 @@ pub All-next_given : (P : ℕ → Type 0) {h : List ℕ} (given more : List ℕ)
 All-next_given P given more a t = All-behind P given more (All-given P a t)
 
 pub length-given : {h given : List ℕ} {kept : Recent} → HasGiven h given kept → length given ≤ length h
-length-given {h} {given} t = subst (λ l. length l ≤ length h) (sym t.given_are) (omega (arith, length-decided (points h), length-points h))
+length-given {h} {given} t = subst (λ l. length l ≤ length h) (sym t.given_are)
+    (omega (arith, length-decided_points (points h), length-points h))

@@ -9,7 +9,7 @@ use Rattle.std.proofs.lemmas.Bool.Decides.{nat_tests}
 use Rattle.std.proofs.lemmas.List.{take-take, take_all}
 use Rattle.std.proofs.lemmas.Slice.{take-put_mid}
 use Rattle.turning_points.specs.Points.{is_turn, changes, turns, points, IsBetween}
-use Rattle.turning_points.specs.Turned.{decided, recent, HasGiven}
+use Rattle.turning_points.specs.Turned.{decided_points, recent, HasGiven}
 use Rattle.turning_points.specs.Pieces.{last_of, turns_in, recent_of}
 use Rattle.turning_points.specs.declared.turner.Recent.{Recent}
 use Rattle.turning_points.specs.declared.turner.Recent.TheVariants.{Nothing, One, Two}
@@ -160,7 +160,7 @@ side_of_points : (p x : ℕ) → Side p p x
 side_of_points p x = grind arith
 
 turned_same : {h k given : List ℕ} {kept : Recent} → points h ≡ points k → HasGiven h given kept → HasGiven k given kept
-turned_same e t = record { given_are = t.given_are ∙ ap decided e; kept_are = t.kept_are ∙ ap recent e }
+turned_same e t = record { given_are = t.given_are ∙ ap decided_points e; kept_are = t.kept_are ∙ ap recent e }
 
 pub piece : (h given : List ℕ) (p x : ℕ) (l : List ℕ) → HasGiven h given (recent_of p x)
     → HasGiven (h ++ l) (given ++ turns_in p x (changes x l)) (recent_of (last_of p (turns_in p x (changes x l))) (last_of x (changes x l)))

@@ -3,7 +3,7 @@ use Rattle.std.proofs.Common.{◌≡◌, ◌≢◌, ℕ, suc, ◌+◌, ◌<◌, 
 use Rattle.std.proofs.lemmas.Bool.{cases_eq, cases_lt}
 use Rattle.std.proofs.lemmas.Bool.Decides.{nat_tests}
 use Rattle.turning_points.specs.Points.{IsBetween}
-use Rattle.turning_points.specs.EndPoints.{EndPoints, ends_of, last_point, last_but_one, IsTurn, IsEnds, put, meets, ends_push}
+use Rattle.turning_points.specs.EndPoints.{EndPoints, ends_of, last_point, last_but_one, IsTurn, IsEnds, ends_prepend, meets, ends_push}
 use Rattle.turning_points.proofs.Zigzag.{IsZigzag, two, inner, zig_tail, ends_differ}
 use Rattle.turning_points.proofs.Put.{put_equal, put_second, put_turn, put_two, put_first}
 use Rattle.turning_points.proofs.PutEnds.{case_of}
@@ -12,10 +12,10 @@ use Rattle.turning_points.proofs.MeetEnds.{Left as Parted, left_zero, left_one, 
 abbrev pub one : ℕ → EndPoints
 one x = record { points = 1; first = x; second = 0; before = 0; last = x }
 
-put_one_same : (x p : ℕ) → p ≡ x → put p (one x) ≡ one x
+put_one_same : (x p : ℕ) → p ≡ x → ends_prepend p (one x) ≡ one x
 put_one_same x p e = put_equal p (one x) (omega arith) e
 
-put_one_other : (x p : ℕ) → p ≢ x → put p (one x) ≡ record { points = 2; first = p; second = x; before = p; last = x }
+put_one_other : (x p : ℕ) → p ≢ x → ends_prepend p (one x) ≡ record { points = 2; first = p; second = x; before = p; last = x }
 put_one_other x p n = put_second p (one x) refl n
 
 data PushCase (x : ℕ) (e : EndPoints) : Type 0 where
@@ -53,17 +53,20 @@ push_case K x e i = pick_none (cases_lt e.points 1)
     pick_none (inr h) = pick_long h (cases_lt e.points 2)
 
 -- what the last two points make of one level more
-twice_same : (x p l : ℕ) → p ≢ l → l ≡ x → put p (put l (one x)) ≡ record { points = 2; first = p; second = x; before = p; last = x }
-twice_same x p l n e = ap (put p) (put_one_same x l e) ∙ put_one_other x p (λ q. n (q ∙ sym e))
+twice_same : (x p l : ℕ) → p ≢ l → l ≡ x → ends_prepend p (ends_prepend l (one x)) ≡
+    record { points = 2; first = p; second = x; before = p; last = x }
+twice_same x p l n e = ap (ends_prepend p) (put_one_same x l e) ∙ put_one_other x p (λ q. n (q ∙ sym e))
 
-twice_turn : (x p l : ℕ) → l ≢ x → IsTurn p l x → put p (put l (one x)) ≡ record { points = 3; first = p; second = l; before = l; last = x }
+twice_turn : (x p l : ℕ) → l ≢ x → IsTurn p l x → ends_prepend p (ends_prepend l (one x)) ≡
+    record { points = 3; first = p; second = l; before = l; last = x }
 twice_turn x p l n t =
-    ap (put p) (put_one_other x l n) ∙ put_turn p (record { points = 2; first = l; second = x; before = l; last = x }) (omega arith) t
+    ap (ends_prepend p) (put_one_other x l n) ∙ put_turn p (record { points = 2; first = l; second = x; before = l; last = x })
+    (omega arith) t
 
 twice_passed : (x p l : ℕ) → l ≢ x → IsBetween p l x →
-    put p (put l (one x)) ≡ record { points = 2; first = p; second = x; before = p; last = x }
+    ends_prepend p (ends_prepend l (one x)) ≡ record { points = 2; first = p; second = x; before = p; last = x }
 twice_passed x p l n t =
-    ap (put p) (put_one_other x l n) ∙ put_two p (record { points = 2; first = l; second = x; before = l; last = x }) refl t
+    ap (ends_prepend p) (put_one_other x l n) ∙ put_two p (record { points = 2; first = l; second = x; before = l; last = x }) refl t
 
 pub five_same : (a b c d e a' b' c' d' e' : ℕ) → a ≡ a' → b ≡ b' → c ≡ c' → d ≡ d' → e ≡ e' →
     ◌≡◌ {A = EndPoints} (record { points = a; first = b; second = c; before = d; last = e })

@@ -3,7 +3,7 @@ use Rattle.std.proofs.Common.{◌≡◌, ◌≢◌, ℕ, zero, suc, ◌+◌, ◌
 use Rattle.std.proofs.lemmas.Bool.{cases_eq, cases_lt}
 use Rattle.std.proofs.lemmas.Bool.Decides.{nat_tests}
 use Rattle.turning_points.specs.Points.{IsBetween}
-use Rattle.turning_points.specs.EndPoints.{EndPoints, IsTurn, put}
+use Rattle.turning_points.specs.EndPoints.{EndPoints, IsTurn, ends_prepend}
 use Rattle.turning_points.proofs.Joining.{put_before, Same}
 
 pub data PutCase (x : ℕ) (e : EndPoints) : Type 0 where
@@ -36,46 +36,48 @@ case_any x e d (inr h) = case_some x e d h (cases_eq x e.first)
 pub put_case : (x : ℕ) (e : EndPoints) → (2 ≤ e.points → e.first ≢ e.second) → PutCase x e
 put_case x e d = case_any x e d (cases_lt e.points 1)
 
-pub put_none : (x : ℕ) (e : EndPoints) → e.points ≡ 0 → put x e ≡ record { points = 1; first = x; second = 0; before = 0; last = x }
+pub put_none : (x : ℕ) (e : EndPoints) → e.points ≡ 0 → ends_prepend x e ≡
+    record { points = 1; first = x; second = 0; before = 0; last = x }
 put_none x e h = grind (arith, nat_tests)
 
-pub put_equal : (x : ℕ) (e : EndPoints) → 1 ≤ e.points → x ≡ e.first → put x e ≡ e
+pub put_equal : (x : ℕ) (e : EndPoints) → 1 ≤ e.points → x ≡ e.first → ends_prepend x e ≡ e
 put_equal x e h q = grind (arith, nat_tests)
 
 pub put_second : (x : ℕ) (e : EndPoints) → e.points ≡ 1 → x ≢ e.first →
-    put x e ≡ record { points = 2; first = x; second = e.first; before = x; last = e.first }
+    ends_prepend x e ≡ record { points = 2; first = x; second = e.first; before = x; last = e.first }
 put_second x e h q = grind (arith, nat_tests)
 
 pub put_turn : (x : ℕ) (e : EndPoints) → 2 ≤ e.points → IsTurn x e.first e.second →
-    put x e ≡ record { points = e.points + 1; first = x; second = e.first; before = e.before; last = e.last }
+    ends_prepend x e ≡ record { points = e.points + 1; first = x; second = e.first; before = e.before; last = e.last }
 put_turn x e h q = grind (arith, nat_tests)
 
 pub put_two : (x : ℕ) (e : EndPoints) → e.points ≡ 2 → IsBetween x e.first e.second →
-    put x e ≡ record { points = e.points; first = x; second = e.second; before = x; last = e.last }
+    ends_prepend x e ≡ record { points = e.points; first = x; second = e.second; before = x; last = e.last }
 put_two x e h q = grind (arith, nat_tests)
 
 pub put_passed : (x : ℕ) (e : EndPoints) → 3 ≤ e.points → IsBetween x e.first e.second →
-    put x e ≡ record { points = e.points; first = x; second = e.second; before = e.before; last = e.last }
+    ends_prepend x e ≡ record { points = e.points; first = x; second = e.second; before = e.before; last = e.last }
 put_passed x e h q = grind (arith, nat_tests)
 
-same_none : (x n a b c d : ℕ) → n ≡ 0 → put x (record { points = n; first = a; second = b; before = c; last = d }) ≡ put_before x n
+same_none : (x n a b c d : ℕ) → n ≡ 0 → ends_prepend x (record { points = n; first = a; second = b; before = c; last = d }) ≡ put_before x n
     (record { points = n; first = a; second = b; before = c; last = d })
 same_none x n a b c d h = rw h refl
 
-pub put_same : (x : ℕ) (e : EndPoints) → put x e ≡ put_before x e.points e
+pub put_same : (x : ℕ) (e : EndPoints) → ends_prepend x e ≡ put_before x e.points e
 put_same x e = put_as x e e.points refl
   where
-    step : (x n : ℕ) (e : EndPoints) → e.points ≡ suc (suc n) → put x e ≡ put_before x (suc (suc n)) e
+    step : (x n : ℕ) (e : EndPoints) → e.points ≡ suc (suc n) → ends_prepend x e ≡ put_before x (suc (suc n)) e
     step x n e h = grind (arith, nat_tests)
 
-    put_as : (x : ℕ) (e : EndPoints) (n : ℕ) → e.points ≡ n → put x e ≡ put_before x n e
+    put_as : (x : ℕ) (e : EndPoints) (n : ℕ) → e.points ≡ n → ends_prepend x e ≡ put_before x n e
     put_as x e zero h = put_none x e h
     put_as x e (suc zero) h = grind (arith, nat_tests)
     put_as x e (suc (suc n)) h = step x n e h
 
 -- the level that was put is the first, and what follows it lies on the side of the one that was first
 pub put_first : (x : ℕ) (e : EndPoints) → PutCase x e →
-    ((put x e).first ≡ x) × (1 ≤ (put x e).points) × (e.points ≤ (put x e).points) × ((put x e).points ≤ e.points + 1)
+    ((ends_prepend x e).first ≡ x) × (1 ≤ (ends_prepend x e).points) × (e.points ≤ (ends_prepend x e).points)
+    × ((ends_prepend x e).points ≤ e.points + 1)
 put_first x e (at_none p) =
     let q = ap (λ g. g.points) (put_none x e p) in (ap (λ g. g.first) (put_none x e p), omega arith, omega arith, omega arith)
 put_first x e (at_equal p q) =
@@ -87,7 +89,8 @@ put_first x e (at_turn p q) =
 put_first x e (at_passed p q) = passed_first x e p q (cases_lt e.points 3)
   where
     passed_first : (x : ℕ) (e : EndPoints) → 2 ≤ e.points → IsBetween x e.first e.second → ((e.points < 3) ⊎ (3 ≤ e.points)) →
-        ((put x e).first ≡ x) × (1 ≤ (put x e).points) × (e.points ≤ (put x e).points) × ((put x e).points ≤ e.points + 1)
+        ((ends_prepend x e).first ≡ x) × (1 ≤ (ends_prepend x e).points) × (e.points ≤ (ends_prepend x e).points)
+        × ((ends_prepend x e).points ≤ e.points + 1)
     passed_first x e p q (inl s) = let t : e.points ≡ 2 = omega arith in let r = ap (λ g. g.points) (put_two x e t q) in
         (ap (λ g. g.first) (put_two x e t q), omega arith, omega arith, omega arith)
     passed_first x e p q (inr s) = let r = ap (λ g. g.points) (put_passed x e s q) in
@@ -99,18 +102,20 @@ same_self p x n d e = grind arith
 same_between : (p x s n : ℕ) → IsBetween p x s → n ≡ s → Same p x n
 same_between p x s n d e = grind arith
 
-pub put_side : (p : ℕ) (g : EndPoints) → 1 ≤ g.points → p ≢ g.first → PutCase p g → Same p g.first (put p g).second × (2 ≤ (put p g).points)
+pub put_side : (p : ℕ) (g : EndPoints) → 1 ≤ g.points → p ≢ g.first → PutCase p g → Same p g.first (ends_prepend p g).second
+    × (2 ≤ (ends_prepend p g).points)
 put_side p g h d (at_none q) = absurd (omega arith)
 put_side p g h d (at_equal q r) = absurd (d r)
 put_side p g h d (at_second q r) = let e = put_second p g q r in let o = ap (λ k. k.points) e in
-    (same_self p g.first (put p g).second d (ap (λ k. k.second) e), omega arith)
+    (same_self p g.first (ends_prepend p g).second d (ap (λ k. k.second) e), omega arith)
 put_side p g h d (at_turn q r) =
-    let e = put_turn p g q r in let o = ap (λ k. k.points) e in (same_self p g.first (put p g).second d (ap (λ k. k.second) e), omega arith)
+    let e = put_turn p g q r in let o = ap (λ k. k.points) e in
+    (same_self p g.first (ends_prepend p g).second d (ap (λ k. k.second) e), omega arith)
 put_side p g h d (at_passed q r) = side_passed p g q r (cases_lt g.points 3)
   where
     side_passed : (p : ℕ) (g : EndPoints) → 2 ≤ g.points → IsBetween p g.first g.second → ((g.points < 3) ⊎ (3 ≤ g.points)) →
-        Same p g.first (put p g).second × (2 ≤ (put p g).points)
+        Same p g.first (ends_prepend p g).second × (2 ≤ (ends_prepend p g).points)
     side_passed p g q r (inl s) = let e = put_two p g (omega arith) r in let o = ap (λ k. k.points) e in
-        (same_between p g.first g.second (put p g).second r (ap (λ k. k.second) e), omega arith)
+        (same_between p g.first g.second (ends_prepend p g).second r (ap (λ k. k.second) e), omega arith)
     side_passed p g q r (inr s) = let e = put_passed p g s r in let o = ap (λ k. k.points) e in
-        (same_between p g.first g.second (put p g).second r (ap (λ k. k.second) e), omega arith)
+        (same_between p g.first g.second (ends_prepend p g).second r (ap (λ k. k.second) e), omega arith)

@@ -2,7 +2,7 @@
 use Rattle.std.proofs.Common.{◌≡◌, ◌≢◌, ℕ, ◌+◌, ◌<◌, ◌≤◌, ◌⊎◌, inl, inr, refl, sym, subst, arith}
 use Rattle.std.proofs.lemmas.Bool.{cases_lt}
 use Rattle.turning_points.specs.Points.{IsBetween}
-use Rattle.turning_points.specs.EndPoints.{EndPoints, IsTurn, IsEnds, put}
+use Rattle.turning_points.specs.EndPoints.{EndPoints, IsTurn, IsEnds, ends_prepend}
 use Rattle.turning_points.proofs.Put.{PutCase, at_none, at_equal, at_second, at_turn, at_passed, put_case, put_none, put_equal, put_second, put_turn, put_two, put_passed}
 
 -- the ends stay ends
@@ -72,11 +72,11 @@ ends_second K x a h g n = record {
 }
 
 ends_between : (K x : ℕ) (e : EndPoints) → IsEnds K e → x < K → 2 ≤ e.points → IsBetween x e.first e.second →
-    ((e.points < 3) ⊎ (3 ≤ e.points)) → IsEnds K (put x e)
+    ((e.points < 3) ⊎ (3 ≤ e.points)) → IsEnds K (ends_prepend x e)
 ends_between K x e i h p b (inl s) = let q : e.points ≡ 2 = omega arith in subst (IsEnds K) (sym (put_two x e q b)) (ends_two K x e i h q b)
 ends_between K x e i h p b (inr s) = subst (IsEnds K) (sym (put_passed x e s b)) (ends_passed K x e i h s b)
 
-ends_case : (K x : ℕ) (e : EndPoints) → IsEnds K e → x < K → PutCase x e → IsEnds K (put x e)
+ends_case : (K x : ℕ) (e : EndPoints) → IsEnds K e → x < K → PutCase x e → IsEnds K (ends_prepend x e)
 ends_case K x e i h (at_none p) = subst (IsEnds K) (sym (put_none x e p)) (ends_none K x h)
 ends_case K x e i h (at_equal p q) = subst (IsEnds K) (sym (put_equal x e p q)) i
 ends_case K x e i h (at_second p q) = subst (IsEnds K) (sym (put_second x e p q)) (ends_second K x e.first h i.below.0 q)
@@ -86,5 +86,5 @@ ends_case K x e i h (at_passed p b) = ends_between K x e i h p b (cases_lt e.poi
 pub case_of : (K x : ℕ) (e : EndPoints) → IsEnds K e → PutCase x e
 case_of K x e i = put_case x e (λ h. (i.differ h).0)
 
-pub put_ends : (K x : ℕ) (e : EndPoints) → IsEnds K e → x < K → IsEnds K (put x e)
+pub put_ends : (K x : ℕ) (e : EndPoints) → IsEnds K e → x < K → IsEnds K (ends_prepend x e)
 put_ends K x e i h = ends_case K x e i h (case_of K x e i)

@@ -1,10 +1,10 @@
 -- The number of points of a history, its first two and its last two.
---   EndPoints    these five numbers; 0 where there is no such point
---   ends_of      those of a list of points
---   IsEnds       those of some list of points of levels below k
---   put          the ends after a level was put before
---   meets        the ends of two histories, one after the other
---   ends_push    the ends after a level was put behind
+--   EndPoints     these five numbers; 0 where there is no such point
+--   ends_of       those of a list of points
+--   IsEnds        those of some list of points of levels below k
+--   ends_prepend  the ends after a level was put before
+--   meets         the ends of two histories, one after the other
+--   ends_push     the ends after a level was put behind
 use Rattle.std.specs.Prelude.{◌≡◌, ◌≢◌, ℕ, ◌+◌, ◌-◌, ◌<◌, ◌≤◌, ◌⊎◌, ◌==◌, if◌then◌else◌, List, [], ◌∷◌, length, slice_index}
 use Rattle.turning_points.specs.Points.{is_turn}
 
@@ -52,8 +52,8 @@ pub record IsEnds (k : ℕ) (e : EndPoints) : Type 0 where
   pub below : (e.first < k) × (e.second < k) × (e.before < k) × (e.last < k)
 
 -- the ends after the level x was put before
-abbrev pub put : ℕ → EndPoints → EndPoints
-put x e =
+abbrev pub ends_prepend : ℕ → EndPoints → EndPoints
+ends_prepend x e =
     if e.points == 0 then record { points = 1; first = x; second = 0; before = 0; last = x }
     else if x == e.first then e
     else if e.points == 1 then record { points = 2; first = x; second = e.first; before = x; last = e.first }
@@ -77,8 +77,8 @@ put x e =
 -- those of the second
 abbrev pub meets : EndPoints → EndPoints → EndPoints
 meets e f =
-    let g = put e.last f in
-    let h = put e.before g in
+    let g = ends_prepend e.last f in
+    let h = ends_prepend e.before g in
     if e.points == 0 then f
     else if e.points == 1 then g
     else if e.points == 2 then h

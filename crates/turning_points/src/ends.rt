@@ -1,6 +1,6 @@
 ghost use Rattle.std.specs.Prelude.{◌≡◌, ℕ, List, ◌++◌, ◌+◌, ◌<◌, ◌≤◌, ◌^◌, length};
 ghost use Rattle.turning_points.specs.Points.{points};
-ghost use Rattle.turning_points.specs.EndPoints.{ends_of, ends_push, meets, no_ends, put};
+ghost use Rattle.turning_points.specs.EndPoints.{ends_of, ends_push, meets, no_ends, ends_prepend};
 ghost use Rattle.turning_points.specs.Ends.{end_points};
 ghost use Rattle.turning_points.specs.declared.ends.TheConstants.{MAX_POINTS};
 
@@ -55,7 +55,7 @@ pub fn ends_of(list: &[u16]) -> Ends
 /// The ends after a level was put before.
 pub fn put_before(level: u16, ends: &Ends) -> Ends
     requires few { ends.now.points < 2 ^ 63 }
-    ensures ends { end_points result ≡ put level (end_points ends.now) }
+    ensures ends { end_points result ≡ ends_prepend level (end_points ends.now) }
     ensures few { result.points ≤ ends.now.points + 1 }
 {
     if ends.points == 0 {

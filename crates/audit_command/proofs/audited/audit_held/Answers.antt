@@ -1,7 +1,7 @@
 use Rattle.std.proofs.Common.{List, sym, subst, slice_index}
 use Rattle.recount.specs.declared.count.Recount.{Recount}
 use Rattle.segment_store.specs.Held.{ends_of}
-use Rattle.recorded.specs.Recorded.{recorded}
+use Rattle.recorded.specs.Recorded.{recordings}
 use Rattle.report_command.specs.Printing.{held_of}
 use Rattle.audit_command.specs.Audited.{IsItem}
 use Rattle.audit_command.specs.Recounted.{AreOf, AreOver}
@@ -12,7 +12,7 @@ use Rattle.audit_command.proofs.audited.audit_held.Goals as goal
 pub first_other-requires-clause-classes : goal.first_other-requires-clause-classes
 first_other-requires-clause-classes g c =
     subst (AreOver c.args.conf.now) (sym c.deref.ensures.value) (are_over c.args.conf.now g.T.Site.tells
-    (recorded c.args.conf.now (g.T.Site.files c.args.site.now)).samples (slice_index (ends_of c.args.store.now.held))
+    (recordings c.args.conf.now (g.T.Site.files c.args.site.now)).samples (slice_index (ends_of c.args.store.now.held))
     c.recount_all.new.recounts.items
     c.recount_all.ensures.counted)
 
@@ -51,11 +51,11 @@ returns-in-Some-clause-answer g c = λ shows.
     let conf = c.args.conf.now in
     let files = g.T.Site.files c.args.site.now in
     let ends = ends_of c.args.store.now.held in
-    let w = held_of (recorded c.args.conf.now (g.T.Site.files c.args.site.now)).samples (ends_of c.args.store.now.held) in
+    let w = held_of (recordings c.args.conf.now (g.T.Site.files c.args.site.now)).samples (ends_of c.args.store.now.held) in
     let are = subst (λ (l : List Recount). AreOf c.args.conf.now l
-    (held_of (recorded c.args.conf.now (g.T.Site.files c.args.site.now)).samples (ends_of c.args.store.now.held)))
+    (held_of (recordings c.args.conf.now (g.T.Site.files c.args.site.now)).samples (ends_of c.args.store.now.held)))
     (sym c.deref.ensures.value)
-    (are_of conf g.T.Site.tells (recorded conf files).samples (slice_index ends) c.recount_all.new.recounts.items
+    (are_of conf g.T.Site.tells (recordings conf files).samples (slice_index ends) c.recount_all.new.recounts.items
     c.recount_all.ensures.counted shows) in
     other_answers conf c.args.store.now.head.heads (IsItem c.args.store.now.held) ends files c.in-Some.status c.in-Some.ensures.kind
     (c.in_default-recount_all.ensures.answer shows, c.in-Some.ensures.finds w are)
@@ -66,11 +66,11 @@ returns-in-Ok-print_same-clause-answer g c = λ shows.
     let conf = c.args.conf.now in
     let files = g.T.Site.files c.args.site.now in
     let ends = ends_of c.args.store.now.held in
-    let w = held_of (recorded c.args.conf.now (g.T.Site.files c.args.site.now)).samples (ends_of c.args.store.now.held) in
+    let w = held_of (recordings c.args.conf.now (g.T.Site.files c.args.site.now)).samples (ends_of c.args.store.now.held) in
     let are = subst (λ (l : List Recount). AreOf c.args.conf.now l
-    (held_of (recorded c.args.conf.now (g.T.Site.files c.args.site.now)).samples (ends_of c.args.store.now.held)))
+    (held_of (recordings c.args.conf.now (g.T.Site.files c.args.site.now)).samples (ends_of c.args.store.now.held)))
     (sym c.deref.ensures.value)
-    (are_of conf g.T.Site.tells (recorded conf files).samples (slice_index ends) c.recount_all.new.recounts.items
+    (are_of conf g.T.Site.tells (recordings conf files).samples (slice_index ends) c.recount_all.new.recounts.items
     c.recount_all.ensures.counted shows) in
     (c.in_default-recount_all.ensures.answer shows, c.in_default-first_other.ensures.finds w are)
 
@@ -79,10 +79,10 @@ returns-clause-answer g c = λ shows.
     let conf = c.args.conf.now in
     let files = g.T.Site.files c.args.site.now in
     let ends = ends_of c.args.store.now.held in
-    let w = held_of (recorded c.args.conf.now (g.T.Site.files c.args.site.now)).samples (ends_of c.args.store.now.held) in
+    let w = held_of (recordings c.args.conf.now (g.T.Site.files c.args.site.now)).samples (ends_of c.args.store.now.held) in
     let are = subst (λ (l : List Recount). AreOf c.args.conf.now l
-    (held_of (recorded c.args.conf.now (g.T.Site.files c.args.site.now)).samples (ends_of c.args.store.now.held)))
+    (held_of (recordings c.args.conf.now (g.T.Site.files c.args.site.now)).samples (ends_of c.args.store.now.held)))
     (sym c.deref.ensures.value)
-    (are_of conf g.T.Site.tells (recorded conf files).samples (slice_index ends) c.recount_all.new.recounts.items
+    (are_of conf g.T.Site.tells (recordings conf files).samples (slice_index ends) c.recount_all.new.recounts.items
     c.recount_all.ensures.counted shows) in
     (c.in_default-recount_all.ensures.answer shows, c.in_default-first_other.ensures.finds w are)

@@ -2,7 +2,7 @@ use Rattle.std.proofs.Common.{◌≡◌, ◌⊎◌, ℕ, List, sym, ◌∙◌, s
 use Rattle.segment_store.specs.Held.{ends_of}
 use Rattle.segment_store.specs.Moments.{StoreValue}
 use Rattle.store_head.specs.Head.{HeadValue}
-use Rattle.recorded.specs.Recorded.{recorded}
+use Rattle.recorded.specs.Recorded.{recordings}
 use Rattle.recorded.specs.Asked.{file_names}
 use Rattle.recorded.proofs.Asking.{none_is_first}
 use Rattle.status.specs.declared.status.Status.{Status}
@@ -42,10 +42,10 @@ returns-in-Ok-clause-stands g c = λ tells shows w n h.
     let files = g.T.Site.files c.args.site.now in
     let found = c.in-Ok.ensures.reads tells h.head h.bodies n h.of_setup h.reads in
     let many : length s.held ≡ length conf.gauges = c.in-Ok.ensures.gauges ∙ c.requires.conf.gains in
-    subst (λ (e : List ℕ). Finds conf (IsStanding conf (held_of w e)) (held_of (recorded conf files).samples e)
+    subst (λ (e : List ℕ). Finds conf (IsStanding conf (held_of w e)) (held_of (recordings conf files).samples e)
     c.audit_held.result) found.1
     (finds_by conf (IsItem s.held) (IsStanding conf (held_of w (ends_of s.held)))
-    (held_of (recorded conf files).samples (ends_of s.held))
+    (held_of (recordings conf files).samples (ends_of s.held))
     (λ j v lt is. items_stand s h.bodies (k.seen c.resume.new.station) (k.leaves c.resume.new.station) found.2 conf w c.in-Ok.ensures.setup
     h.stand j v (omega (arith, lt, many)) is)
     c.audit_held.result (finds_of conf s.head.heads (IsItem s.held) (ends_of s.held) files c.audit_held.result c.audit_held.ensures.kind

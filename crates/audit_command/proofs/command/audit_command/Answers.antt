@@ -6,7 +6,7 @@ use Rattle.segment_store.specs.Holds.{Holds}
 use Rattle.site_config.specs.Configuration.{config_of_bytes}
 use Rattle.site_config.specs.declared.config.Config.{Config}
 use Rattle.site_config.specs.declared.fault.ConfigFault.{ConfigFault}
-use Rattle.recorded.specs.Recorded.{recorded}
+use Rattle.recorded.specs.Recorded.{recordings}
 use Rattle.recorded.specs.Asked.{names_in}
 use Rattle.recorded.proofs.Asking.{first_read, none_is_first}
 use Rattle.fault_lines.specs.FaultLine.{fault_line, name_by}
@@ -34,7 +34,7 @@ returns-clause-answer g c = λ tells shows reads.
 
 pub returns-clause-stands : goal.returns-clause-stands
 returns-clause-stands g c = λ tells shows reads conf is w n h.
-    finds_unread conf (IsStanding conf (held_of w n)) (held_of (recorded conf (g.T.Site.files c.args.site.now)).samples n)
+    finds_unread conf (IsStanding conf (held_of w n)) (held_of (recordings conf (g.T.Site.files c.args.site.now)).samples n)
     c.in-Err.status
     c.in-Err.ensures.refusal
 
@@ -91,7 +91,7 @@ returns-in-Ok-read_config-clause-stands g c = λ tells shows reads conf is w n h
     let same = same_ok
     (c.in-Ok-read_config.ensures.meaning reads) is in
     subst (λ (x : Config). Holds x.setup w n (g.K.Station.seen c.args.station.now) → Finds x (IsStanding x (held_of w n))
-    (held_of (recorded x (g.T.Site.files c.args.site.now)).samples n) c.audit_by-status.result) same
+    (held_of (recordings x (g.T.Site.files c.args.site.now)).samples n) c.audit_by-status.result) same
     (λ held. c.audit_by-status.ensures.stands tells shows w n held) h
 
 pub returns-in-Ok-read_config-clause-complete : goal.returns-in-Ok-read_config-clause-complete

@@ -3,7 +3,7 @@ use Rattle.std.specs.Prelude.{Err, None}
 use Rattle.outside.specs.Site.{Files}
 use Rattle.recount.specs.declared.count.Recount.{Recount}
 use Rattle.segment_store.specs.Held.{ends_of}
-use Rattle.recorded.specs.Recorded.{recorded}
+use Rattle.recorded.specs.Recorded.{recordings}
 use Rattle.recorded.proofs.Asking.{asks_more, stops_behind, first_names}
 use Rattle.site_lanes.specs.Answers.{GaugeAnswers, FaultOf}
 use Rattle.site_lanes.proofs.Opened.{open_refused, all_more_opened}
@@ -29,7 +29,7 @@ loop-gauge-preserved g c =
     record {
       many = omega (arith, was.many, c.push_reserved.ensures.len);
       room = c.push_reserved.ensures.capacity ∙ was.room;
-      counted = recounts_more c.args.conf.now t.tells (recorded c.args.conf.now (t.files c.args.site.now)).samples n
+      counted = recounts_more c.args.conf.now t.tells (recordings c.args.conf.now (t.files c.args.site.now)).samples n
           c.loop-gauge.recounts.items
           c.push_reserved.new.self.items c.in-Ok.recount c.loop-gauge.gauge c.push_reserved.ensures.items long was.counted
           (first_again c.args.conf.now t.tells (t.files c.loop-gauge.site) (t.files c.args.site.now) n c.loop-gauge.gauge c.in-Ok.recount

@@ -2,7 +2,7 @@ use Rattle.std.proofs.Common.{◌≡◌, ◌≤◌, vec_len, vec_capacity}
 use Rattle.std.specs.Prelude.{slice_index, take}
 use Rattle.outside.specs.Site.{Asks}
 use Rattle.segment_store.specs.Held.{ends_of}
-use Rattle.recorded.specs.Recorded.{recorded}
+use Rattle.recorded.specs.Recorded.{recordings}
 use Rattle.recorded.specs.Asked.{file_names}
 use Rattle.site_lanes.specs.Answers.{AllOpened}
 use Rattle.audit_command.specs.Recounted.{AreRecounts}
@@ -15,7 +15,7 @@ invariant-loop-gauge g l =
     record {
       many : vec_len l.recounts ≡ l.gauge;
       room : vec_capacity l.recounts ≡ vec_capacity l.fn.recounts;
-      counted : AreRecounts l.conf t.tells (recorded l.conf (t.files l.fn.site)).samples (slice_index (ends_of l.store.held))
+      counted : AreRecounts l.conf t.tells (recordings l.conf (t.files l.fn.site)).samples (slice_index (ends_of l.store.held))
           l.recounts.items;
       sound : t.tells → AllOpened l.conf l.store.head.heads (slice_index (ends_of l.store.held)) (t.files l.fn.site) l.gauge;
       asked : Asks (t.names_asked l.fn.site) (t.names_asked l.site) (take l.gauge (file_names l.conf));

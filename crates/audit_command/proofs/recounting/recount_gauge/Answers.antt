@@ -5,7 +5,7 @@ use Rattle.segment_rules.specs.declared.name.Name.{Name}
 use Rattle.segment_store.specs.Held.{ends_of}
 use Rattle.site_config.specs.Valid.{file_of}
 use Rattle.store_head.specs.Head.{HeadValue}
-use Rattle.recorded.specs.Recorded.{body_in, recorded}
+use Rattle.recorded.specs.Recorded.{body_in, recordings}
 use Rattle.recorded.proofs.Asking.{asks_file, file_is}
 use Rattle.audit_command.proofs.Opened.{gauge_answers}
 use Rattle.audit_command.proofs.Recounts.{gain_is, recounted_first}
@@ -29,7 +29,8 @@ returns-clause-answer g c = λ shows.
 pub returns-clause-counted : goal.returns-clause-counted
 returns-clause-counted g c =
     let files = g.T.Site.files c.args.site.now in
-    recounted_first c.args.conf.now g.T.Site.tells g.T.Src.Source.tells (recorded c.args.conf.now (g.T.Site.files c.args.site.now)).samples
+    recounted_first c.args.conf.now g.T.Site.tells g.T.Src.Source.tells
+    (recordings c.args.conf.now (g.T.Site.files c.args.site.now)).samples
     (slice_index (ends_of c.args.store.now.held)) c.args.gauge _ (samples (body_in (Some (g.T.Src.Source.left c.in-Ok.src))))
     c.name.result.to
     c.recount_source-answer.result

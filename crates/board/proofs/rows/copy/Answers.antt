@@ -1,7 +1,7 @@
 use Rattle.std.proofs.Common.{◌≡◌, [], sym, subst, ap, ◌∙◌}
 use Rattle.segment_rules.specs.declared.name.Name.{Name}
 use Rattle.segment.specs.Segment.{SegmentValue, SameStart, Stands}
-use Rattle.flow.specs.Flow.{named}
+use Rattle.flow.specs.Flow.{name_of_samples}
 use Rattle.segment.proofs.Empty.{empty_stands}
 use Rattle.board.proofs.Slots.{from_ok, joined, join_name}
 use Rattle.board.proofs.rows.copy.Goals as goal
@@ -19,7 +19,7 @@ returns c =
     let start : SameStart was c.join.new.self = from_ok c.join.result _ ok c.join.ensures.start in
     record {
       name = join_name was c.join.new.self seg.to start (from_ok c.join.result _ ok c.join.ensures.end) ∙ ap
-          (λ k. named k was.from seg.to) gauge ∙ ap (λ k. named seg.gauge k seg.to) from;
+          (λ k. name_of_samples k was.from seg.to) gauge ∙ ap (λ k. name_of_samples seg.gauge k seg.to) from;
       grid = start.0 ∙ ap (λ (z : SegmentValue). z.grid) c.clear.ensures ∙ c.requires.grid;
       longest = start.3 ∙ ap (λ (z : SegmentValue). z.longest) c.clear.ensures;
       stands = λ gain w h. from_ok c.join.result _ ok c.join.ensures.stands gain [] w

@@ -1,7 +1,7 @@
 use Rattle.std.proofs.Common.{◌≡◌, ℕ, List, sym, subst}
 use Rattle.site_config.specs.Configuration.{config_of_bytes}
 use Rattle.site_config.specs.declared.config.Config.{Config}
-use Rattle.recorded.specs.Recorded.{recorded}
+use Rattle.recorded.specs.Recorded.{recordings}
 use Rattle.recorded.specs.Asked.{names_in}
 use Rattle.recorded.proofs.Asking.{first_read, none_is_first}
 use Rattle.held_samples.specs.Going.{AllHold, IsKept}
@@ -32,7 +32,7 @@ use Rattle.lemmas.proofs.Outcomes.{same_ok}
 pub returns-in_default-clause-every_moment : goal.returns-in_default-clause-every_moment
 returns-in_default-clause-every_moment g c = λ tells shows reads conf is a holds lines f was.
     let k = g.K.Station in
-    let r = recorded conf (g.T.Site.files c.args.site.now) in
+    let r = recordings conf (g.T.Site.files c.args.site.now) in
     let safe = safe_starts r a (k.clock c.args.station.now) (k.moments c.args.station.now) (k.told c.args.station.now)
     (k.seen c.args.station.now) (k.leaves c.args.station.now) holds (g.met.K.Station.only_now tells c.args.station.now) in
     (safe_fault r a _ _ _ _ _ _ _ _ _ _ _ _ _ safe (fault_line OutOfMemory []) (fault_below r OutOfMemory [])
@@ -41,7 +41,7 @@ returns-in_default-clause-every_moment g c = λ tells shows reads conf is a hold
 pub returns-in-Err-clause-every_moment : goal.returns-in-Err-clause-every_moment
 returns-in-Err-clause-every_moment g c = λ tells shows reads conf is a holds lines f was.
     let k = g.K.Station in
-    let r = recorded conf (g.T.Site.files c.args.site.now) in
+    let r = recordings conf (g.T.Site.files c.args.site.now) in
     let safe = safe_starts r a (k.clock c.args.station.now) (k.moments c.args.station.now) (k.told c.args.station.now)
     (k.seen c.args.station.now) (k.leaves c.args.station.now) holds (g.met.K.Station.only_now tells c.args.station.now) in
     (safe_fault r a _ _ _ _ _ _ _ _ _ _ _ _ _ safe _ (fault_below r _ _) (c.tell_fault.ensures.tells tells)).run.each lines f was
@@ -51,19 +51,19 @@ returns-clause-every_moment g c = λ tells shows reads conf is a holds lines f w
     let k = g.K.Station in
     let files = g.T.Site.files c.args.site.now in
     let same = same_ok (c.in-Ok-read_config.ensures.meaning reads) is in
-    let r = recorded c.in-Ok-read_config.conf files in
-    let safe = c.count_by-status.ensures.safe tells shows a (subst (λ (x : Config). AllHold (recorded x files) a
+    let r = recordings c.in-Ok-read_config.conf files in
+    let safe = c.count_by-status.ensures.safe tells shows a (subst (λ (x : Config). AllHold (recordings x files) a
     (k.leaves c.args.station.now)) (sym same) holds) in
-    subst (λ (x : Config). IsKept (recorded x files) a (k.told c.args.station.now) lines f) same
+    subst (λ (x : Config). IsKept (recordings x files) a (k.told c.args.station.now) lines f) same
     ((safe_fault r a _ _ _ _ _ _ _ _ _ _ _ _ _ safe _ (fault_below r _ _) (c.tell_fault-2.ensures.tells tells)).run.each lines f was)
 
 -- a configuration that is refused
 pub returns-in-Err-clause-ended : goal.returns-in-Err-clause-ended
-returns-in-Err-clause-ended g c = λ tells shows reads conf is a holds. held_read (recorded conf (g.T.Site.files c.args.site.now))
+returns-in-Err-clause-ended g c = λ tells shows reads conf is a holds. held_read (recordings conf (g.T.Site.files c.args.site.now))
     (g.K.Station.leaves c.tell_fault.new.station) c.in-Err.status c.in-Err.ensures.refusal
 
 pub returns-in-Err-clause-cut : goal.returns-in-Err-clause-cut
-returns-in-Err-clause-cut g c = λ tells shows reads conf is a holds none. cut_read (recorded conf (g.T.Site.files c.args.site.now))
+returns-in-Err-clause-cut g c = λ tells shows reads conf is a holds none. cut_read (recordings conf (g.T.Site.files c.args.site.now))
     (g.K.Station.leaves c.tell_fault.new.station) c.in-Err.status c.in-Err.ensures.refusal
 
 pub returns-in-Err-clause-prints : goal.returns-in-Err-clause-prints
@@ -90,7 +90,8 @@ returns-clause-ended g c = λ tells shows reads conf is a holds.
     let k = g.K.Station in
     let files = g.T.Site.files c.args.site.now in
     let same = same_ok (c.in-Ok-read_config.ensures.meaning reads) is in
-    subst (λ (x : Config). AllHold (recorded x files) a (k.leaves c.args.station.now) → HeldAt c.count_by-status.result (recorded x files)
+    subst (λ (x : Config). AllHold (recordings x files) a (k.leaves c.args.station.now) →
+    HeldAt c.count_by-status.result (recordings x files)
     (k.leaves c.tell_fault-2.new.station)) same
     (λ all. held_fewer _ _ _ (c.tell_fault-2.ensures.tells tells).none_new c.count_by-status.result
     (c.count_by-status.ensures.ended tells shows a all)) holds
@@ -100,7 +101,8 @@ returns-clause-cut g c = λ tells shows reads conf is a holds none.
     let k = g.K.Station in
     let files = g.T.Site.files c.args.site.now in
     let same = same_ok (c.in-Ok-read_config.ensures.meaning reads) is in
-    subst (λ (x : Config). AllHold (recorded x files) a (k.leaves c.args.station.now) → HeldCut c.count_by-status.result (recorded x files)
+    subst (λ (x : Config). AllHold (recordings x files) a (k.leaves c.args.station.now) →
+    HeldCut c.count_by-status.result (recordings x files)
     (k.leaves c.tell_fault-2.new.station)) same
     (λ all. cut_fewer _ _ _ (c.tell_fault-2.ensures.tells tells).none_new c.count_by-status.result
     (c.count_by-status.ensures.cut tells shows a all none)) holds
@@ -111,8 +113,8 @@ returns-clause-prints g c = λ writes tells shows reads conf is a holds.
     let files = g.T.Site.files c.args.site.now in
     let written = g.O.Sink.written in
     let same = same_ok (c.in-Ok-read_config.ensures.meaning reads) is in
-    subst (λ (x : Config). AllHold (recorded x files) a (k.leaves c.args.station.now) → Prints c.count_by-status.result x
-    (recorded x files).samples (written c.args.out.now) (written c.count_by-status.new.out)) same
+    subst (λ (x : Config). AllHold (recordings x files) a (k.leaves c.args.station.now) → Prints c.count_by-status.result x
+    (recordings x files).samples (written c.args.out.now) (written c.count_by-status.new.out)) same
     (λ all. c.count_by-status.ensures.prints writes tells shows a all) holds
 
 pub returns-clause-acknowledged : goal.returns-clause-acknowledged
@@ -120,9 +122,10 @@ returns-clause-acknowledged g c = λ tells shows reads conf is n h done.
     let k = g.K.Station in
     let files = g.T.Site.files c.args.site.now in
     let same = same_ok (c.in-Ok-read_config.ensures.meaning reads) is in
-    subst (λ (x : Config). Holds x.setup (recorded x files).samples n (k.seen c.args.station.now) → Acknowledges x.block (recorded x files)
+    subst (λ (x : Config). Holds x.setup (recordings x files).samples n (k.seen c.args.station.now) →
+    Acknowledges x.block (recordings x files)
     n (k.told c.args.station.now) (k.told c.tell_fault-2.new.station)) same
-    (λ held. subst (λ (t : Lines). Acknowledges c.in-Ok-read_config.conf.block (recorded c.in-Ok-read_config.conf files) n
+    (λ held. subst (λ (t : Lines). Acknowledges c.in-Ok-read_config.conf.block (recordings c.in-Ok-read_config.conf files) n
     (k.told c.args.station.now) t) (sym (c.tell_fault-2.ensures.nothing tells done))
     (c.count_by-status.ensures.acknowledged tells shows n held done)) h
 
@@ -144,9 +147,9 @@ returns-clause-complete g c = λ tells shows reads conf is n h fit sound config 
     let k = g.K.Station in
     let files = g.T.Site.files c.args.site.now in
     let same = same_ok (c.in-Ok-read_config.ensures.meaning reads) is in
-    let by : (x : Config) → conf ≡ x → (m : Holds x.setup (recorded x files).samples n (k.seen c.args.station.now)) × HeadsFit x
+    let by : (x : Config) → conf ≡ x → (m : Holds x.setup (recordings x files).samples n (k.seen c.args.station.now)) × HeadsFit x
     m.head.heads files × AllSound x files (length x.gauges) =
-    λ x e. subst (λ (y : Config). (m : Holds y.setup (recorded y files).samples n (k.seen c.args.station.now)) × HeadsFit y m.head.heads
+    λ x e. subst (λ (y : Config). (m : Holds y.setup (recordings y files).samples n (k.seen c.args.station.now)) × HeadsFit y m.head.heads
     files × AllSound y files (length y.gauges)) e (h, fit, sound) in
     let here = by c.in-Ok-read_config.conf (sym same) in
     done_or_memory c.count_by-status.result (c.count_by-status.ensures.complete tells shows n here.0 here.1 here.2)

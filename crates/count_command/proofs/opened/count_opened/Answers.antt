@@ -1,6 +1,6 @@
 use Rattle.std.proofs.Common.{refl, ◌∙◌, arith}
 use Rattle.segment_store.specs.Held.{ends_of}
-use Rattle.recorded.specs.Recorded.{recorded}
+use Rattle.recorded.specs.Recorded.{recordings}
 use Rattle.count_command.specs.Answer.{IsEnding}
 use Rattle.count_command.specs.Holding.{HeldAt}
 use Rattle.status.specs.declared.status.Status.{Status}
@@ -11,19 +11,19 @@ use Rattle.count_command.proofs.opened.count_opened.Goals as goal
 
 pub returns-in_default-clause-going : goal.returns-in_default-clause-going
 returns-in_default-clause-going g c = λ tells reads files lanes stored.
-    going_starts (recorded c.args.conf.now files) _ _ _ _ _ _ stored (g.met.K.Station.only_now tells c.args.station.now)
+    going_starts (recordings c.args.conf.now files) _ _ _ _ _ _ stored (g.met.K.Station.only_now tells c.args.station.now)
 
 pub returns-in_default-new-clause-going : goal.returns-in_default-new-clause-going
 returns-in_default-new-clause-going g c = λ tells reads files lanes stored.
-    going_starts (recorded c.args.conf.now files) _ _ _ _ _ _ stored (g.met.K.Station.only_now tells c.args.station.now)
+    going_starts (recordings c.args.conf.now files) _ _ _ _ _ _ stored (g.met.K.Station.only_now tells c.args.station.now)
 
 pub returns-in_default-new-2-clause-going : goal.returns-in_default-new-2-clause-going
 returns-in_default-new-2-clause-going g c = λ tells reads files lanes stored.
-    going_starts (recorded c.args.conf.now files) _ _ _ _ _ _ stored (g.met.K.Station.only_now tells c.args.station.now)
+    going_starts (recordings c.args.conf.now files) _ _ _ _ _ _ stored (g.met.K.Station.only_now tells c.args.station.now)
 
 pub returns-in_default-new-3-clause-going : goal.returns-in_default-new-3-clause-going
 returns-in_default-new-3-clause-going g c = λ tells reads files lanes stored.
-    going_starts (recorded c.args.conf.now files) _ _ _ _ _ _ stored (g.met.K.Station.only_now tells c.args.station.now)
+    going_starts (recordings c.args.conf.now files) _ _ _ _ _ _ stored (g.met.K.Station.only_now tells c.args.station.now)
 
 pub first_fault-requires-clause-gauges : goal.first_fault-requires-clause-gauges
 first_fault-requires-clause-gauges g c κs within = λ h d lt. (c.in-Ok-count_rounds.ensures.held h d lt).0.gauge
@@ -32,7 +32,8 @@ first_fault-requires-clause-gauges g c κs within = λ h d lt. (c.in-Ok-count_ro
 pub returns-in-Some-clause-ended : goal.returns-in-Some-clause-ended
 returns-in-Some-clause-ended g c = λ tells reads files lanes stored.
     let f = c.in-Some.ensures in
-    by_fault (λ (s : Status). HeldAt s (recorded c.args.conf.now files) (g.K.Station.leaves c.count_rounds.new.station)) f.0 (λ b. tt) tt tt
+    by_fault (λ (s : Status). HeldAt s (recordings c.args.conf.now files) (g.K.Station.leaves c.count_rounds.new.station)) f.0 (λ b. tt) tt
+    tt
     _ c.in-Some.status (f.2 (any_of c.count_rounds.new.lanes f.0 f.1))
 
 pub returns-in-Some-clause-cut : goal.returns-in-Some-clause-cut
@@ -99,7 +100,7 @@ returns-clause-ended g c = λ tells reads files lanes stored.
 pub returns-clause-acknowledged : goal.returns-clause-acknowledged
 returns-clause-acknowledged g c = λ tells reads files lanes done.
     let now = c.in-Ok-count_rounds.ensures in
-    let r = recorded c.args.conf.now files in
+    let r = recordings c.args.conf.now files in
     let many = c.count_rounds.ensures.gauges.1 ∙ c.requires.gauges.1 in
     let here = now.read reads files lanes in
     let whole = are_whole c.args.conf.now files c.count_rounds.new.lanes reads here (ends_of c.count_rounds.new.store.held) now.held
@@ -113,7 +114,7 @@ returns-clause-acknowledged g c = λ tells reads files lanes done.
 pub returns-clause-prints : goal.returns-clause-prints
 returns-clause-prints g c = λ shows tells reads files lanes stored.
     let now = c.in-Ok-count_rounds.ensures in
-    let r = recorded c.args.conf.now files in
+    let r = recordings c.args.conf.now files in
     let store = c.count_rounds.new.store in
     let many = c.count_rounds.ensures.gauges.0 ∙ c.requires.gauges.0 in
     let all = all_held c.args.conf.now files c.count_rounds.new.lanes reads (now.read reads files lanes) (ends_of store.held) now.held
@@ -133,7 +134,7 @@ returns-clause-quiet g c = λ tells leaves. absurd (printing_stored c.print_held
 
 pub returns-clause-cut : goal.returns-clause-cut
 returns-clause-cut g c =
-    λ tells reads files lanes stored none. cut_printing (recorded c.args.conf.now files) _ c.print_held.result c.print_held.ensures.kind
+    λ tells reads files lanes stored none. cut_printing (recordings c.args.conf.now files) _ c.print_held.result c.print_held.ensures.kind
 
 pub returns-clause-nothing : goal.returns-clause-nothing
 returns-clause-nothing g c = λ shows other. absurd (other c.print_held.ensures.kind)

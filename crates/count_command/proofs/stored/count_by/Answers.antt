@@ -2,7 +2,7 @@ use Rattle.std.proofs.Common.{ℕ, List, sym, subst}
 use Rattle.station.specs.Station.{Lines}
 use Rattle.segment_store.specs.Held.{ends_of}
 use Rattle.segment_store.specs.Moments.{StoreValue}
-use Rattle.recorded.specs.Recorded.{recorded}
+use Rattle.recorded.specs.Recorded.{recordings}
 use Rattle.recorded.specs.Asked.{file_names}
 use Rattle.recorded.proofs.Asking.{first_then_none, none_is_first}
 use Rattle.held_samples.specs.Told.{Acknowledges}
@@ -19,12 +19,12 @@ use Rattle.outside.proofs.Faults.{rose_before}
 
 pub returns-in_default-clause-safe : goal.returns-in_default-clause-safe
 returns-in_default-clause-safe g c = λ tells shows a holds.
-    safe_quiet (recorded c.args.conf.now (g.T.Site.files c.args.site.now)) a _ _ _ _ _ _ _ _ _ _ holds (c.resume.ensures.quiet tells)
+    safe_quiet (recordings c.args.conf.now (g.T.Site.files c.args.site.now)) a _ _ _ _ _ _ _ _ _ _ holds (c.resume.ensures.quiet tells)
 
 pub returns-clause-safe : goal.returns-clause-safe
 returns-clause-safe g c = λ tells shows a holds.
     let k = g.K.Station in
-    let r = recorded c.args.conf.now (g.T.Site.files c.args.site.now) in
+    let r = recordings c.args.conf.now (g.T.Site.files c.args.site.now) in
     let at = resumed r a _ _ _ _ (holds (k.seen c.args.station.now) (g.met.K.Station.seen_counts tells c.args.station.now))
     (c.in-Ok.ensures.reads tells) in
     safe_going r a _ _ _ _ _ _ _ _ _ _ _ _ _ (safe_quiet r a _ _ _ _ _ _ _ _ _ _ holds (c.resume.ensures.quiet tells))
@@ -32,14 +32,14 @@ returns-clause-safe g c = λ tells shows a holds.
 
 pub returns-clause-ended : goal.returns-clause-ended
 returns-clause-ended g c = λ tells shows a holds.
-    let r = recorded c.args.conf.now (g.T.Site.files c.args.site.now) in
+    let r = recordings c.args.conf.now (g.T.Site.files c.args.site.now) in
     let at = resumed r a _ _ _ _ (holds (g.K.Station.seen c.args.station.now) (g.met.K.Station.seen_counts tells c.args.station.now))
     (c.in-Ok.ensures.reads tells) in
     c.count_stored-status.ensures.ended tells shows at.stored
 
 pub returns-clause-cut : goal.returns-clause-cut
 returns-clause-cut g c = λ tells shows a holds none.
-    let r = recorded c.args.conf.now (g.T.Site.files c.args.site.now) in
+    let r = recordings c.args.conf.now (g.T.Site.files c.args.site.now) in
     let at = resumed r a _ _ _ _ (holds (g.K.Station.seen c.args.station.now) (g.met.K.Station.seen_counts tells c.args.station.now))
     (c.in-Ok.ensures.reads tells) in
     c.count_stored-status.ensures.cut tells shows at.stored (c.give_back.ensures.fault
@@ -48,7 +48,7 @@ returns-clause-cut g c = λ tells shows a holds none.
 pub returns-clause-acknowledged : goal.returns-clause-acknowledged
 returns-clause-acknowledged g c = λ tells shows n h done.
     let k = g.K.Station in
-    let r = recorded c.args.conf.now (g.T.Site.files c.args.site.now) in
+    let r = recordings c.args.conf.now (g.T.Site.files c.args.site.now) in
     let found = c.in-Ok.ensures.reads tells h.head h.bodies n h.of_setup h.reads in
     subst (λ (t : Lines). Acknowledges c.args.conf.now.block r n t (k.told c.count_stored-status.new.station))
     (c.resume.ensures.quiet tells).told_same
@@ -58,7 +58,7 @@ returns-clause-acknowledged g c = λ tells shows n h done.
 
 pub returns-clause-prints : goal.returns-clause-prints
 returns-clause-prints g c = λ writes tells shows a holds.
-    let r = recorded c.args.conf.now (g.T.Site.files c.args.site.now) in
+    let r = recordings c.args.conf.now (g.T.Site.files c.args.site.now) in
     let at = resumed r a _ _ _ _ (holds (g.K.Station.seen c.args.station.now) (g.met.K.Station.seen_counts tells c.args.station.now))
     (c.in-Ok.ensures.reads tells) in
     c.count_stored-status.ensures.prints writes tells shows at.stored
@@ -88,7 +88,7 @@ returns-clause-complete g c = λ tells shows n h fit sound.
     let files = g.T.Site.files c.args.site.now in
     let found = c.in-Ok.ensures.reads tells h.head h.bodies n h.of_setup h.reads in
     run_complete c.args.conf.now h.head.heads (slice_index n) files
-    (all_opened c.args.conf.now files n h.head.heads (held_within c.args.conf.now.setup (recorded c.args.conf.now files).samples n
+    (all_opened c.args.conf.now files n h.head.heads (held_within c.args.conf.now.setup (recordings c.args.conf.now files).samples n
     (g.K.Station.seen c.args.station.now) h) fit) sound c.count_stored-status.result c.count_stored-status.ensures.kind
     (subst (λ (x : HeadValue). RunAnswers c.args.conf.now x.heads (slice_index n) files c.count_stored-status.result) found.0
     (subst (λ (e : List ℕ). RunAnswers c.args.conf.now c.in-Ok.store.head.heads (slice_index e) files c.count_stored-status.result) found.1

@@ -4,7 +4,7 @@ use Rattle.outside.specs.Site.{Files}
 use Rattle.station.specs.Station.{Lines}
 use Rattle.segment_store.specs.Held.{ends_of}
 use Rattle.segment_store.specs.Moments.{IsThere}
-use Rattle.recorded.specs.Recorded.{recorded}
+use Rattle.recorded.specs.Recorded.{recordings}
 use Rattle.held_samples.specs.Going.{Going, IsStored}
 use Rattle.held_samples.specs.Fronts.{FrontsStand}
 use Rattle.site_lanes.specs.Lanes.{AreLanes, AreReady, HasSource, IsFaulty, IsWhole}
@@ -31,15 +31,15 @@ invariant-loop g l =
       sources : All HasSource l.lanes;
       faulty : All (IsFaulty s.faults) l.lanes;
       there : k.tells → IsThere l.store (k.seen l.station) (k.leaves l.station);
-      read : s.tells → (files : Files) → AreLanes s.tells s.left (recorded l.conf files) l.fn.lanes →
-          AreLanes s.tells s.left (recorded l.conf files) l.lanes × FrontsStand (recorded l.conf files) l.board;
-      going : k.tells → s.tells → (files : Files) → AreLanes s.tells s.left (recorded l.conf files) l.fn.lanes →
-          IsStored (recorded l.conf files) l.fn.store (k.seen l.fn.station) (k.leaves l.fn.station) →
-          Going (recorded l.conf files) (ends_of l.fn.store.held) (k.clock l.fn.station) (k.moments l.fn.station) (k.told l.fn.station)
+      read : s.tells → (files : Files) → AreLanes s.tells s.left (recordings l.conf files) l.fn.lanes →
+          AreLanes s.tells s.left (recordings l.conf files) l.lanes × FrontsStand (recordings l.conf files) l.board;
+      going : k.tells → s.tells → (files : Files) → AreLanes s.tells s.left (recordings l.conf files) l.fn.lanes →
+          IsStored (recordings l.conf files) l.fn.store (k.seen l.fn.station) (k.leaves l.fn.station) →
+          Going (recordings l.conf files) (ends_of l.fn.store.held) (k.clock l.fn.station) (k.moments l.fn.station) (k.told l.fn.station)
           (k.clock l.station) (k.moments l.station) (k.told l.station) (k.leaves l.station) (ends_of l.store.held)
-          × IsStored (recorded l.conf files) l.store (k.seen l.station) (k.leaves l.station);
-      told : k.tells → s.tells → (files : Files) → AreLanes s.tells s.left (recorded l.conf files) l.fn.lanes →
-          (n : List ℕ) (told : Lines) → HasTold l.conf.block (recorded l.conf files) n told (k.told l.fn.station) l.fn.lanes →
-          All IsWhole l.lanes → IsAhead l.conf.block (recorded l.conf files) n told (k.told l.station) (ends_of l.store.held) l.lanes;
+          × IsStored (recordings l.conf files) l.store (k.seen l.station) (k.leaves l.station);
+      told : k.tells → s.tells → (files : Files) → AreLanes s.tells s.left (recordings l.conf files) l.fn.lanes →
+          (n : List ℕ) (told : Lines) → HasTold l.conf.block (recordings l.conf files) n told (k.told l.fn.station) l.fn.lanes →
+          All IsWhole l.lanes → IsAhead l.conf.block (recordings l.conf files) n told (k.told l.station) (ends_of l.store.held) l.lanes;
       later : k.faults l.fn.station ≤ k.faults l.station;
     }

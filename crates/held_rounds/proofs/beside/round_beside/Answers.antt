@@ -2,7 +2,7 @@ use Rattle.std.proofs.Common.{length, refl, sym, ◌∙◌, ap}
 use Rattle.calibration.specs.declared.setup.Setup.{Setup}
 use Rattle.store_head.specs.Head.{HeadValue}
 use Rattle.segment_store.specs.Held.{ends_of}
-use Rattle.recorded.specs.Recorded.{recorded}
+use Rattle.recorded.specs.Recorded.{recordings}
 use Rattle.held_rounds.proofs.LeadsOn.{leads_on, stands_on, held_last}
 use Rattle.held_rounds.proofs.beside.round_beside.Goals as goal
 
@@ -17,7 +17,7 @@ pub returns-clause-stand : goal.returns-clause-stand
 returns-clause-stand g c = λ reads files lanes.
     stands_on c.both.ensures.round (c.requires.gauges.2 ∙ sym c.requires.gauges.1) (length c.args.conf.now.gauges) c.requires.gauges.2
     c.requires.lanes c.args.store.now.head.setup (ends_of c.args.store.now.held) c.args.board.now c.requires.leads
-    (recorded c.args.conf.now files) refl reads lanes c.both.result _ c.both.ensures.stores.ends
+    (recordings c.args.conf.now files) refl reads lanes c.both.result _ c.both.ensures.stores.ends
 
 pub returns-clause-held : goal.returns-clause-held
 returns-clause-held g c =

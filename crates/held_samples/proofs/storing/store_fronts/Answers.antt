@@ -5,7 +5,7 @@ use Rattle.segment_store.specs.Held.{ends_of}
 use Rattle.site_config.specs.declared.limits.TheConstants.{MAX_NAME_BYTES}
 use Rattle.site_config.specs.Valid.{name_of}
 use Rattle.site_config.proofs.Named.{name_is, short_name}
-use Rattle.recorded.specs.Recorded.{recorded}
+use Rattle.recorded.specs.Recorded.{recordings}
 use Rattle.held_samples.proofs.Going.{going_starts, going_then, same_lines, round_more}
 use Rattle.held_samples.proofs.Fronts.{are_names, held_before, told_named, not_same, not_same_after}
 use Rattle.held_samples.proofs.storing.store_fronts.Goals as goal
@@ -17,7 +17,7 @@ loop-gauge-init g c = record {
   gauges = refl;
   there = c.requires.on;
   going = λ tells files stored stand. (
-    going_starts (recorded c.args.conf.now files) _ _ _ _ _ _ stored
+    going_starts (recordings c.args.conf.now files) _ _ _ _ _ _ stored
         (g.met.K.Station.only_now tells c.args.station.now),
     stored,
   );
@@ -59,7 +59,7 @@ returns-in_err-store_gauge-clause-going g c = λ tells files stored stand.
     let known : c.loop-gauge.gauge < length c.args.conf.now.gauges = omega (arith, ap length c.as_slice-gauge-end.ensures) in
     let name = ap (name_of c.args.conf.now) front.gauge ∙ name_is c.args.conf.now c.loop-gauge.gauge _ _ _ known c.as_slice.ensures
     c.as_str-name.ensures in
-    going_then got.0 (c.store_gauge.ensures.going tells (recorded c.args.conf.now files) (are_names c.args.conf.now c.requires.conf)
+    going_then got.0 (c.store_gauge.ensures.going tells (recordings c.args.conf.now files) (are_names c.args.conf.now c.requires.conf)
     (subst (λ (n : ℕ). n < length c.args.conf.now.gauges) (sym front.gauge) known) name got.1
     (stand c.loop-gauge.gauge c.front.result.now known c.front.ensures))
 
@@ -77,10 +77,11 @@ loop-gauge-preserved g c =
       going = λ tells files stored stand.
           let got = c.loop-gauge.invariant.going tells files stored stand in
           let stands = stand c.loop-gauge.gauge c.front.result.now known c.front.ensures in (
-            going_then got.0 (c.store_gauge.ensures.going tells (recorded c.args.conf.now files) (are_names c.args.conf.now c.requires.conf)
+            going_then got.0 (c.store_gauge.ensures.going tells (recordings c.args.conf.now files)
+                (are_names c.args.conf.now c.requires.conf)
                 (subst (λ (n : ℕ). n < length c.args.conf.now.gauges) (sym front.gauge) known)
                 (ap (name_of c.args.conf.now) front.gauge ∙ name) got.1 stands),
-            c.in_ok-store_gauge.ensures.stored tells (recorded c.args.conf.now files) got.1 stands,
+            c.in_ok-store_gauge.ensures.stored tells (recordings c.args.conf.now files) got.1 stands,
           );
       told = λ tells. round_more (name_of c.args.conf.now) (slice_index (ends_of c.args.store.now.held))
           (slice_index (ends_of c.loop-gauge.store.held)) (slice_index (ends_of c.store_gauge.new.store.held)) c.loop-gauge.gauge

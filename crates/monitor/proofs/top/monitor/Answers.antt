@@ -3,7 +3,7 @@ use Rattle.std.specs.Prelude.{Some}
 use Rattle.command_words.specs.Line.{Table, Demo, Column, command_of}
 use Rattle.command_words.specs.Commands.{meaning_of}
 use Rattle.file_tasks.specs.Run.{outside}
-use Rattle.monitor.specs.Shown.{shown}
+use Rattle.monitor.specs.Shown.{shown_by}
 use Rattle.monitor.proofs.NoMemory.{nothing_done, init_without_memory, report_without_memory, demo_without_memory, ends_at, table_last, column_last, demo_last, usage_last}
 use Rattle.monitor.proofs.CountLeft.{count_without_memory}
 use Rattle.monitor.proofs.AuditLeft.{audit_without_memory}
@@ -18,8 +18,9 @@ returns-in-Ok-Some-Table-clause-last g c = λ name told tells some.
     let is : words ≡ Some (Table here.file.now) = sym here.ensures.line ∙ ap meaning_of here.field-0-is ∙ ap (λ x. meaning_of (Some x))
     here.field-0-0-is in
     table_last words here.file.now name c.told_table.result
-    (shown g.C.Source g.T.Site g.K.Station g.O.Sink c.args.config.now c.args.site.now c.args.station.now c.args.out.now)
-    (shown g.C.Source g.T.Site g.K.Station g.O.Sink c.args.config.now c.told_table.new.site c.told_table.new.station c.told_table.new.out)
+    (shown_by g.C.Source g.T.Site g.K.Station g.O.Sink c.args.config.now c.args.site.now c.args.station.now c.args.out.now)
+    (shown_by g.C.Source g.T.Site g.K.Station g.O.Sink c.args.config.now c.told_table.new.site c.told_table.new.station
+    c.told_table.new.out)
     is told (c.told_table.ensures.last tells some)
 
 pub returns-in-Ok-Some-Init-clause-init : goal.returns-in-Ok-Some-Init-clause-init
@@ -46,8 +47,8 @@ returns-in-Ok-Some-Init-clause-init g c = λ is.
 pub returns-in-Ok-None-clause-last : goal.returns-in-Ok-None-clause-last
 returns-in-Ok-None-clause-last g c = λ name told tells some.
     usage_last c.usage.result name
-    (shown g.C.Source g.T.Site g.K.Station g.O.Sink c.args.config.now c.args.site.now c.args.station.now c.args.out.now)
-    (shown g.C.Source g.T.Site g.K.Station g.O.Sink c.args.config.now c.args.site.now c.usage.new.station c.args.out.now)
+    (shown_by g.C.Source g.T.Site g.K.Station g.O.Sink c.args.config.now c.args.site.now c.args.station.now c.args.out.now)
+    (shown_by g.C.Source g.T.Site g.K.Station g.O.Sink c.args.config.now c.args.site.now c.usage.new.station c.args.out.now)
     c.usage.ensures.status (c.usage.ensures.last tells)
 
 pub returns-in-Err-clause-table : goal.returns-in-Err-clause-table
@@ -57,8 +58,9 @@ returns-in-Err-clause-table g c = λ file is.
 
 pub returns-in-Err-clause-init : goal.returns-in-Err-clause-init
 returns-in-Err-clause-init g c = λ is.
-    init_without_memory (shown g.C.Source g.T.Site g.K.Station g.O.Sink c.args.config.now c.args.site.now c.args.station.now c.args.out.now)
-    (shown g.C.Source g.T.Site g.K.Station g.O.Sink c.args.config.now c.args.site.now c.no_memory.new.station c.args.out.now)
+    init_without_memory (shown_by g.C.Source g.T.Site g.K.Station g.O.Sink c.args.config.now c.args.site.now c.args.station.now
+    c.args.out.now)
+    (shown_by g.C.Source g.T.Site g.K.Station g.O.Sink c.args.config.now c.args.site.now c.no_memory.new.station c.args.out.now)
     c.no_memory.result c.no_memory.ensures.status c.no_memory.ensures.told c.no_memory.ensures.last (λ shows. refl) c.requires.home
     (λ shows. refl) (λ names has. has)
 
@@ -71,8 +73,8 @@ returns-in-Ok-Some-Report-clause-report g c = λ is.
       nothing = run.nothing;
       quiet = run.quiet;
       last = λ tells some.
-          ends_at (shown g.C.Source g.T.Site g.K.Station g.O.Sink c.args.config.now c.args.site.now c.args.station.now c.args.out.now)
-          (shown g.C.Source g.T.Site g.K.Station g.O.Sink c.report_command.new.config c.args.site.now c.report_command.new.station
+          ends_at (shown_by g.C.Source g.T.Site g.K.Station g.O.Sink c.args.config.now c.args.site.now c.args.station.now c.args.out.now)
+          (shown_by g.C.Source g.T.Site g.K.Station g.O.Sink c.report_command.new.config c.args.site.now c.report_command.new.station
           c.report_command.new.out)
           _ (run.last tells some);
       answer_is = run.answer;
@@ -86,9 +88,9 @@ returns-in-Ok-Some-Report-clause-report g c = λ is.
 
 pub returns-in-Err-clause-report : goal.returns-in-Err-clause-report
 returns-in-Err-clause-report g c = λ is.
-    report_without_memory (shown g.C.Source g.T.Site g.K.Station g.O.Sink c.args.config.now c.args.site.now c.args.station.now
+    report_without_memory (shown_by g.C.Source g.T.Site g.K.Station g.O.Sink c.args.config.now c.args.site.now c.args.station.now
     c.args.out.now)
-    (shown g.C.Source g.T.Site g.K.Station g.O.Sink c.args.config.now c.args.site.now c.no_memory.new.station c.args.out.now)
+    (shown_by g.C.Source g.T.Site g.K.Station g.O.Sink c.args.config.now c.args.site.now c.no_memory.new.station c.args.out.now)
     c.no_memory.result c.no_memory.ensures.status c.no_memory.ensures.told c.no_memory.ensures.last refl (λ names has. has)
 
 pub returns-in-Err-clause-demo : goal.returns-in-Err-clause-demo
@@ -103,8 +105,8 @@ returns-in-Ok-Some-Demo-clause-last g c = λ name told tells some.
     let is : words ≡ Some (Demo here.seed here.samples here.workers) = sym here.ensures.line ∙ ap meaning_of here.field-0-is
     ∙ ap (λ x. meaning_of (Some x)) here.field-0-0-is in
     demo_last words here.seed here.samples here.workers name c.told_demo.result
-    (shown g.C.Source g.T.Site g.K.Station g.O.Sink c.args.config.now c.args.site.now c.args.station.now c.args.out.now)
-    (shown g.C.Source g.T.Site g.K.Station g.O.Sink c.args.config.now c.args.site.now c.told_demo.new.station c.told_demo.new.out)
+    (shown_by g.C.Source g.T.Site g.K.Station g.O.Sink c.args.config.now c.args.site.now c.args.station.now c.args.out.now)
+    (shown_by g.C.Source g.T.Site g.K.Station g.O.Sink c.args.config.now c.args.site.now c.told_demo.new.station c.told_demo.new.out)
     is told (c.told_demo.ensures.last tells some)
 
 pub returns-in-Ok-Some-Count-clause-count : goal.returns-in-Ok-Some-Count-clause-count
@@ -130,9 +132,9 @@ returns-in-Ok-Some-Count-clause-count g c = λ workers is.
 
 pub returns-in-Err-clause-count : goal.returns-in-Err-clause-count
 returns-in-Err-clause-count g c = λ workers is.
-    count_without_memory (shown g.C.Source g.T.Site g.K.Station g.O.Sink c.args.config.now c.args.site.now c.args.station.now
+    count_without_memory (shown_by g.C.Source g.T.Site g.K.Station g.O.Sink c.args.config.now c.args.site.now c.args.station.now
     c.args.out.now)
-    (shown g.C.Source g.T.Site g.K.Station g.O.Sink c.args.config.now c.args.site.now c.no_memory.new.station c.args.out.now)
+    (shown_by g.C.Source g.T.Site g.K.Station g.O.Sink c.args.config.now c.args.site.now c.no_memory.new.station c.args.out.now)
     c.no_memory.result c.no_memory.ensures.status (λ tells. g.met.K.Station.only_now tells c.args.station.now)
     c.no_memory.ensures.told c.no_memory.ensures.last refl (λ names has. has)
 
@@ -147,8 +149,8 @@ returns-in-Ok-Some-Audit-clause-audit g c = λ is.
       nothing = run.nothing;
       quiet = run.quiet;
       last = λ tells reads some.
-          ends_at (shown g.C.Source g.T.Site g.K.Station g.O.Sink c.args.config.now c.args.site.now c.args.station.now c.args.out.now)
-          (shown g.C.Source g.T.Site g.K.Station g.O.Sink c.audit_command.new.config c.audit_command.new.site c.audit_command.new.station
+          ends_at (shown_by g.C.Source g.T.Site g.K.Station g.O.Sink c.args.config.now c.args.site.now c.args.station.now c.args.out.now)
+          (shown_by g.C.Source g.T.Site g.K.Station g.O.Sink c.audit_command.new.config c.audit_command.new.site c.audit_command.new.station
           c.audit_command.new.out)
           _ (run.last tells reads some);
       named = run.named;
@@ -160,9 +162,9 @@ returns-in-Ok-Some-Audit-clause-audit g c = λ is.
 
 pub returns-in-Err-clause-audit : goal.returns-in-Err-clause-audit
 returns-in-Err-clause-audit g c = λ is.
-    audit_without_memory (shown g.C.Source g.T.Site g.K.Station g.O.Sink c.args.config.now c.args.site.now c.args.station.now
+    audit_without_memory (shown_by g.C.Source g.T.Site g.K.Station g.O.Sink c.args.config.now c.args.site.now c.args.station.now
     c.args.out.now)
-    (shown g.C.Source g.T.Site g.K.Station g.O.Sink c.args.config.now c.args.site.now c.no_memory.new.station c.args.out.now)
+    (shown_by g.C.Source g.T.Site g.K.Station g.O.Sink c.args.config.now c.args.site.now c.no_memory.new.station c.args.out.now)
     c.no_memory.result c.no_memory.ensures.status c.no_memory.ensures.told c.no_memory.ensures.last refl (λ names has. has)
 
 pub returns-in-Ok-Some-Repeat-clause-repeat : goal.returns-in-Ok-Some-Repeat-clause-repeat
@@ -173,8 +175,8 @@ returns-in-Ok-Some-Repeat-clause-repeat g c = λ is.
       nothing = run.nothing;
       quiet = run.quiet;
       last = λ tells some.
-          ends_at (shown g.C.Source g.T.Site g.K.Station g.O.Sink c.args.config.now c.args.site.now c.args.station.now c.args.out.now)
-          (shown g.C.Source g.T.Site g.K.Station g.O.Sink c.repeat_command.new.config c.args.site.now c.repeat_command.new.station
+          ends_at (shown_by g.C.Source g.T.Site g.K.Station g.O.Sink c.args.config.now c.args.site.now c.args.station.now c.args.out.now)
+          (shown_by g.C.Source g.T.Site g.K.Station g.O.Sink c.repeat_command.new.config c.args.site.now c.repeat_command.new.station
           c.repeat_command.new.out)
           _ (run.last tells some);
       answer_is = run.answer;
@@ -188,9 +190,9 @@ returns-in-Ok-Some-Repeat-clause-repeat g c = λ is.
 
 pub returns-in-Err-clause-repeat : goal.returns-in-Err-clause-repeat
 returns-in-Err-clause-repeat g c = λ is.
-    repeat_without_memory (shown g.C.Source g.T.Site g.K.Station g.O.Sink c.args.config.now c.args.site.now c.args.station.now
+    repeat_without_memory (shown_by g.C.Source g.T.Site g.K.Station g.O.Sink c.args.config.now c.args.site.now c.args.station.now
     c.args.out.now)
-    (shown g.C.Source g.T.Site g.K.Station g.O.Sink c.args.config.now c.args.site.now c.no_memory.new.station c.args.out.now)
+    (shown_by g.C.Source g.T.Site g.K.Station g.O.Sink c.args.config.now c.args.site.now c.no_memory.new.station c.args.out.now)
     c.no_memory.result c.no_memory.ensures.status c.no_memory.ensures.told c.no_memory.ensures.last refl (λ names has. has)
 
 pub returns-in-Ok-Some-Column-clause-last : goal.returns-in-Ok-Some-Column-clause-last
@@ -200,8 +202,8 @@ returns-in-Ok-Some-Column-clause-last g c = λ name told tells some.
     let is : words ≡ Some (Column here.file.now here.name.now here.id here.period_us) = sym here.ensures.line ∙ ap meaning_of
     here.field-0-is ∙ ap (λ x. meaning_of (Some x)) here.field-0-0-is in
     column_last words here.file.now here.name.now here.id here.period_us name c.told_column.result
-    (shown g.C.Source g.T.Site g.K.Station g.O.Sink c.args.config.now c.args.site.now c.args.station.now c.args.out.now)
-    (shown g.C.Source g.T.Site g.K.Station g.O.Sink c.args.config.now c.told_column.new.site c.told_column.new.station
+    (shown_by g.C.Source g.T.Site g.K.Station g.O.Sink c.args.config.now c.args.site.now c.args.station.now c.args.out.now)
+    (shown_by g.C.Source g.T.Site g.K.Station g.O.Sink c.args.config.now c.told_column.new.site c.told_column.new.station
     c.told_column.new.out)
     is told (c.told_column.ensures.last tells some)
 
@@ -228,7 +230,7 @@ returns-in-Ok-Some-Sheet-clause-sheet g c = λ is.
 
 pub returns-in-Err-clause-sheet : goal.returns-in-Err-clause-sheet
 returns-in-Err-clause-sheet g c = λ is.
-    sheet_without_memory (shown g.C.Source g.T.Site g.K.Station g.O.Sink c.args.config.now c.args.site.now c.args.station.now
+    sheet_without_memory (shown_by g.C.Source g.T.Site g.K.Station g.O.Sink c.args.config.now c.args.site.now c.args.station.now
     c.args.out.now)
-    (shown g.C.Source g.T.Site g.K.Station g.O.Sink c.args.config.now c.args.site.now c.no_memory.new.station c.args.out.now)
+    (shown_by g.C.Source g.T.Site g.K.Station g.O.Sink c.args.config.now c.args.site.now c.no_memory.new.station c.args.out.now)
     c.no_memory.result c.no_memory.ensures.status c.no_memory.ensures.told c.no_memory.ensures.last refl (λ names has. has)

@@ -3,7 +3,7 @@ use Rattle.std.specs.Int.{w16, to_be_bytes}
 use Rattle.calibration.specs.Grid.{GridValue}
 use Rattle.four_point.proofs.Index.{residue_bound}
 use Rattle.segment.specs.Parts.{parts_of}
-use Rattle.segment_bytes.specs.Fields.{listed}
+use Rattle.segment_bytes.specs.Fields.{list_bytes}
 use Rattle.segment_bytes.specs.Grammar.{ends}
 use Rattle.segment_bytes.specs.Writing.{Puts}
 use Rattle.segment_bytes.proofs.Lengths.{body_is}
@@ -26,7 +26,7 @@ pub returns-clause-body : goal.returns-clause-body
 returns-clause-body c =
     let e = subst (λ x. Puts c.put_six-at.result (ends x) c.put_six-at.new.buf c.put_ends-at.new.buf c.put_ends-at.result)
     c.ends-ends.ensures c.put_ends-at.ensures.puts in
-    let r = subst (λ x. Puts c.put_ends-at.result (listed w16 (to_be_bytes w16) x) c.put_ends-at.new.buf c.put_levels-at.new.buf
+    let r = subst (λ x. Puts c.put_ends-at.result (list_bytes w16 (to_be_bytes w16) x) c.put_ends-at.new.buf c.put_levels-at.new.buf
     c.put_levels-at.result) c.residue.ensures.residue c.put_levels-at.ensures.puts in
     let all = puts_then _ _ (puts_then _ _ c.put_six-at.ensures.puts e) (puts_then _ _ r (puts_then _ _ c.put_list0-at.ensures.puts
     (puts_then _ _ c.put_table-at.ensures.puts (puts_then _ _ c.put_table-at-2.ensures.puts

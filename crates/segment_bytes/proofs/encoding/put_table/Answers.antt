@@ -1,6 +1,6 @@
 use Rattle.std.proofs.Common.{length, length-take-le, subst, ap, arith}
 use Rattle.std.specs.Int.{w16}
-use Rattle.segment_bytes.specs.Fields.{listed}
+use Rattle.segment_bytes.specs.Fields.{list_bytes}
 use Rattle.segment_bytes.specs.Grammar.{bin}
 use Rattle.segment_bytes.specs.Writing.{Puts}
 use Rattle.segment_bytes.proofs.Encoded.{table_bins}
@@ -25,7 +25,7 @@ put_list-requires-clause-room c =
 pub returns-clause-puts : goal.returns-clause-puts
 returns-clause-puts c =
     let k = c.keys_of-first in
-    subst (λ l. Puts c.args.at (listed w16 bin l) c.args.buf.now c.put_list.new.buf c.put_list.result)
+    subst (λ l. Puts c.args.at (list_bytes w16 bin l) c.args.buf.now c.put_list.new.buf c.put_list.result)
     (table_bins c.args.seg.now c.args.table k.result.0 k.result.1 c.fill.new.out k.ensures.first k.ensures.keys
     (omega (
       arith,

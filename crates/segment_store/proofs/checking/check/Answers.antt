@@ -7,7 +7,7 @@ use Rattle.segment_bytes.specs.declared.fault.BytesFault.{BytesFault}
 use Rattle.segment_bytes.specs.declared.fault.BytesFault.TheVariants as faults
 use Rattle.segment_bytes.specs.declared.layout.Layout.{Layout}
 use Rattle.segment_bytes.specs.Fields.{Fails}
-use Rattle.segment_bytes.specs.Decoding.{decoded}
+use Rattle.segment_bytes.specs.Decoding.{segment_in}
 use Rattle.segment_rules.specs.declared.name.Name.{Name}
 use Rattle.segment.specs.declared.segment.join.JoinRefusal.TheVariants as refusals
 use Rattle.segment_store.specs.declared.damage.Damage.TheVariants as damages
@@ -17,7 +17,7 @@ use Rattle.segment_store.specs.Resuming.{Checks, Told, StopsAs, digest, no_body,
 use Rattle.segment_store.proofs.checking.check.Goals as goal
 
 module _ (lay : Layout) (setup : Setup) (ends bytes kept found : List ℕ) (same : found ≡ kept) where
-  no_body_of : (e : BytesFault) (stop : Stop) → Fails e (decoded lay setup.grid bytes) → StopsAs e stop
+  no_body_of : (e : BytesFault) (stop : Stop) → Fails e (segment_in lay setup.grid bytes) → StopsAs e stop
       → Told parts_of (Checks lay setup ends bytes kept found) (Err stop)
   no_body_of faults.OutOfMemory stop f is = subst (λ s. Told parts_of (Checks lay setup ends bytes kept found) (Err s)) (sym is) tt
   no_body_of (faults.Short need have) stop f is =

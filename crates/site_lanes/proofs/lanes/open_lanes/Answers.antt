@@ -5,7 +5,7 @@ use Rattle.segment_store.specs.Held.{ends_of}
 use Rattle.lane_loans.specs.Lent.{CanRound}
 use Rattle.lane_loans.specs.declared.lane.Lane.{Lane}
 use Rattle.lane_ends.specs.declared.end.End.TheVariants.{More}
-use Rattle.recorded.specs.Recorded.{recorded}
+use Rattle.recorded.specs.Recorded.{recordings}
 use Rattle.recorded.proofs.Asking.{asks_more, stops_behind, first_names}
 use Rattle.site_lanes.specs.Answers.{GaugeAnswers, FaultOf}
 use Rattle.site_lanes.specs.Lanes.{HasSource, IsLane}
@@ -32,7 +32,7 @@ loop-gauge-preserved g c =
     let is = c.push_reserved.ensures.items in
     let long : c.loop-gauge.gauge ≡ length old = omega (arith, was.many, c.loop-gauge.lanes.ok.0) in
     let n = slice_index (ends_of c.args.store.now.held) in
-    let r = recorded c.args.conf.now (g.T.Site.files c.args.site.now) in
+    let r = recordings c.args.conf.now (g.T.Site.files c.args.site.now) in
     let asked = g.T.Site.names_asked in
     record {
       out = omega (arith, now.one_more, was.out, c.push_reserved.ensures.len);
@@ -46,7 +46,7 @@ loop-gauge-preserved g c =
       source_tells = λ shows some. now.source_tells shows;
       lanes = λ shows. each_more (λ (k : ℕ) (x : Lane g.row.T-Src.Denot). IsLane g.T.Src.Source.tells g.T.Src.Source.left r k x) old more l
           c.loop-gauge.gauge is long (was.lanes shows)
-          (subst (λ (f : Files). IsLane g.T.Src.Source.tells g.T.Src.Source.left (recorded c.args.conf.now f) c.loop-gauge.gauge l)
+          (subst (λ (f : Files). IsLane g.T.Src.Source.tells g.T.Src.Source.left (recordings c.args.conf.now f) c.loop-gauge.gauge l)
           (was.files shows) (now.lane shows));
       sound = λ shows. all_more_opened c.args.conf.now c.args.store.now.head.heads n (g.T.Site.files c.args.site.now) c.loop-gauge.gauge
           (was.sound shows)

@@ -3,7 +3,7 @@ use Rattle.std.proofs.Common.{◌≡◌, ◌≤◌, ◌<◌, vec_len, vec_capaci
 use Rattle.std.specs.Prelude.{slice_index, take}
 use Rattle.outside.specs.Site.{Asks}
 use Rattle.segment_store.specs.Held.{ends_of}
-use Rattle.recorded.specs.Recorded.{recorded}
+use Rattle.recorded.specs.Recorded.{recordings}
 use Rattle.recorded.specs.Asked.{file_names}
 use Rattle.site_lanes.specs.Lanes.{AreLanes, AreHeldTo, HasSource, IsNew}
 use Rattle.site_lanes.specs.Answers.{AllOpened}
@@ -21,7 +21,7 @@ invariant-loop-gauge g l =
       new : All IsNew l.lanes.items;
       held : AreHeldTo (ends_of l.store.held) l.lanes.items;
       source_tells : t.tells → 0 < l.gauge → g.T.Src.Source.tells;
-      lanes : t.tells → AreLanes g.T.Src.Source.tells g.T.Src.Source.left (recorded l.conf (t.files l.fn.site)) l.lanes.items;
+      lanes : t.tells → AreLanes g.T.Src.Source.tells g.T.Src.Source.left (recordings l.conf (t.files l.fn.site)) l.lanes.items;
       sound : t.tells → AllOpened l.conf l.store.head.heads (slice_index (ends_of l.store.held)) (t.files l.fn.site) l.gauge;
       asked : Asks (t.names_asked l.fn.site) (t.names_asked l.site) (take l.gauge (file_names l.conf));
       files : t.tells → t.files l.site ≡ t.files l.fn.site;

@@ -1,5 +1,5 @@
 use Rattle.std.proofs.Common.{rules, refl, ap, ◌∙◌, length, take, drop, ◌++◌}
-use Rattle.block_pool.specs.Units.{BlankValue, written}
+use Rattle.block_pool.specs.Units.{BlankValue, buffer_after_loan}
 use Rattle.block_pool.proofs.unit.Blank.buffer.Goals as goal
 
 pub returns : goal.returns
@@ -12,7 +12,7 @@ returns c = (
           grid =
               c.self.inside.segment.grid;
         }) c.self.inside.buffer.ok.0
-        ∙ ap (λ (v : BlankValue). record { buffer = written v.buffer w; grid = v.grid }) c.self.view_is,
+        ∙ ap (λ (v : BlankValue). record { buffer = buffer_after_loan v.buffer w; grid = v.grid }) c.self.view_is,
   ),
   record { writes_back = tt; value = search rules; long = search rules },
 )

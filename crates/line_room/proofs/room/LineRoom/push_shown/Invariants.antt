@@ -1,10 +1,10 @@
 use Rattle.std.proofs.Common.{◌≡◌, ◌++◌, take}
-use Rattle.line_room.specs.Room.{shown}
+use Rattle.line_room.specs.Room.{shown_text}
 use Rattle.line_room.proofs.room.LineRoom.push_shown.Given as goal
 
 -- what is left of the text is not written yet
 abbrev pub invariant-loop-byte : goal.invariant-loop-byte
 invariant-loop-byte l = record {
-  written : l.self.bytes ≡ l.fn.self.bytes ++ shown (take l.byte-index l.text);
+  written : l.self.bytes ≡ l.fn.self.bytes ++ shown_text (take l.byte-index l.text);
   room : l.self.room ≡ l.fn.self.room;
 }

@@ -7,10 +7,10 @@ use Rattle.segment.specs.Parts.{parts_of}
 use Rattle.segment_bytes.specs.Grammar.{body_of}
 use Rattle.store_head.specs.Head.{see_head}
 use Rattle.segment_store.specs.Held.{AreHeld, ends_of}
-use Rattle.segment_store.specs.Image.{stored, extended, IsNext}
+use Rattle.segment_store.specs.Image.{with_digest, ends_after, IsNext}
 use Rattle.segment_store.specs.Moments.{IsAt}
 use Rattle.segment_store.specs.Places.{IsNear, IsStep}
-use Rattle.segment_store.proofs.Bodies.{length-stored}
+use Rattle.segment_store.proofs.Bodies.{length-with_digest}
 use Rattle.segment_store.proofs.Holding.{ends-long}
 use Rattle.segment_store.proofs.Nearness.{near_small, near_step}
 use Rattle.segment_store.proofs.putting.State.put.Goals as goal
@@ -59,11 +59,11 @@ returns-in-Ok-clause-stored g c tells bodies isopen at =
       joins = joins;
     } in
     let bytes = body_of s.layout p in
-    let grown : s.place + length (stored bytes) + 1 ≡ s.place + c.stage-n.result =
-    omega (arith, length-stored bytes, c.stage-n.ensures.len) in
+    let grown : s.place + length (with_digest bytes) + 1 ≡ s.place + c.stage-n.result =
+    omega (arith, length-with_digest bytes, c.stage-n.ensures.len) in
     let done = c.in-Ok.ensures.stored tells head bodies ends p at next (ap (take c.stage-n.result) c.deref.ensures.value
     ∙ c.stage-n.ensures.filled) in
-    let placed = subst (λ place. IsAt head (bodies ++ p ∷ []) (extended ends p) place (k.seen c.write_body.new.station)
+    let placed = subst (λ place. IsAt head (bodies ++ p ∷ []) (ends_after ends p) place (k.seen c.write_body.new.station)
     (k.leaves c.write_body.new.station)) grown done in (
       next,
       subst (λ e. IsAt head (bodies ++ p ∷ []) e (s.place + c.stage-n.result) (k.seen c.write_body.new.station)
