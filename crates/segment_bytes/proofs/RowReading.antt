@@ -11,7 +11,8 @@ use Rattle.segment_bytes.specs.declared.fault.BytesFault.{BytesFault}
 use Rattle.segment_bytes.specs.declared.fault.BytesFault.TheVariants.{Trailing}
 use Rattle.segment_bytes.specs.declared.layout.Layout.TheVariants.{Two}
 use Rattle.segment_bytes.specs.Fields.{◌>>=◌, Fails, Reader, number_at, both, seen_as, times, list_at}
-use Rattle.segment_bytes.specs.Rows.{RowValue, cell_in, row_cells, cells_of, bin_of, or_next, wrong_row}
+use Rattle.std.specs.Option.{option_or}
+use Rattle.segment_bytes.specs.Rows.{RowValue, cell_in, row_cells, cells_of, bin_of, wrong_row}
 use Rattle.segment_bytes.specs.Grammar.{Back, Body, bin_at, row_at, six_at, ends_at, back_at, body_at, parts_of_body, flat}
 use Rattle.segment_bytes.specs.Decoding.{all_of, or_fault, parts_in}
 use Rattle.segment_bytes.specs.RowReading.{FoundRows, no_rows, wrong_in, with_row, with_rows, cells_alone, parts_of_rows}
@@ -76,7 +77,7 @@ abbrev pub row_made : ℕ → FoundRows → ℕ → List Cell → FoundRows
 row_made k found lo cells = record {
   cells = cells;
   from = lo + 1;
-  wrong = or_next found.wrong (wrong_in found.from k (length found.cells)
+  wrong = option_or found.wrong (wrong_in found.from k (length found.cells)
       (record { lo = lo; bins = map bin_of (drop (length found.cells) cells) }));
 }
 
@@ -92,7 +93,7 @@ row_is k found have lo count bytes first rest after cells a b h =
     ∙ ap (λ (bins : List Bin). made (record {
       cells = found.cells ++ map (cell_in lo) t.0.0;
       from = lo + 1;
-      wrong = or_next found.wrong (wrong_in found.from k (length found.cells) (record { lo = lo; bins = bins }));
+      wrong = option_or found.wrong (wrong_in found.from k (length found.cells) (record { lo = lo; bins = bins }));
     }) t.0.1) (sym (bins_again lo found.cells t.0.0))
     ∙ ap (λ (q : List Cell × List ℕ). made (row_made k found lo q.0) q.1) p
   where
@@ -101,8 +102,8 @@ row_is k found have lo count bytes first rest after cells a b h =
 
 -- ---- all rows
 
-chosen : (o : Option ℕ) (b : Bool) (w n : Option ℕ) (i : ℕ) → or_next o (if b then or_next w n else Some i)
-    ≡ or_next (or_next o (if b then w else Some i)) n
+chosen : (o : Option ℕ) (b : Bool) (w n : Option ℕ) (i : ℕ) → option_or o (if b then option_or w n else Some i)
+    ≡ option_or (option_or o (if b then w else Some i)) n
 chosen (Some place) b w n i = refl
 chosen None true w n i = refl
 chosen None false w n i = refl
@@ -113,11 +114,11 @@ row_more k found r rs =
     ∙ ap (λ n. length found.cells + n) (length-map r.bins (cell_in r.lo)) in
     let test = nat_le found.from r.lo && nat_lt 0 (length r.bins) in
     let one = wrong_bin (r.lo + 1) k (length found.cells) r.bins in
-    ap (λ (l : List Cell). (l, or_next found.wrong (wrong_row found.from k (length found.cells) (r ∷ rs))))
+    ap (λ (l : List Cell). (l, option_or found.wrong (wrong_row found.from k (length found.cells) (r ∷ rs))))
     (sym (append_assoc found.cells (row_cells r) (cells_of rs)))
     ∙ ap (λ (o : Option ℕ). ((found.cells ++ row_cells r) ++ cells_of rs, o))
     (chosen found.wrong test one (wrong_row (r.lo + 1) k (length found.cells + length r.bins) rs) (length found.cells)
-    ∙ ap (λ n. or_next (or_next found.wrong (if test then one else Some (length found.cells))) (wrong_row (r.lo + 1) k n rs)) (sym long))
+    ∙ ap (λ n. option_or (option_or found.wrong (if test then one else Some (length found.cells))) (wrong_row (r.lo + 1) k n rs)) (sym long))
 
 pub rows_on : (k : ℕ) (found next : FoundRows) (have count i : ℕ) (bytes after : List ℕ)
     (total : Result ((List Cell × Option ℕ) × List ℕ) BytesFault) → i < count
@@ -131,7 +132,7 @@ rows_on k found next have count i bytes after total lt h so_far =
     (seen_on row_at have (with_rows k found) (with_rows k (with_row k found t.0.0)) count i bytes t.0.0 t.0.1 total lt
     (λ rs. row_more k found t.0.0 rs) t.1 so_far)
 
-no_next : (o : Option ℕ) → or_next o None ≡ o
+no_next : (o : Option ℕ) → option_or o None ≡ o
 no_next None = refl
 no_next (Some place) = refl
 
@@ -140,7 +141,7 @@ pub rows_done : (k : ℕ) (found : FoundRows) (have count i : ℕ) (bytes : List
     → seen (with_rows k found) (times row_at (count - i) have bytes) ≡ total → total ≡ Ok ((found.cells, found.wrong), bytes)
 rows_done k found have count i bytes total le so_far =
     seen_done row_at have (with_rows k found) count i bytes total le so_far
-    ∙ ap (λ (l : List Cell). Ok ((l, or_next found.wrong None), bytes)) (append-nil found.cells)
+    ∙ ap (λ (l : List Cell). Ok ((l, option_or found.wrong None), bytes)) (append-nil found.cells)
     ∙ ap (λ (o : Option ℕ). Ok ((found.cells, o), bytes)) (no_next found.wrong)
 
 -- ---- a body whose list 0 is seen as something else

@@ -11,7 +11,8 @@ use Rattle.calibration.specs.Grid.{GridValue}
 use Rattle.segment_rules.specs.Parts.{PartsValue}
 use Rattle.segment_rules.specs.Tests.{wrong_bin, order_broken}
 use Rattle.segment_bytes.specs.declared.fault.BytesFault.{BytesFault}
-use Rattle.segment_bytes.specs.Rows.{RowValue, row_cells, cells_of, or_next, wrong_row}
+use Rattle.std.specs.Option.{option_or}
+use Rattle.segment_bytes.specs.Rows.{RowValue, row_cells, cells_of, wrong_row}
 use Rattle.segment_bytes.specs.Fields.{◌>>=◌, Reader, seen_as, list_at}
 use Rattle.segment_bytes.specs.Grammar.{Body, parts_of_body, row_at}
 use Rattle.segment_bytes.specs.Decoding.{all_of, or_fault}
@@ -34,12 +35,12 @@ abbrev pub with_row : ℕ → FoundRows → RowValue → FoundRows
 with_row classes found r = record {
   cells = found.cells ++ row_cells r;
   from = r.lo + 1;
-  wrong = or_next found.wrong (wrong_in found.from classes (length found.cells) r);
+  wrong = option_or found.wrong (wrong_in found.from classes (length found.cells) r);
 }
 
 abbrev pub with_rows : ℕ → FoundRows → List RowValue → List Cell × Option ℕ
 with_rows classes found rows =
-    (found.cells ++ cells_of rows, or_next found.wrong (wrong_row found.from classes (length found.cells) rows))
+    (found.cells ++ cells_of rows, option_or found.wrong (wrong_row found.from classes (length found.cells) rows))
 
 abbrev pub rows_at : ℕ → Reader (List Cell × Option ℕ)
 rows_at classes = seen_as (with_rows classes no_rows) (list_at w16 row_at)

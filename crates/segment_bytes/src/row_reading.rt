@@ -2,7 +2,7 @@ ghost use Rattle.std.specs.Prelude.{◌≡◌, ◌≤◌, ◌<◌, ◌+◌, ◌+
 ghost use Rattle.segment_rules.specs.Tests.{wrong_bin};
 ghost use Rattle.segment_bytes.specs.Fields.{Gives, seen_as, times};
 ghost use Rattle.segment_bytes.specs.Grammar.{bin_at, row_at};
-ghost use Rattle.segment_bytes.specs.Rows.{bin_of, cell_in, or_next};
+ghost use Rattle.segment_bytes.specs.Rows.{bin_of, cell_in};
 ghost use Rattle.segment_bytes.specs.RowReading.{with_row, with_rows, no_rows, wrong_in};
 ghost use Rattle.segment_bytes.specs.Views.{see_rows};
 
@@ -81,16 +81,6 @@ fn first_wrong_in(from: u32, classes: u16, index: u32, lo: u16, cells: &[Cell]) 
     first_wrong_cell(u32::from(lo) + 1, classes, index, cells)
 }
 
-// The first of two places, if there is one.
-fn or_next(first: Option<u32>, next: Option<u32>) -> Option<u32>
-    ensures { result ≡ or_next first next }
-{
-    match first {
-        Some(place) => Some(place),
-        None => next,
-    }
-}
-
 // Reads one row more.
 fn push_row<'a>(
     rows: &mut Rows,
@@ -113,7 +103,7 @@ fn push_row<'a>(
     let rest = push_cells(&mut rows.cells, have, lo, count, rest)?;
     let wrong = first_wrong_in(rows.from, classes, start as u32, lo, &rows.cells[start..]);
     rows.from = u32::from(lo) + 1;
-    rows.wrong = or_next(rows.wrong, wrong);
+    rows.wrong = rows.wrong.or(wrong);
     Ok(rest)
 }
 

@@ -15,7 +15,7 @@ pub returns-clause-reads : goal.returns-clause-reads
 returns-clause-reads c =
     let long : vec_len c.args.rows.now.cells ≡ length c.args.rows.now.cells.items = omega (arith, c.args.rows.now.cells.ok.0) in
     rw (
-      c.or_next-rows.ensures,
+      c.or-rows.ensures,
       c.first_wrong_in-wrong.ensures,
       c.from.ensures,
       c.len-start.ensures,
