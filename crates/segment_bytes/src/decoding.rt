@@ -31,7 +31,7 @@ fn loaded(alloc: Global, grid: &Grid, parts: &Parts) -> Result<Segment, BytesFau
     }
 }
 
-#[tactic(auto, unfolding(crate::specs::Decoding::segment_in_in))]
+#[tactic(auto, unfolding(crate::specs::Decoding::segment_in))]
 fn checked(alloc: Global, layout: Layout, grid: &Grid, bytes: &[u8]) -> Result<Segment, BytesFault>
     ensures grid { IfOk result (λ s. s.grid ≡ grid.now) }
     ensures longest { IfOk result (λ s. s.longest ≡ longest_of (parts_of s).name) }
