@@ -1,5 +1,4 @@
 pub mod TableRun
-pub mod FiguresTaken
 pub mod RecordingRead
 pub mod NoMemory
 pub mod CountLeft

@@ -10,23 +10,23 @@ use Rattle.calibration.specs.Gain.{GainValue}
 use Rattle.calibration.specs.Grid.{GridValue}
 use Rattle.file_tasks.specs.FileState.{Sound, TornEnd, TooManySamples, body_state}
 use Rattle.monitor.specs.Figures.{AreFigures}
-use Rattle.monitor.specs.declared.figures.Figures.{Figures}
+use Rattle.recount.specs.declared.running.RunningCount.{RunningCount}
 use Rattle.file_tasks.proofs.BodyState.{sound_body, torn_body, long_body}
 
 -- by the gain and the grid of a classifier
-pub by_classifier : (grid table_grid : GridValue) (gain table_gain : GainValue) (old new : Figures) (raws : List ℤ) → grid ≡ table_grid →
-    gain ≡ table_gain → ((w : List ℤ) → AreFigures grid gain old w → AreFigures grid gain new (w ++ raws)) → (w : List ℤ) →
-    AreFigures table_grid table_gain old w → AreFigures table_grid table_gain new (w ++ raws)
+pub by_classifier : (grid table_grid : GridValue) (gain table_gain : GainValue) (old new : RunningCount (List ℕ)) (raws : List ℤ)
+    → grid ≡ table_grid → gain ≡ table_gain → ((w : List ℤ) → AreFigures grid gain old w → AreFigures grid gain new (w ++ raws))
+    → (w : List ℤ) → AreFigures table_grid table_gain old w → AreFigures table_grid table_gain new (w ++ raws)
 by_classifier grid table_grid gain table_gain old new raws a b step = rw (a, b) at step
 
-pub of_classifier : (grid table_grid : GridValue) (gain table_gain : GainValue) (f : Figures) (w : List ℤ) → grid ≡ table_grid →
-    gain ≡ table_gain → AreFigures table_grid table_gain f w → AreFigures grid gain f w
+pub of_classifier : (grid table_grid : GridValue) (gain table_gain : GainValue) (f : RunningCount (List ℕ)) (w : List ℤ)
+    → grid ≡ table_grid → gain ≡ table_gain → AreFigures table_grid table_gain f w → AreFigures grid gain f w
 of_classifier grid table_grid gain table_gain f w a b are = rw (a, b) are
 
 -- The body was split after the samples w, and a piece was read, with the end that it had.
-module _ (grid : GridValue) (gain : GainValue) (r : Figures) (w : List ℤ) (body before after : List ℕ) (room n : ℕ) (end : FillEnd)
-    (buf : List ℤ) (split : Splits body w before) (same : SameFirst n buf (samples before)) (t : Takes room before n end after)
-    (are : AreFigures grid gain r (w ++ take n buf)) where
+module _ (grid : GridValue) (gain : GainValue) (r : RunningCount (List ℕ)) (w : List ℤ) (body before after : List ℕ) (room n : ℕ)
+    (end : FillEnd) (buf : List ℤ) (split : Splits body w before) (same : SameFirst n buf (samples before))
+    (t : Takes room before n end after) (are : AreFigures grid gain r (w ++ take n buf)) where
   as_ended : (e : FillEnd) → end ≡ e → Takes room before n e after
   as_ended e is = subst (λ (x : FillEnd). Takes room before n x after) is t
 

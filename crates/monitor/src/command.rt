@@ -9,11 +9,12 @@ ghost use Rattle.monitor.specs.Task.{table_task};
 ghost use Rattle.file_tasks.specs.Answer.{IsPrinting};
 
 use crate::counting::table_page;
-use crate::figures::Figures;
 use crate::read::read_recording;
 use outside::{Sink, Site};
+use recount::RunningCount;
 use status::Status;
 use std::alloc::Global;
+use three_point::HalfUnits;
 
 /// Prints the rainflow table of a recording (ASTM E1049-85, 5.4.4).
 ///
@@ -43,7 +44,7 @@ pub fn table_command<T: Site, O: Sink>(
 }
 
 // Prints the table of a recording's samples.
-fn print_table<O: Sink>(alloc: Global, figures: Figures, out: &mut O) -> Status
+fn print_table<O: Sink>(alloc: Global, figures: RunningCount<HalfUnits>, out: &mut O) -> Status
     requires few { figures.counts.samples ≤ MAX_SAMPLES }
     requires figures { (w : List ℤ) × AreFigures table_grid table_gain figures w }
     ensures done { O.tells → result ≡ Status.Done → (w : List ℤ) →

@@ -1,15 +1,25 @@
-ghost use Rattle.std.specs.Prelude.{◌≡◌, ◌≤◌, ℤ, List, IfOk};
+ghost use Rattle.std.specs.Prelude.{◌≡◌, ◌≤◌, ℤ, List, [], IfOk};
 ghost use Rattle.recording.specs.declared.TheConstants.{MAX_SAMPLES};
 ghost use Rattle.monitor.specs.Figures.{AreFigures};
 ghost use Rattle.monitor.specs.Printed.{table_grid, table_gain, text_of_samples};
 
-use crate::figures::Figures;
 use crate::grid::{CLASSES, grid_of_table};
+use recount::RunningCount;
 use report::{Page, table_text};
 use std::alloc::{AllocError, Global};
+use three_point::HalfUnits;
+
+/// What a table tells of no samples: how many there are of each kind, and the half units at each
+/// range. It takes memory once, 10 bytes for each class.
+pub fn no_samples(alloc: Global) -> Result<RunningCount<HalfUnits>, AllocError>
+    ensures { IfOk result (λ figures. AreFigures table_grid table_gain figures []) }
+{
+    let half_units = HalfUnits::new(alloc, CLASSES)?;
+    RunningCount::new(alloc, CLASSES, half_units)
+}
 
 /// The page with the rainflow table of a recording's samples.
-pub fn table_page(alloc: Global, figures: Figures) -> Result<Page, AllocError>
+pub fn table_page(alloc: Global, figures: RunningCount<HalfUnits>) -> Result<Page, AllocError>
     requires few { figures.counts.samples ≤ MAX_SAMPLES }
     requires figures { (w : List ℤ) × AreFigures table_grid table_gain figures w }
     ensures { (w : List ℤ) → AreFigures table_grid table_gain figures w →

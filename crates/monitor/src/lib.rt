@@ -10,17 +10,17 @@
 //! (`crates/file_tasks/specs/FileState.antt` and `crates/file_tasks/specs/Answer.antt`), the named
 //! file alone is asked for, and all sources are back at the site.
 //!
-//! A recording is read in pieces of 64 KiB. The levels of a piece are put into a buffer, its points
-//! are found in their place and read by the run, which hands over the half units as it counts them:
-//! nothing of the recording is kept. `table` takes 96 KiB for the pieces and 10 bytes for each
-//! class, all before the first sample, and each sample takes constant time.
+//! A recording is read in pieces of 64 KiB, into a `recount::RunningCount` by range. The levels of
+//! a piece are put into a buffer, its points are found in their place and read by the run, which
+//! hands over the half units as it counts them: nothing of the recording is kept. `table` takes 96
+//! KiB for the pieces and 10 bytes for each class, all before the first sample, and each sample
+//! takes constant time.
 #![tactic(auto)]
 
 mod column;
 mod command;
 mod counting;
 mod demo;
-mod figures;
 mod grid;
 mod read;
 mod refused;

@@ -8,16 +8,20 @@ ghost use Rattle.recording.specs.declared.TheConstants.{MAX_SAMPLES};
 ghost use Rattle.monitor.specs.Figures.{AreFigures};
 ghost use Rattle.file_tasks.specs.declared.refusal.Refusal.TheVariants.{ReadFault};
 
-use crate::figures::Figures;
-use crate::grid::{CLASSES, table_classifier};
+use crate::counting::no_samples;
+use crate::grid::table_classifier;
 use file_tasks::Refusal;
 use outside::Source;
 use recording::{FillEnd, MAX_SAMPLES, fill, read_head};
-use recount::Piece;
+use recount::{Piece, RunningCount};
 use std::alloc::Global;
+use three_point::HalfUnits;
 
 /// Reads a recording to its end, piece by piece, and counts its samples in the classes of `table`.
-pub fn read_recording<S: Source>(alloc: Global, src: &mut S) -> Result<Figures, Refusal>
+pub fn read_recording<S: Source>(
+    alloc: Global,
+    src: &mut S,
+) -> Result<RunningCount<HalfUnits>, Refusal>
     // The figures are those of some samples, and where the source tells, of the file's.
     ensures figures { IfOk result (λ figures. (w : List ℤ) ×
         AreFigures table_grid table_gain figures w ×
@@ -29,7 +33,7 @@ pub fn read_recording<S: Source>(alloc: Global, src: &mut S) -> Result<Figures, 
 {
     read_head(src)?;
     let classifier = table_classifier();
-    let mut figures = Figures::new(alloc, CLASSES)?;
+    let mut figures = no_samples(alloc)?;
     let mut piece = Piece::new(alloc)?;
     let raws = piece.raws.as_mut_slice();
     let levels = piece.levels.as_mut_slice();

@@ -1,5 +1,6 @@
 use Rattle.std.proofs.Common.{◌≡◌, ◌++◌, [], Err, length, take, drop, length-take, sym, ◌∙◌, ap, arith, rules}
 use Rattle.recording.specs.Samples.{samples, torn_bytes}
+use Rattle.monitor.specs.Figures.{MOST_HALF_UNITS}
 use Rattle.monitor.specs.Printed.{table_grid, table_gain}
 use Rattle.file_tasks.specs.Answer.{answer_for}
 use Rattle.file_tasks.specs.FileState.{state_of}
@@ -41,7 +42,7 @@ returns-in_err-piece-clause-later g c = c.read_head.ensures.later
 
 pub loop-init : goal.loop-init
 loop-init g c =
-    let figures = c.in_ok-figures.ensures table_grid table_gain (omega arith) in
+    let figures = c.in_ok-figures.ensures in
     record {
       read = (
         [],
@@ -75,10 +76,13 @@ take-requires g c = record {
     c.loop.invariant.raws,
     c.loop.invariant.levels,
   );
-  figures = (
-    c.loop.invariant.read.0,
-    of_classifier _ table_grid _ table_gain c.loop.figures _ c.table_classifier-classifier.ensures.grid
-        c.table_classifier-classifier.ensures.gain c.loop.invariant.read.1,
+  counted = (
+    MOST_HALF_UNITS,
+    (
+      c.loop.invariant.read.0,
+      of_classifier _ table_grid _ table_gain c.loop.figures _ c.table_classifier-classifier.ensures.grid
+          c.table_classifier-classifier.ensures.gain c.loop.invariant.read.1,
+    ),
   );
 }
 
@@ -88,8 +92,8 @@ loop-preserved g c =
     let read = c.loop.invariant.read in
     let fill = c.fill-filled.ensures in
     let table = c.table_classifier-classifier.ensures in
-    let taken = by_classifier _ table_grid _ table_gain c.loop.figures c.take.new.self _ table.grid table.gain c.take.ensures.figures
-    read.0 read.1 in
+    let taken = by_classifier _ table_grid _ table_gain c.loop.figures c.take.new.self _ table.grid table.gain
+    (c.take.ensures.counted MOST_HALF_UNITS) read.0 read.1 in
     let filled : c.fill-filled.result.n ≡ length c.loop.raws = fill.full.0 c.in-More.is in
     record {
       read = (
@@ -121,8 +125,8 @@ returns-then-figures-gt-MAX_SAMPLES g c =
     let read = c.loop.invariant.read in
     let fill = c.fill-filled.ensures in
     let table = c.table_classifier-classifier.ensures in
-    let taken = by_classifier _ table_grid _ table_gain c.loop.figures c.take.new.self _ table.grid table.gain c.take.ensures.figures
-    read.0 read.1 in
+    let taken = by_classifier _ table_grid _ table_gain c.loop.figures c.take.new.self _ table.grid table.gain
+    (c.take.ensures.counted MOST_HALF_UNITS) read.0 read.1 in
     record {
       figures = tt;
       few = tt;
@@ -141,8 +145,8 @@ returns-in-Ended g c =
     let read = c.loop.invariant.read in
     let fill = c.fill-filled.ensures in
     let table = c.table_classifier-classifier.ensures in
-    let taken = by_classifier _ table_grid _ table_gain c.loop.figures c.take.new.self _ table.grid table.gain c.take.ensures.figures
-    read.0 read.1 in
+    let taken = by_classifier _ table_grid _ table_gain c.loop.figures c.take.new.self _ table.grid table.gain
+    (c.take.ensures.counted MOST_HALF_UNITS) read.0 read.1 in
     record {
       figures = (
         _,
@@ -166,8 +170,8 @@ returns-in-Torn-clause-cause g c =
     let read = c.loop.invariant.read in
     let fill = c.fill-filled.ensures in
     let table = c.table_classifier-classifier.ensures in
-    let taken = by_classifier _ table_grid _ table_gain c.loop.figures c.take.new.self _ table.grid table.gain c.take.ensures.figures
-    read.0 read.1 in
+    let taken = by_classifier _ table_grid _ table_gain c.loop.figures c.take.new.self _ table.grid table.gain
+    (c.take.ensures.counted MOST_HALF_UNITS) read.0 read.1 in
     λ tells.
     let answer : Torn 0 c.in-Torn.bytes ≡ answer_for 0 (state_of file) = sym
     (ap (answer_for 0) (state_with_head file c.in_ok-read_head.field-0 (c.in_ok-read_head.ensures.head tells (λ is. cc)) ∙ torn_end
