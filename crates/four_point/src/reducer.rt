@@ -97,8 +97,8 @@ impl Reducer {
         self.len = push(&mut self.levels, self.len, level, tally);
     }
 
-    /// Takes the next level of the history where it is a point more, as the next of a list of points
-    /// is: only deletions are tested, and not whether it goes on in the last direction.
+    /// Takes the next level of the history where it is a point more, as the next of a list of
+    /// points is: only deletions are tested, and not whether it goes on in the last direction.
     #[inline(always)]
     pub fn push_point(&mut self, level: u16, tally: &mut Tally)
         requires level { level < self.old.classes }

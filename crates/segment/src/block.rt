@@ -44,7 +44,8 @@ pub fn points_in(raws: &[i32], classifier: &Classifier, levels: &mut [u16]) -> B
     }
 }
 
-/// Reduces a list of points, each of which is one point more. Nothing was reduced or counted before.
+/// Reduces a list of points, each of which is one point more. Nothing was reduced or counted
+/// before.
 pub fn push_points(reducer: &mut Reducer, tally: &mut Tally, list: &[u16])
     requires residue { reducer.old.residue ≡ [] }
     requires cells { tally.old.cells ≡ [] }

@@ -3,8 +3,8 @@
 //! `Simple` keeps the ends of the history, the ranges but the last one, which may still grow, and
 //! one table for peaks, from the reference on, and valleys, below it. A level changes a table only
 //! where it decides a point. It takes levels one at a time, the points of a history at once (the
-//! peaks and valleys are those that the crossings' pass tells), another part that follows, or counts
-//! that were kept. `clear` is one pass over the places; only `new` takes memory.
+//! peaks and valleys are those that the crossings' pass tells), another part that follows, or
+//! counts that were kept. `clear` is one pass over the places; only `new` takes memory.
 #![tactic(auto)]
 
 /// Laws over the definitions alone.

@@ -314,8 +314,8 @@ impl Simple {
         ensures ends { self.new.ends ≡ ends_of list.now }
         ensures rules { IsSimple self.new }
         ensures histories { (h : List ℕ) → points h ≡ list.now → Counts self.new h }
-        ensures crossings { CrossesPoints crossings.new crossings.old.classes crossings.old.reference
-            list.now }
+        ensures crossings { CrossesPoints crossings.new
+            crossings.old.classes crossings.old.reference list.now }
         ensures crossing_rules { IsCrossings crossings.new }
         ensures crossing_histories { (h : List ℕ) → points h ≡ list.now → Crosses crossings.new h }
     {

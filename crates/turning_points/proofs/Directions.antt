@@ -3,12 +3,10 @@
 --   turns_by          the turns by directions: whether the history rises to x, which stands before the levels
 --   turns_by_changes  they are the turns
 --   turns_step        one step of the pass that keeps turns in place
-use Rattle.std.proofs.Common.{◌≡◌, ◌≢◌, ℕ, ◌+◌, ◌<◌, ◌≤◌, Bool, true, false, cond, ltb, eqb, not, ◌==◌, List, [], ◌∷◌, ◌++◌, length, take, drop, set, get_or, refl, sym, ap, ◌∙◌, arith, append_assoc}
-use Rattle.std.proofs.lemmas.List.{drop_more, take-set, take_more_set, drop-set-lt}
+use Rattle.std.proofs.Common.{◌≡◌, ◌≢◌, ℕ, ◌≤◌, Bool, true, false, cond, ltb, not, ◌==◌, List, [], ◌∷◌, length, drop, refl, sym, ap, ◌∙◌, arith}
 use Rattle.std.proofs.lemmas.Bool.Decides.{nat_tests}
 use Rattle.turning_points.specs.Points.{changes, is_turn}
 use Rattle.turning_points.specs.Pieces.{rises_at, turns_in}
-use mir.Val.{bool_byte}
 
 changes_by : (x y : ℕ) (h : List ℕ) (b : Bool) → (x == y) ≡ b → changes x (changes x h) ≡ changes x h →
     changes y (changes y h) ≡ changes y h → changes x (changes x (y ∷ h)) ≡ changes x (y ∷ h)

@@ -1,4 +1,4 @@
-use Rattle.std.proofs.Common.{◌+◌, ◌-◌, ◌<◌, ◌∙◌, refl, ap, max, min, length, arith}
+use Rattle.std.proofs.Common.{◌+◌, ◌-◌, ◌∙◌, refl, ap, max, min, length, arith}
 use Rattle.level_crossing.proofs.Steps.{place_within}
 use Rattle.level_crossing.proofs.Counted.{closed}
 use Rattle.level_crossing.proofs.points.count_outer.Goals as goal

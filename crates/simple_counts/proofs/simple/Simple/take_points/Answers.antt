@@ -1,4 +1,4 @@
-use Rattle.std.proofs.Common.{length, ap, sym, ◌∙◌}
+use Rattle.std.proofs.Common.{ap, sym, ◌∙◌}
 use Rattle.simple_counts.proofs.OfPoints.{filled, filled_counts, fills_with}
 use Rattle.simple_counts.proofs.simple.Simple.take_points.Goals as goal
 
