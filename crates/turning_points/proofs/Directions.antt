@@ -1,5 +1,6 @@
 -- Where neighbours differ, a level turns exactly where the direction changes.
 --   changes_again     changes have no level that equals the one before it
+--   first_differs     so the first of them differs from the one before, and the rest are changes too
 --   turns_by          the turns by directions: whether the history rises to x, which stands before the levels
 --   turns_by_changes  they are the turns
 --   turns_step        one step of the pass that keeps turns in place
@@ -39,7 +40,7 @@ first_by x y h false e f =
     let a : y ∷ changes y h ≡ y ∷ h = sym (ap (λ b. cond b (changes x h) (y ∷ changes y h)) e) ∙ f in
     (grind (arith, nat_tests), ap (drop 1) a)
 
-first_differs : (x y : ℕ) (h : List ℕ) → changes x (y ∷ h) ≡ y ∷ h → (x ≢ y) × (changes y h ≡ h)
+pub first_differs : (x y : ℕ) (h : List ℕ) → changes x (y ∷ h) ≡ y ∷ h → (x ≢ y) × (changes y h ≡ h)
 first_differs x y h f = first_by x y h (x == y) refl f
 
 abbrev pub differ : Bool → Bool → Bool
@@ -59,7 +60,7 @@ turns_differ b x (z ∷ l) n f =
     ap (λ t. cond t (x ∷ turns_in x z l) (turns_in x z l)) (turn_is b x z n d.0)
     ∙ ap (λ m. cond (differ (ltb x z) (ltb b x)) (x ∷ m) m) (turns_differ x z l d.0 d.1)
 
-no_turn : (b x z : ℕ) → b ≡ x → is_turn b x z ≡ false
+pub no_turn : (b x z : ℕ) → b ≡ x → is_turn b x z ≡ false
 no_turn b x z e = grind (arith, nat_tests)
 
 as_it_leaves : (c : Bool) → differ c c ≡ false

@@ -3,7 +3,7 @@
 --   last_of-index, last_of-take   the last level of a list, by its place
 --   piece                         what a piece gives behind the last two points of a history
 --   first_piece                   the same of a history that begins
-use Rattle.std.proofs.Common.{◌≡◌, ◌≢◌, ℕ, suc, ◌+◌, ◌-◌, ◌<◌, ◌≤◌, ◌⊎◌, inl, inr, Bool, true, false, ◌==◌, if◌then◌else◌, List, [], ◌∷◌, ◌++◌, length, take, get_or, refl, sym, ap, ◌∙◌, subst, arith, append_assoc, append-nil}
+use Rattle.std.proofs.Common.{◌≡◌, ◌≢◌, ℕ, suc, ◌+◌, ◌-◌, ◌<◌, ◌≤◌, ◌⊎◌, inl, inr, Bool, true, false, if◌then◌else◌, List, [], ◌∷◌, ◌++◌, length, take, get_or, refl, sym, ap, ◌∙◌, subst, arith, append_assoc, append-nil}
 use Rattle.std.proofs.lemmas.Bool.{cases_eq}
 use Rattle.std.proofs.lemmas.Bool.Decides.{nat_tests}
 use Rattle.std.proofs.lemmas.List.{take-take, take_all}
@@ -15,6 +15,7 @@ use Rattle.turning_points.specs.declared.turner.Recent.{Recent}
 use Rattle.turning_points.specs.declared.turner.Recent.TheVariants.{Nothing, One, Two}
 use Rattle.turning_points.proofs.Zigzag.{Turn, IsZigzag, zig_points}
 use Rattle.turning_points.proofs.Over.{points_inside}
+use Rattle.turning_points.proofs.Directions.{changes_again, first_differs, no_turn}
 use Rattle.turning_points.proofs.Push.{end_differs}
 use Rattle.turning_points.proofs.TurnedSteps.{one_kept, two_kept, first_level, second_point, goes_further, turns_at}
 use Rattle.turning_points.proofs.PutEnds.{between_differs}
@@ -27,43 +28,10 @@ last_of-index x (y ∷ z ∷ l) h =
     let e : length (y ∷ z ∷ l) - 1 ≡ suc (length (z ∷ l) - 1) = omega arith in
     last_of-index y (z ∷ l) (omega arith) ∙ sym (ap (λ i. get_or (y ∷ z ∷ l) i 0) e)
 
--- changes of a list
-
-length-changes : (x : ℕ) (l : List ℕ) → length (changes x l) ≤ length l
-length-changes x [] = omega arith
-length-changes x (y ∷ l) = by (x == y) (length-changes x l) (length-changes y l)
-  where
-    by : (b : Bool) → length (changes x l) ≤ length l → length (changes y l) ≤ length l →
-        length (if b then changes x l else y ∷ changes y l) ≤ length (y ∷ l)
-    by true p q = omega arith
-    by false p q = omega arith
-
-changes-changes_by : (x y : ℕ) (l : List ℕ) (b : Bool) → (x == y) ≡ b → changes x (changes x l) ≡ changes x l →
-    changes y (changes y l) ≡ changes y l → changes x (if b then changes x l else y ∷ changes y l) ≡
-    (if b then changes x l else y ∷ changes y l)
-changes-changes_by x y l true e p q = p
-changes-changes_by x y l false e p q = ap (λ b. if b then changes x (changes y l) else y ∷ changes y (changes y l)) e ∙ ap (λ k. y ∷ k) q
-
-pub changes-changes : (x : ℕ) (l : List ℕ) → changes x (changes x l) ≡ changes x l
-changes-changes x [] = refl
-changes-changes x (y ∷ l) = changes-changes_by x y l _ refl (changes-changes x l) (changes-changes y l)
-
--- a list of changes goes on with another level, and the rest are changes too
-record Differs (x y : ℕ) (l : List ℕ) : Type 0 where
-  other : x ≢ y
-  rest : changes y l ≡ l
-
-differs_by : (x y : ℕ) (l : List ℕ) (b : Bool) → (x == y) ≡ b → (if b then changes x l else y ∷ changes y l) ≡ y ∷ l → Differs x y l
-differs_by x y l true e f = absurd (let p = length-changes x l in let q = ap length f in omega arith)
-differs_by x y l false e f = record { other = grind (arith, nat_tests); rest = cc }
-
-differs : (x y : ℕ) (l : List ℕ) → changes x (y ∷ l) ≡ y ∷ l → Differs x y l
-differs x y l e = differs_by x y l _ refl e
-
 -- the points of a history do not change where levels that repeat are dropped
 points-changes : (front : List ℕ) (x : ℕ) (l : List ℕ) → points (front ++ (x ∷ changes x l)) ≡ points (front ++ (x ∷ l))
 points-changes front x l =
-    let same : points (x ∷ changes x l) ≡ points (x ∷ l) = ap (λ k. x ∷ turns x k) (changes-changes x l) in
+    let same : points (x ∷ changes x l) ≡ points (x ∷ l) = ap (λ k. x ∷ turns x k) (changes_again x l) in
     let inside = λ (k : List ℕ). ap (λ m. points (front ++ m)) (sym (append-nil (x ∷ k))) ∙ sym (points_inside front (x ∷ k) [])
     ∙ ap (λ m. points (front ++ m)) (append-nil (points (x ∷ k))) in
     inside (changes x l) ∙ ap (λ m. points (front ++ m)) same ∙ sym (inside l)
@@ -83,9 +51,6 @@ turn_at_point p q x v s e = grind (arith, nat_tests)
 
 between_point : (p q x v : ℕ) → ((p < x) × (q < x)) ⊎ ((x < p) × (x < q)) → x ≢ v → is_turn q x v ≡ false → IsBetween p x v
 between_point p q x v s n e = grind (arith, nat_tests)
-
-no_turn : (q x v : ℕ) → q ≡ x → is_turn q x v ≡ false
-no_turn q x v e = grind (arith, nat_tests)
 
 beyond : (p q x : ℕ) → ((p < x) × (q < x)) ⊎ ((x < p) × (x < q)) → p ≢ x
 beyond p q x s = grind arith
@@ -139,8 +104,8 @@ given_of [] h given p q x s e k = record {
       (subst (λ f. HasGiven f given (recent_of p x)) (sym (append-nil h)) k);
 }
 given_of (v ∷ l) h given p q x s e k =
-    let d = differs x v l e in
-    record { turned = given_step h given p q x v l _ refl s d.other k (λ g r side m. given_of l (h ++ v ∷ []) g r x v side d.rest m) }
+    let d = first_differs x v l e in
+    record { turned = given_step h given p q x v l _ refl s d.0 k (λ g r side m. given_of l (h ++ v ∷ []) g r x v side d.1 m) }
 
 -- behind a history whose last point is x, levels that repeat change no points
 same_points : (h front : List ℕ) (x : ℕ) (l : List ℕ) → points h ≡ front ++ (x ∷ []) → points (h ++ changes x l) ≡ points (h ++ l)
@@ -166,7 +131,7 @@ pub piece : (h given : List ℕ) (p x : ℕ) (l : List ℕ) → HasGiven h given
     → HasGiven (h ++ l) (given ++ turns_in p x (changes x l)) (recent_of (last_of p (turns_in p x (changes x l))) (last_of x (changes x l)))
 piece h given p x l k =
     let f = front_of h p x (cases_eq p x) k.kept_are in
-    turned_same (same_points h f.0 x l f.1) (given_of (changes x l) h given p p x (side_of_points p x) (changes-changes x l) k).turned
+    turned_same (same_points h f.0 x l f.1) (given_of (changes x l) h given p p x (side_of_points p x) (changes_again x l) k).turned
 
 -- the same where the last two points are known
 pub piece_two : {h given : List ℕ} {p x : ℕ} → HasGiven h given (Two p x) → HasGiven h given (recent_of p x)
