@@ -82,7 +82,7 @@ module _ (r : ℕ) (p b s b' s' : List ℕ) (i place : ℕ) (z : IsZigzag p) (o 
   extremes_step true t q w = bottom t q w
   extremes_step false t q w = top t q w
 
-none_of_two : (r k : ℕ) (p : List ℕ) → extremes_at r k (take 2 p) ≡ 0
+pub none_of_two : (r k : ℕ) (p : List ℕ) → extremes_at r k (take 2 p) ≡ 0
 none_of_two r k [] = refl
 none_of_two r k (x ∷ []) = refl
 none_of_two r k (x ∷ y ∷ p) = refl

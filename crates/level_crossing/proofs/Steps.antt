@@ -114,7 +114,7 @@ module _ (r : ℕ) (p b s b' s' : List ℕ) (nb i k place : ℕ) (z : IsZigzag p
   inner_step true t q w n = bottom t q w n
   inner_step false t q w n = top t q w n
 
-at_few : (k i : ℕ) → is_at k i ≤ 1
+pub at_few : (k i : ℕ) → is_at k i ≤ 1
 at_few k i = grind (arith, nat_tests)
 
 pub few_yes : (b b' : List ℕ) (place n : ℕ) (t : Bool) → place < length b → b' ≡ cond t (raise b place) b → ((k : ℕ) → get_or b k 0 ≤ n) →

@@ -1,7 +1,7 @@
 -- Simple counts that are loaded.
 use Rattle.std.proofs.Common.{◌≡◌, ◌≢◌, ℕ, ◌+◌, ◌-◌, ◌<◌, ◌≤◌, ◌⊎◌, inl, inr, Bool, true, false, cond, leb, List, length, get_or, replicate, sum, refl, sym, ap, subst, ◌∙◌, arith, length-set}
 use Rattle.std.proofs.lemmas.Bool.Decides.{nat_tests}
-use Rattle.std.proofs.lemmas.Bool.{cases_eq}
+use Rattle.std.proofs.lemmas.Bool.{cases_eq, leb-true, leb-false}
 use Rattle.tally.specs.declared.cells.Bin.{Bin}
 use Rattle.calibration.specs.declared.grid.TheConstants.{MIN_CLASSES, MAX_CLASSES}
 use Rattle.turning_points.specs.EndPoints.{EndPoints}
@@ -29,12 +29,6 @@ opened_at : (b : Bool) (x : ℕ) → b ≡ true → ◌≡◌ {A = ℕ} (cond b 
 opened_at true x e = refl
 opened_at false x e = absurd cc
 
-leb_true : (n : ℕ) → leb 2 n ≡ true → 2 ≤ n
-leb_true n e = grind (arith, nat_tests)
-
-leb_false : (n : ℕ) → leb 2 n ≡ false → n < 2
-leb_false n e = grind (arith, nat_tests)
-
 -- the limits of a grid
 abbrev pub IsGrid : ℕ → ℕ → Type 0
 IsGrid classes reference = ((MIN_CLASSES ≤ classes) × (classes ≤ MAX_CLASSES)) × ((1 ≤ reference) × (reference < classes))
@@ -57,7 +51,7 @@ module _ (classes reference : ℕ) (e : EndPoints) (peaks valleys ranges : List 
         Decided classes e ranges (cond b (lower (table_with_bins 0 (replicate classes 0) ranges) (last_range e))
         (table_with_bins 0 (replicate classes 0) ranges))
     decided_by true is =
-        let le = leb_true e.points is in
+        let le = leb-true 2 e.points is in
         let long = table_long 0 classes ranges in
         let within : last_range e < length (table_with_bins 0 (replicate classes 0) ranges) = omega (arith, long, last_within) in
         record {
@@ -81,7 +75,7 @@ module _ (classes reference : ℕ) (e : EndPoints) (peaks valleys ranges : List 
         record {
           long = table_long 0 classes ranges;
           at = λ i. omega (arith, closed_at (leb 2 e.points) (is_at i (last_range e)) is, all_at i);
-          total = omega (arith, table_sum 1 classes classes ranges c.ranges_are (omega arith), c.sides, leb_false e.points is);
+          total = omega (arith, table_sum 1 classes classes ranges c.ranges_are (omega arith), c.sides, leb-false 2 e.points is);
         }
 
     decided : Decided classes e ranges (decided_of classes e ranges)
@@ -162,30 +156,18 @@ module _ (classes reference : ℕ) (e : EndPoints) (peaks valleys ranges : List 
       pub loaded_peaks : (l : ℕ) → peak_count (loaded_of classes reference e peaks valleys ranges) l ≡ count_at l peaks
       loaded_peaks l = by (leb reference l) refl
         where
-          at_or_above : (r l : ℕ) → leb r l ≡ true → r ≤ l
-          at_or_above r l e = grind (arith, nat_tests)
-
-          under : (r l : ℕ) → leb r l ≡ false → l < r
-          under r l e = grind (arith, nat_tests)
-
           by : (b : Bool) → leb reference l ≡ b →
               cond b (get_or (table_with_bins 0 (table_with_bins 0 (replicate classes 0) valleys) peaks) l 0) 0 ≡ count_at l peaks
-          by true is = omega (arith, extremes_at l, count_above 0 reference l valleys c.valleys_are (at_or_above reference l is))
-          by false is = sym (count_below reference classes l peaks c.peaks_are (under reference l is))
+          by true is = omega (arith, extremes_at l, count_above 0 reference l valleys c.valleys_are (leb-true reference l is))
+          by false is = sym (count_below reference classes l peaks c.peaks_are (leb-false reference l is))
 
       pub loaded_valleys : (l : ℕ) → valley_count (loaded_of classes reference e peaks valleys ranges) l ≡ count_at l valleys
       loaded_valleys l = by (leb reference l) refl
         where
-          at_or_above : (r l : ℕ) → leb r l ≡ true → r ≤ l
-          at_or_above r l e = grind (arith, nat_tests)
-
-          under : (r l : ℕ) → leb r l ≡ false → l < r
-          under r l e = grind (arith, nat_tests)
-
           by : (b : Bool) → leb reference l ≡ b →
               cond b 0 (get_or (table_with_bins 0 (table_with_bins 0 (replicate classes 0) valleys) peaks) l 0) ≡ count_at l valleys
-          by true is = sym (count_above 0 reference l valleys c.valleys_are (at_or_above reference l is))
-          by false is = omega (arith, extremes_at l, count_below reference classes l peaks c.peaks_are (under reference l is))
+          by true is = sym (count_above 0 reference l valleys c.valleys_are (leb-true reference l is))
+          by false is = omega (arith, extremes_at l, count_below reference classes l peaks c.peaks_are (leb-false reference l is))
 
 -- a table is loaded in place of one as long
 pub loaded_closed : (classes reference : ℕ) (e : EndPoints) (peaks valleys ranges : List Bin)

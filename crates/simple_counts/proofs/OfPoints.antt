@@ -1,6 +1,7 @@
 -- The tables of a list of points, point by point: each is a push.
 use Rattle.std.proofs.Common.{◌≡◌, ℕ, zero, suc, ◌+◌, ◌-◌, ◌<◌, ◌≤◌, Bool, true, false, cond, leb, ◌&&◌, List, [], ◌∷◌, ◌++◌, length, take, get_or, get_or-take, replicate, refl, sym, ap, ◌∙◌, subst, arith}
 use Rattle.std.specs.Prelude.{All}
+use Rattle.std.proofs.lemmas.Bool.{le-leb}
 use Rattle.std.proofs.lemmas.Bool.Decides.{nat_tests}
 use Rattle.std.proofs.lemmas.Grind.{same_number_lists}
 use Rattle.std.proofs.lemmas.List.{take_all, take_more, length-take-le, length-replicate}
@@ -15,6 +16,7 @@ use Rattle.turning_points.proofs.EndPlaces.{last_place, before_place}
 use Rattle.tables.specs.Tables.{raise}
 use Rattle.simple_counts.specs.Simple.{AreExtremes, HasRanges, SimpleValue, Counts, Fills, IsSimple, decided_at, push_of, value_of}
 use Rattle.level_crossing.specs.Extremes.{extremes_at, is_extreme}
+use Rattle.level_crossing.proofs.Extremes.{none_of_two}
 use Rattle.simple_counts.proofs.Pushed.{pushed_counted, pushed_counts}
 use Rattle.turning_points.specs.declared.ends.TheConstants.{MAX_POINTS}
 use Rattle.lemmas.proofs.Lists.{get_or-zeros}
@@ -44,9 +46,6 @@ turn_here p i z o h =
 
 turn_true : (a b c : ℕ) → Turn a b c → is_turn a b c ≡ true
 turn_true a b c t = grind (arith, nat_tests)
-
-leb_true : (n : ℕ) → 2 ≤ n → leb 2 n ≡ true
-leb_true n h = grind (arith, nat_tests)
 
 value_same : (K r : ℕ) (e e' : EndPoints) (d d' m m' : List ℕ) → e ≡ e' → d ≡ d' → m ≡ m' →
     ◌≡◌ {A = SimpleValue} (record { classes = K; reference = r; ends = e; decided = d; extremes = m })
@@ -92,7 +91,7 @@ module _ (k r : ℕ) (l d m d' m' : List ℕ) (i : ℕ) (z : IsZigzag l) (a : Al
       (turn_here l i z o h)
 
   many : leb 2 (length (take i l)) ≡ true
-  many = leb_true _ (omega (arith, length_i))
+  many = le-leb 2 _ (omega (arith, length_i))
 
   more : take (i + 1) l ≡ take i l ++ (x ∷ [])
   more = take_more l i 0 h
@@ -126,11 +125,6 @@ none_decided : (k : ℕ) (l : List ℕ) → decided_at k (take 2 l) ≡ 0
 none_decided k [] = refl
 none_decided k (x ∷ []) = refl
 none_decided k (x ∷ y ∷ l) = refl
-
-none_extreme : (r k : ℕ) (l : List ℕ) → extremes_at r k (take 2 l) ≡ 0
-none_extreme r k [] = refl
-none_extreme r k (x ∷ []) = refl
-none_extreme r k (x ∷ y ∷ l) = refl
 
 short : (l : List ℕ) → length (take 2 l) ≤ 2
 short [] = omega arith
@@ -172,7 +166,7 @@ fills_none k r l d m z a c e p q f g =
       counts = record {
         ends = ap ends_of (sym o);
         decided = λ j h. omega (arith, f j, none_decided j l, ap (decided_at j) o);
-        extremes = λ j h. omega (arith, g j, none_extreme r j l, ap (extremes_at r j) o);
+        extremes = λ j h. omega (arith, g j, none_of_two r j l, ap (extremes_at r j) o);
       };
     }
 
@@ -198,7 +192,7 @@ marks_more : (k r : ℕ) (l : List ℕ) (i : ℕ) → 2 ≤ i → marks k r l (i
 marks_more k r l i o =
     let a : i + 1 ≡ suc i = omega arith in
     ap (marks k r l) a ∙ ap (λ b. cond b (cond (is_extreme r (get_or l (i - 2) 0) (get_or l (i - 1) 0) (get_or l i 0))
-    (raise (marks k r l i) (get_or l (i - 1) 0)) (marks k r l i)) (replicate k 0)) (leb_true i o)
+    (raise (marks k r l i) (get_or l (i - 1) 0)) (marks k r l i)) (replicate k 0)) (le-leb 2 i o)
 
 -- the first i points, about any reference
 abbrev pub FillsRanges : ℕ → List ℕ → ℕ → List ℕ → Type 0

@@ -8,7 +8,7 @@ use Rattle.turning_points.specs.EndPoints.{EndPoints, ends_of, IsTurn, IsEnds}
 use Rattle.turning_points.proofs.Zigzag.{IsZigzag, zig_points, Turn}
 use Rattle.turning_points.proofs.Over.{points_inside}
 use Rattle.turning_points.proofs.Joining.{Same, tail, last_behind, before_behind}
-use Rattle.turning_points.proofs.Push.{push_turn, push_between, push_equal, end_differs}
+use Rattle.turning_points.proofs.Push.{two_levels, same_level, push_turn, push_between, push_equal, end_differs}
 use Rattle.tables.specs.Tables.{raise, is_at}
 use Rattle.simple_counts.specs.Simple.{decided_at, SimpleValue, Counts, IsSimple, push_of}
 use Rattle.level_crossing.specs.Extremes.{extremes_at, is_extreme}
@@ -331,25 +331,19 @@ module _ (v : SimpleValue) (x : ℕ) (i : IsSimple v) (h : x < v.classes) where
   on_single y o (inl e) =
       let p = ap (λ e. e.points) o.ends in
       let q = ap (λ e. e.last) o.ends in
-      on_to _ _ _ (push_equal_to x v (omega arith) (e ∙ sym q)) (subst (On v) (same_level y x (sym e)) o)
-    where
-      same_level : (y x : ℕ) → y ≡ x → y ∷ [] ≡ points (y ∷ x ∷ [])
-      same_level y x e = grind (arith, nat_tests)
+      on_to _ _ _ (push_equal_to x v (omega arith) (e ∙ sym q)) (subst (On v) (sym (same_level y x (sym e))) o)
   on_single y o (inr n) =
       let p = ap (λ e. e.points) o.ends in
       let q = ap (λ e. e.last) o.ends in
       let f = ap (λ e. e.first) o.ends in
       on_to _ _ _ (push_second x v p (λ e. n (e ∙ q)))
       (subst (λ l. On (value v.classes v.reference (record { points = 2; first = v.ends.first; second = x; before = v.ends.last; last = x })
-      v.decided v.extremes) l) (two_levels y x (λ e. n (sym e)))
+      v.decided v.extremes) l) (sym (two_levels y x (λ e. n (sym e))))
       (record {
         ends = five_same 2 v.ends.first x v.ends.last x 2 y x y x refl f refl q refl;
         decided = λ k w. o.decided k w;
         extremes = λ k w. o.extremes k w;
       }))
-    where
-      two_levels : (y x : ℕ) → y ≢ x → y ∷ x ∷ [] ≡ points (y ∷ x ∷ [])
-      two_levels y x e = grind (arith, nat_tests)
 
   mark_at : (k : ℕ) (b : Bool) → v.ends.last < length v.extremes →
       get_or (cond b (raise v.extremes v.ends.last) v.extremes) k 0 ≡ get_or v.extremes k 0 + cond b (is_at k v.ends.last) 0

@@ -18,12 +18,9 @@ pub range_below : (k x y : ℕ) → x < k → y < k → range x y < k
 range_below k x y p q = omega arith
 
 -- the tables stay in agreement
-abbrev Tables : ℕ → ℕ → (ℕ → ℕ) → EndPoints → List ℕ → List ℕ → Type 0
-Tables A B a e d m = Agrees A B a e d m
-
-agrees_to : {A B : ℕ} {a : ℕ → ℕ} {e e' : EndPoints} {d d' m m' : List ℕ} (p : Unit {0}) (q : Unit {0}) (s : Unit {0}) → e' ≡ e → d' ≡ d →
-    m' ≡ m → Agrees A B a e d m → Agrees A B a e' d' m'
-agrees_to {A} {B} {a} {e} {e'} {d} {d'} {m} {m'} _ _ _ p q s g =
+pub agrees_by : {A B : ℕ} {a : ℕ → ℕ} {e e' : EndPoints} {d d' m m' : List ℕ} → e' ≡ e → d' ≡ d → m' ≡ m → Agrees A B a e d m →
+    Agrees A B a e' d' m'
+agrees_by {A} {B} {a} {e} {e'} {d} {d'} {m} {m'} p q s g =
     subst (λ w. Agrees A B a w d' m') (sym p) (subst (λ w. Agrees A B a e w m') (sym q) (subst (λ w. Agrees A B a e d w) (sym s) g))
 
 low_step : (a : ℕ → ℕ) (u k x y z : ℕ) → a u + 1 ≤ z → x + is_at k u ≡ y → a k ≤ y → ((u ≡ k) ⊎ (u ≢ k)) → (u ≡ k → y ≡ z) → a k ≤ x
@@ -82,21 +79,21 @@ module _ (K r x A B : ℕ) (a : ℕ → ℕ) (e : EndPoints) (d m : List ℕ) (i
       Agrees A B a (ends_prepend x e) (decide x e d) (mark r x e m)
   agrees_between p b (inl s) =
       let q : e.points ≡ 2 = omega arith in
-      agrees_to _ _ _ (put_two x e q b) (decide_two x e d q b) (mark_passed r x e m b)
+      agrees_by (put_two x e q b) (decide_two x e d q b) (mark_passed r x e m b)
       (record { sum_of = g.sum_of; first = λ s. absurd (omega arith); above = g.above; few = g.few })
-  agrees_between p b (inr s) = agrees_to _ _ _ (put_passed x e s b) (decide_passed x e d s b) (mark_passed r x e m b) (agrees_passed s b)
+  agrees_between p b (inr s) = agrees_by (put_passed x e s b) (decide_passed x e d s b) (mark_passed r x e m b) (agrees_passed s b)
 
   agrees_case : PutCase x e → Agrees A B a (ends_prepend x e) (decide x e d) (mark r x e m)
   agrees_case (at_none p) =
       let q : e.points < 2 = omega arith in
-      agrees_to _ _ _ (put_none x e p) (decide_short x e d q) (mark_short r x e m q)
+      agrees_by (put_none x e p) (decide_short x e d q) (mark_short r x e m q)
       (record { sum_of = omega (arith, g.sum_of); first = λ s. absurd (omega arith); above = g.above; few = omega (arith, g.few) })
-  agrees_case (at_equal p q) = agrees_to _ _ _ (put_equal x e p q) (decide_equal x e d q) (mark_equal r x e m q) g
+  agrees_case (at_equal p q) = agrees_by (put_equal x e p q) (decide_equal x e d q) (mark_equal r x e m q) g
   agrees_case (at_second p n) =
       let q : e.points < 2 = omega arith in
-      agrees_to _ _ _ (put_second x e p n) (decide_short x e d q) (mark_short r x e m q)
+      agrees_by (put_second x e p n) (decide_short x e d q) (mark_short r x e m q)
       (record { sum_of = omega (arith, g.sum_of); first = λ s. absurd (omega arith); above = g.above; few = omega (arith, g.few) })
-  agrees_case (at_turn p t) = agrees_to _ _ _ (put_turn x e p t) (decide_turn x e d p t) (mark_turn r x e m p t) (agrees_turn p t)
+  agrees_case (at_turn p t) = agrees_by (put_turn x e p t) (decide_turn x e d p t) (mark_turn r x e m p t) (agrees_turn p t)
   agrees_case (at_passed p b) = agrees_between p b (cases_lt e.points 3)
 
   pub put_agrees : Agrees A B a (ends_prepend x e) (decide x e d) (mark r x e m)
