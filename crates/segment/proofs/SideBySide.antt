@@ -15,6 +15,7 @@ use Rattle.three_point.specs.Run.{counted_range, half_units_at_range, half_units
 use Rattle.residue_join.specs.HalfUnits.{neighbours}
 use Rattle.tables.specs.Tables.{is_at, raise}
 use Rattle.tables.proofs.Counting.{raise_at}
+use Rattle.level_crossing.proofs.Steps.{at_few}
 
 neighbours_more : (l : List ℕ) (j : ℕ) → j + 1 < length l →
     neighbours (drop j l) ≡ counted_range (get_or l j 0) (get_or l (j + 1) 0) 1 ∷ neighbours (drop (j + 1) l)
@@ -72,11 +73,8 @@ above_step out l i lo hi one h w =
 -- a place has one more at most
 pub raised_few : (out : List ℕ) (place k : ℕ) (met : Bool) → place < length out →
     get_or (if met then raise out place else out) k 0 ≤ get_or out k 0 + 1
-raised_few out place k met w = omega (arith, raised out place k met w, at_most met (is_at k place) (is_at_few k place))
+raised_few out place k met w = omega (arith, raised out place k met w, at_most met (is_at k place) (at_few k place))
   where
-    is_at_few : (a b : ℕ) → is_at a b ≤ 1
-    is_at_few a b = grind (arith, nat_tests)
-
     at_most : (b : Bool) (n : ℕ) → n ≤ 1 → (if b then n else 0) ≤ 1
     at_most true n h = h
     at_most false n h = omega arith
