@@ -38,7 +38,7 @@ fn lies_between(before: u16, last: u16, level: u16) -> bool
 // How many points there are with a level behind the first `len` levels, a list of points that ends
 // at another level. The level is the last of them, and those before it stand where they stood.
 #[inline(always)]
-fn extended(levels: &[u16], len: usize, level: u16) -> usize
+fn length_with_level(levels: &[u16], len: usize, level: u16) -> usize
     requires within { len < length levels.now }
     requires points { points (take len levels.now) ≡ take len levels.now }
     requires change { 0 < len → slice_index levels.now (len - 1) ≢ level }
@@ -118,7 +118,7 @@ pub fn push(levels: &mut [u16], len: usize, level: u16, tally: &mut Tally) -> us
     if len > 0 && levels[len - 1] == level {
         return len;
     }
-    let longer = extended(levels, len, level);
+    let longer = length_with_level(levels, len, level);
     delete_cycles(levels, longer, level, tally)
 }
 

@@ -16,7 +16,7 @@ use segment::{LoadFault, Segment};
 use segment_rules::Parts;
 use std::alloc::Global;
 
-fn loaded(alloc: Global, grid: &Grid, parts: &Parts) -> Result<Segment, BytesFault>
+fn segment_of_parts(alloc: Global, grid: &Grid, parts: &Parts) -> Result<Segment, BytesFault>
     ensures grid { IfOk result (λ s. s.grid ≡ grid.now) }
     ensures longest { IfOk result (λ s. s.longest ≡ longest_of parts.now.name) }
     ensures reads { Gives parts_of result
@@ -32,13 +32,18 @@ fn loaded(alloc: Global, grid: &Grid, parts: &Parts) -> Result<Segment, BytesFau
 }
 
 #[tactic(auto, unfolding(crate::specs::Decoding::segment_in))]
-fn checked(alloc: Global, layout: Layout, grid: &Grid, bytes: &[u8]) -> Result<Segment, BytesFault>
+fn segment_in(
+    alloc: Global,
+    layout: Layout,
+    grid: &Grid,
+    bytes: &[u8],
+) -> Result<Segment, BytesFault>
     ensures grid { IfOk result (λ s. s.grid ≡ grid.now) }
     ensures longest { IfOk result (λ s. s.longest ≡ longest_of (parts_of s).name) }
     ensures reads { Gives parts_of result (segment_in layout grid.now bytes.now) }
 {
     let parts = parts_in(alloc, layout, grid, bytes)?;
-    loaded(alloc, grid, &parts)
+    segment_of_parts(alloc, grid, &parts)
 }
 
 /// The segment whose body in the layout the bytes are, over the grid: exactly for such bytes. It
@@ -63,5 +68,5 @@ pub fn decode(
     ensures exact { Gives parts_of result (segment_in layout grid.now bytes.now) }
 {
     let _classes = grid.classes();
-    checked(alloc, layout, grid, bytes)
+    segment_in(alloc, layout, grid, bytes)
 }

@@ -48,7 +48,7 @@ fn all_rows(alloc: Global, classes: u16, bytes: &[u8]) -> Result<RowParts, Bytes
 }
 
 // The parts of rows that are in order.
-fn ordered(found: RowParts) -> Result<Parts, BytesFault>
+fn parts_in_order(found: RowParts) -> Result<Parts, BytesFault>
     ensures { Gives parts_value result
         (or_fault (order_broken 0 found.wrong) (parts_value found.parts)) }
 {
@@ -63,7 +63,7 @@ fn parts_of_rows(alloc: Global, grid: &Grid, bytes: &[u8]) -> Result<Parts, Byte
     ensures { Gives parts_value result (parts_of_rows grid.now bytes.now) }
 {
     let found = all_rows(alloc, grid.classes(), bytes)?;
-    ordered(found)
+    parts_in_order(found)
 }
 
 /// The parts whose body in the layout the bytes are, whatever rules they keep. Refused are, in this

@@ -3,7 +3,7 @@ ghost use Rattle.std.specs.Int.{w32};
 ghost use Rattle.turning_points.specs.Ends.{end_points};
 ghost use Rattle.segment_rules.specs.Parts.{parts_value};
 ghost use Rattle.segment_bytes.specs.Fields.{Gives, list_at};
-ghost use Rattle.segment_bytes.specs.Grammar.{body_at, cell_at, parts_of_body as joined_is};
+ghost use Rattle.segment_bytes.specs.Grammar.{body_at, cell_at, parts_of_body};
 ghost use Rattle.segment_bytes.specs.RowReading.{rows_at};
 ghost use Rattle.segment_bytes.specs.Views.{cells_body, four, rows_body, six};
 
@@ -15,8 +15,8 @@ use std::alloc::Global;
 use tally::Cell;
 use turning_points::Ends;
 
-fn joined(front: &Six, ends: &Ends, residue: Vec<u16>, cells: Vec<Cell>, back: Four) -> Parts
-    ensures { parts_value result ≡ joined_is ((
+fn parts_of_body(front: &Six, ends: &Ends, residue: Vec<u16>, cells: Vec<Cell>, back: Four) -> Parts
+    ensures { parts_value result ≡ parts_of_body ((
       (six front.now, end_points ends.now),
       (residue.items, (cells.items, four back)),
     )) }
@@ -56,7 +56,7 @@ pub(crate) fn parts_of(
     let (front, rest) = six_of(have, bytes)?;
     let (ends, rest) = ends_of(have, rest)?;
     let (lists, rest) = lists_of(alloc, have, rest)?;
-    let parts = joined(&front, &ends, lists.residue, lists.cells, lists.four);
+    let parts = parts_of_body(&front, &ends, lists.residue, lists.cells, lists.four);
     Ok((parts, rest))
 }
 
@@ -89,7 +89,7 @@ pub(crate) fn row_parts_of(
         rows,
         four,
     } = lists;
-    let parts = joined(&front, &ends, residue, rows.cells, four);
+    let parts = parts_of_body(&front, &ends, residue, rows.cells, four);
     Ok((
         RowParts {
             parts,

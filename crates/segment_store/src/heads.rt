@@ -27,7 +27,7 @@ ghost use Rattle.store_head.specs.Judging.{
   gauge_at,
   layout_in,
 };
-ghost use Rattle.segment_store.specs.Opening.{IsHeadAnswer, DiskRose, resume_fault_of as refused_as};
+ghost use Rattle.segment_store.specs.Opening.{IsHeadAnswer, DiskRose, resume_fault_of};
 ghost use Rattle.segment_store.specs.Quiet.{IsQuiet};
 ghost use Rattle.calibration.specs.declared.limits.TheConstants.{MAX_GAUGES};
 ghost use Rattle.segment_bytes.specs.declared.layout.TheConstants.{MAX_CLASSES_ONE};
@@ -39,7 +39,7 @@ use recording::Head;
 use segment_bytes::Layout;
 use station::Station;
 use std::alloc::Global;
-use store_head::{HeadFault, Heads, StoreHead, front_fault, gauge_fault, layout_of, recorded};
+use store_head::{HeadFault, Heads, StoreHead, front_fault, gauge_fault, layout_of, recording_in};
 
 // Bytes are below 256.
 fn fit(bytes: &[u8])
@@ -48,8 +48,8 @@ fn fit(bytes: &[u8])
     let _ = bytes.len();
 }
 
-fn refused(fault: HeadFault) -> ResumeFault
-    ensures { result ≡ refused_as fault }
+fn resume_fault_of(fault: HeadFault) -> ResumeFault
+    ensures { result ≡ resume_fault_of fault }
 {
     match fault {
         HeadFault::NotAStore => ResumeFault::NotAStore,
@@ -85,7 +85,7 @@ pub(crate) fn check_front<K: Station>(
     station.read_at(0, &mut bytes)?;
     fit(&bytes);
     match front_fault(setup, size, &bytes) {
-        Some(fault) => Err(refused(fault)),
+        Some(fault) => Err(resume_fault_of(fault)),
         None => Ok(layout_of(bytes[5])),
     }
 }
@@ -110,8 +110,8 @@ fn read_gauge<K: Station>(station: &mut K, gauge: u16, gain: &Gain) -> Result<He
     station.read_at(22 + 40 * gauge as u64, &mut bytes)?;
     fit(&bytes);
     match gauge_fault(gauge, gain, &bytes) {
-        Some(fault) => Err(refused(fault)),
-        None => Ok(recorded(&bytes)),
+        Some(fault) => Err(resume_fault_of(fault)),
+        None => Ok(recording_in(&bytes)),
     }
 }
 

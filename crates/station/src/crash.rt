@@ -4,7 +4,7 @@ ghost use Rattle.station.specs.Calls.{disk_of, fresh_disk, have_no_gap, DiskMayL
 ghost use Rattle.station.specs.Replay.{Replays, IsPlaced};
 
 use crate::Call;
-use crate::recorder::spliced;
+use crate::recorder::content_with;
 use std::alloc::{AllocError, Global};
 
 /// What a crash leaves in every range that was written and not synced.
@@ -34,10 +34,10 @@ fn tear(
     }
     match torn {
         Torn::Old => {}
-        Torn::New => *left = spliced(alloc, left.as_slice(), at, bytes)?,
+        Torn::New => *left = content_with(alloc, left.as_slice(), at, bytes)?,
         Torn::Fill(byte) => {
             let filled = vec![in alloc; byte; bytes.len()]?;
-            *left = spliced(alloc, left.as_slice(), at, filled.as_slice())?;
+            *left = content_with(alloc, left.as_slice(), at, filled.as_slice())?;
         }
     }
     Ok(())
@@ -65,14 +65,14 @@ fn replay(
         Call::Write(at, bytes) => {
             let start = *at as usize;
             tear(alloc, torn, start, bytes.as_slice(), left)?;
-            *content = spliced(alloc, content.as_slice(), start, bytes.as_slice())?;
+            *content = content_with(alloc, content.as_slice(), start, bytes.as_slice())?;
             Ok(())
         }
     }
 }
 
 /// An image that a crash after these calls may leave.
-pub(crate) fn replayed(
+pub(crate) fn crash_image(
     alloc: Global,
     image: &[u8],
     calls: &[Call],

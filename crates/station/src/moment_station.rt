@@ -7,7 +7,7 @@ ghost use Rattle.station.specs.Recorder.{past_of};
 ghost use Rattle.station.specs.MomentStation.{state_of, IsCounted, content_of, lines_told, LeavesImage};
 
 use crate::crash::Torn;
-use crate::recorder::{Recorder, spliced};
+use crate::recorder::{Recorder, content_with};
 use crate::{OutOfMemory, Station};
 use outside::Failed;
 use std::alloc::{AllocError, Global};
@@ -88,7 +88,7 @@ impl MomentStation {
 }
 
 // What a write needs: the new content, and the bytes to record.
-fn prepared(
+fn content_and_copy(
     alloc: Global,
     content: &[u8],
     at: usize,
@@ -98,7 +98,7 @@ fn prepared(
     ensures { IfOk result (λ next.
         Overwrites content.now at bytes.now next.0.items × (next.1.items ≡ bytes.now)) }
 {
-    let next = spliced(alloc, content, at, bytes)?;
+    let next = content_with(alloc, content, at, bytes)?;
     let copy = bytes.to_vec(alloc)?;
     Ok((next, copy))
 }
@@ -188,7 +188,7 @@ impl Station for MomentStation {
             return self.fail();
         }
         let content = self.recorder.content();
-        let Ok((next, copy)) = prepared(self.alloc, content, at as usize, bytes) else {
+        let Ok((next, copy)) = content_and_copy(self.alloc, content, at as usize, bytes) else {
             return self.fail();
         };
         if !self.recorder.note_write(at, copy, next) {

@@ -3,7 +3,7 @@ ghost use Rattle.station.specs.Calls.{current, disk_of, fresh_disk, lines_of, by
 ghost use Rattle.station.specs.Station.{Overwrites, IsTornWrite, Follows, Only, NoNew};
 
 use crate::Call;
-use crate::crash::{Torn, replayed};
+use crate::crash::{Torn, crash_image};
 use std::alloc::{AllocError, Global};
 
 /// All calls of a station in memory. The content is copied at the first write.
@@ -66,7 +66,7 @@ impl Recorder {
         requires { calls ≤ length self.now.calls.items }
         ensures { IfOk result (λ left. MayLeave (first_calls calls (past_of self.now)) left.items) }
     {
-        replayed(alloc, &self.image, &self.calls[..calls as usize], torn)
+        crash_image(alloc, &self.image, &self.calls[..calls as usize], torn)
     }
 
     /// Records a call that changes nothing. False where there is no memory.
@@ -158,7 +158,7 @@ fn push_call(calls: &mut Vec<Call>, call: Call) -> bool
 }
 
 /// The content with these bytes from a place on.
-pub(crate) fn spliced(
+pub(crate) fn content_with(
     alloc: Global,
     content: &[u8],
     at: usize,

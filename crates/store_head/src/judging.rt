@@ -10,7 +10,7 @@ ghost use Rattle.store_head.specs.Judging.{
   is_version as is_version_in,
   is_whole as is_whole_in,
   layout_of as layout_in,
-  recording_in as recorded_in,
+  recording_in,
 };
 ghost use Rattle.calibration.specs.declared.limits.TheConstants.{MAX_GAUGES};
 
@@ -125,8 +125,8 @@ pub fn gauge_fault(gauge: u16, gain: &Gain, bytes: &[u8; 40]) -> Option<HeadFaul
 }
 
 /// The head of the recording that the bytes of a gauge name.
-pub fn recorded(bytes: &[u8; 40]) -> Head
-    ensures { result ≡ recorded_in bytes.now }
+pub fn recording_in(bytes: &[u8; 40]) -> Head
+    ensures { result ≡ recording_in bytes.now }
 {
     let mut id = [0; 16];
     id.copy_from_slice(&bytes[..16]);

@@ -16,6 +16,6 @@ mod setup;
 mod writing;
 
 pub use fault::{Field, HeadFault};
-pub use judging::{front_fault, gauge_fault, layout_of, recorded};
+pub use judging::{front_fault, gauge_fault, layout_of, recording_in};
 pub use setup::{Heads, StoreHead};
 pub use writing::bytes_of;

@@ -7,10 +7,10 @@ use Rattle.segment_bytes.proofs.decoding.decode.Goals as goal
 
 pub returns-clause-found : goal.returns-clause-found
 returns-clause-found c =
-    is_found c.args.layout c.args.grid.now c.args.bytes.now c.checked.result
-    (λ i. omega (arith, c.type_inv.bytes i)) c.checked.ensures.reads
+    is_found c.args.layout c.args.grid.now c.args.bytes.now c.segment_in.result
+    (λ i. omega (arith, c.type_inv.bytes i)) c.segment_in.ensures.reads
 
 pub returns-clause-complete : goal.returns-clause-complete
 returns-clause-complete c = λ p is.
-    subst (λ f. Gives parts_of c.checked.result f)
-    (decoded_again c.args.layout c.args.grid.now c.args.bytes.now p c.classes-classes.ensures.limits is) c.checked.ensures.reads
+    subst (λ f. Gives parts_of c.segment_in.result f)
+    (decoded_again c.args.layout c.args.grid.now c.args.bytes.now p c.classes-classes.ensures.limits is) c.segment_in.ensures.reads

@@ -25,4 +25,4 @@ returns-in-None-clause-bytes g c tells =
     let is = c.in_ok-read_at.ensures.bytes tells in
     let same = gauge_is c.args.gauge c.args.gain.now c.read_at.new.buf (omega arith) c.fit.ensures (sym c.gauge_fault.ensures
     ∙ c.in-None.is) in
-    sym is ∙ same ∙ ap (λ h. gauge h c.args.gain.now) (sym c.recorded.ensures)
+    sym is ∙ same ∙ ap (λ h. gauge h c.args.gain.now) (sym c.recording_in.ensures)

@@ -4,8 +4,8 @@ use Rattle.station.proofs.Crashing.{placed_front}
 use Rattle.station.specs.declared.call.Call.{Call}
 use Rattle.station.proofs.recorder.Recorder.crash.Goals as goal
 
-pub replayed-requires : goal.replayed-requires
-replayed-requires c =
+pub crash_image-requires : goal.crash_image-requires
+crash_image-requires c =
     let s = c.args.self.now in
     ap (λ (i : List ℕ). have_no_gap (fresh_disk i) (take c.args.calls c.deref-2.result.now)) c.deref.ensures.value
     ∙ ap (λ (l : List Call). have_no_gap (fresh_disk s.image.items) (take c.args.calls l)) c.deref-2.ensures.value

@@ -4,8 +4,8 @@ use Rattle.std.proofs.lemmas.List.{take_more_set}
 use Rattle.turning_points.proofs.Extended.{at_first, at_between, at_turn}
 use Rattle.four_point.proofs.Index.{last_differ}
 use Rattle.four_point.proofs.Stacked.{take_with_last}
-use Rattle.four_point.proofs.stack.extended.Goals as goal
-use Rattle.four_point.proofs.stack.extended.Goals.{else-len-ge2-via-then-len-ge2+else-lies_between, else-len-ge2-via-else-len-ge2}
+use Rattle.four_point.proofs.stack.length_with_level.Goals as goal
+use Rattle.four_point.proofs.stack.length_with_level.Goals.{else-len-ge2-via-then-len-ge2+else-lies_between, else-len-ge2-via-else-len-ge2}
 
 pub returns-then-len-eq0-clause-points : goal.returns-then-len-eq0-clause-points
 returns-then-len-eq0-clause-points c =

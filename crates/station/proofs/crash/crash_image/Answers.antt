@@ -2,7 +2,7 @@ use Rattle.std.proofs.Common.{◌≡◌, ◌+◌, ◌∷◌, drop, sym, ◌∙�
 use Rattle.std.proofs.lemmas.List.{drop_more}
 use Rattle.station.specs.Calls.{disk_of, disk_after, have_no_gap}
 use Rattle.station.proofs.Crashing.{step, placed_tail}
-use Rattle.station.proofs.crash.replayed.Goals as goal
+use Rattle.station.proofs.crash.crash_image.Goals as goal
 
 pub loop-call-preserved : goal.loop-call-preserved
 loop-call-preserved c =
