@@ -21,8 +21,8 @@ use Rattle.segment_bytes.proofs.Loops.{seen, fails_seen, seen_fails, seen_on, se
 
 -- ---- the cells of a row
 
-pub one_cell : (cells : List Cell) (lo : ℕ) (b : Bin) (bins : List Bin) → cells ++ map (cell_in lo) (b ∷ bins) ≡ (cells ++ cell_in lo b ∷ [])
-    ++ map (cell_in lo) bins
+pub one_cell : (cells : List Cell) (lo : ℕ) (b : Bin) (bins : List Bin)
+    → cells ++ map (cell_in lo) (b ∷ bins) ≡ (cells ++ cell_in lo b ∷ []) ++ map (cell_in lo) bins
 one_cell cells lo b bins = sym (append_assoc cells (cell_in lo b ∷ []) (map (cell_in lo) bins))
 
 pub cells_done : (cells : List Cell) (lo have count i : ℕ) (bytes : List ℕ) (total : Result (List Cell × List ℕ) BytesFault) → count ≤ i
@@ -47,7 +47,8 @@ module _ {B : Type 0} (f : RowValue → B) (have lo count : ℕ) (bytes first re
   whole bins = record { lo = lo; bins = bins }
 
   as_row : (read : Result (List Bin × List ℕ) BytesFault)
-      → seen f (seen (λ (x : ℕ × List Bin). record { lo = x.0; bins = x.1 }) (read >>= λ y. Ok ((lo, y.0), y.1))) ≡ seen (λ bins. f (whole bins)) read
+      → seen f (seen (λ (x : ℕ × List Bin). record { lo = x.0; bins = x.1 }) (read >>= λ y. Ok ((lo, y.0), y.1)))
+      ≡ seen (λ bins. f (whole bins)) read
   as_row (Ok x) = refl
   as_row (Err d) = refl
 
@@ -108,7 +109,8 @@ chosen (Some place) b w n i = refl
 chosen None true w n i = refl
 chosen None false w n i = refl
 
-row_more : (k : ℕ) (found : FoundRows) (r : RowValue) (rs : List RowValue) → with_rows k found (r ∷ rs) ≡ with_rows k (with_row k found r) rs
+row_more : (k : ℕ) (found : FoundRows) (r : RowValue) (rs : List RowValue)
+    → with_rows k found (r ∷ rs) ≡ with_rows k (with_row k found r) rs
 row_more k found r rs =
     let long : length (found.cells ++ row_cells r) ≡ length found.cells + length r.bins = length-append found.cells (row_cells r)
     ∙ ap (λ n. length found.cells + n) (length-map r.bins (cell_in r.lo)) in
@@ -118,7 +120,8 @@ row_more k found r rs =
     (sym (append_assoc found.cells (row_cells r) (cells_of rs)))
     ∙ ap (λ (o : Option ℕ). ((found.cells ++ row_cells r) ++ cells_of rs, o))
     (chosen found.wrong test one (wrong_row (r.lo + 1) k (length found.cells + length r.bins) rs) (length found.cells)
-    ∙ ap (λ n. option_or (option_or found.wrong (if test then one else Some (length found.cells))) (wrong_row (r.lo + 1) k n rs)) (sym long))
+    ∙ ap (λ n. option_or (option_or found.wrong (if test then one else Some (length found.cells))) (wrong_row (r.lo + 1) k n rs))
+    (sym long))
 
 pub rows_on : (k : ℕ) (found next : FoundRows) (have count i : ℕ) (bytes after : List ℕ)
     (total : Result ((List Cell × Option ℕ) × List ℕ) BytesFault) → i < count

@@ -31,7 +31,16 @@ impl Model for Dense {
 }
 
 impl Dense {
-    ghost use Rattle.tally.specs.Counts.{IsCell, IsCounts, count_of, total_of, is_from, most_cells, HasGreatestRoom, HasPlace};
+    ghost use Rattle.tally.specs.Counts.{
+      IsCell,
+      IsCounts,
+      count_of,
+      total_of,
+      is_from,
+      most_cells,
+      HasGreatestRoom,
+      HasPlace,
+    };
     ghost use Rattle.tally.specs.Log.{cells_of};
 
     /// Reserves the whole table, and a list of places as long as the room, with one place to spare.

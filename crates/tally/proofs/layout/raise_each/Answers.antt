@@ -98,7 +98,8 @@ loop-entry-preserved c =
     record {
       layout = layout;
       entries = has_more k _ _ _ i old now c.loop-entry.touched c.args.touched.now c.args.entries.now c.requires.layout c.requires.each
-          c.loop-entry-test.true v.layout v.entries r.new.counts r.new.touched r.result layout (rw (← c.place-at.ensures.place) r.ensures.counts);
+          c.loop-entry-test.true v.layout v.entries r.new.counts r.new.touched r.result layout
+          (rw (← c.place-at.ensures.place) r.ensures.counts);
     }
 
 pub returns-clause-added : goal.returns-clause-added
