@@ -3,7 +3,7 @@ use Rattle.segment.specs.Name.{name_of}
 use Rattle.recording.specs.declared.TheConstants.{MAX_SAMPLES}
 use Rattle.std.proofs.Common.{◌≡◌, ◌≢◌, ◌≤◌, ◌<◌, ◌+◌, ◌*◌, ℕ, zero, suc, List, [], ◌∷◌, ◌++◌, length, get_or, set, refl, sym, ap, ◌∙◌, subst, arith}
 use Rattle.std.specs.Prelude.{ℤ}
-use Rattle.std.proofs.lemmas.List.{get_or_default, set-get_or}
+use Rattle.std.proofs.lemmas.List.{get_or_default, length_push, set-get_or}
 use Rattle.std.proofs.Math.ListN.{length-set}
 use Rattle.calibration.specs.Gain.{GainValue}
 use Rattle.segment_rules.specs.declared.name.Name.{Name}
@@ -87,12 +87,8 @@ module _ (b : BoardValue) (k : ℕ) (seg : SegmentValue) (new d : Row) (arrivals
           ∙ over_same (length b.rows) _ (λ i. over 16 (λ j. hits i (start_of b i + j * b.block) (b.arrivals ++ (name_of seg) ∷ [])))
           (λ i m. over_same 16 _ (λ j. hits i (start_of b i + j * b.block) (b.arrivals ++ (name_of seg) ∷ []))
           (λ j u. ap (λ s. hits i (s + j * b.block) arrivals) (starts_same i) ∙ ap (hits i (start_of b i + j * b.block)) grown)) in
-          let plus : length (b.arrivals ++ (name_of seg) ∷ []) ≡ length b.arrivals + 1 = one_longer b.arrivals (name_of seg) in
+          let plus : length (b.arrivals ++ (name_of seg) ∷ []) ≡ length b.arrivals + 1 = length_push b.arrivals (name_of seg) in
           omega (arith, long, plus, grew, same, h.count)
-        where
-          one_longer : (l : List Name) (n : Name) → length (l ++ n ∷ []) ≡ length l + 1
-          one_longer [] n = refl
-          one_longer (x ∷ l) n = let e = one_longer l n in omega (arith, e)
 
       pub placed_board : IsBoard placed_in
       placed_board =
@@ -112,12 +108,8 @@ module _ (b : BoardValue) (k : ℕ) (seg : SegmentValue) (new d : Row) (arrivals
       pub placed_room : length b.arrivals + 1 ≤ 16 * length b.rows
       placed_room =
           let few = board_few placed_in placed_board in let size : length (set b.rows g new) ≡ length b.rows = length-set b.rows g new in
-          let n : length arrivals ≡ length b.arrivals + 1 = ap length grown ∙ one_longer b.arrivals (name_of seg) in omega
+          let n : length arrivals ≡ length b.arrivals + 1 = ap length grown ∙ length_push b.arrivals (name_of seg) in omega
           (arith, few, size, n)
-        where
-          one_longer : (l : List Name) (n : Name) → length (l ++ n ∷ []) ≡ length l + 1
-          one_longer [] n = refl
-          one_longer (x ∷ l) n = let e = one_longer l n in omega (arith, e)
 
       pub placed_carries : (gain : ℕ → GainValue) (w : ℕ → List ℤ) → Carries b gain w → StandsIn seg (gain g) (w g)
           → Carries placed_in gain w

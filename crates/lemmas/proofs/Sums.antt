@@ -1,10 +1,7 @@
--- Sums and counts over lists.
-use Rattle.std.proofs.Common.{◌≡◌, ℕ, zero, suc, ◌+◌, ◌<◌, ◌≤◌, Bool, cond, List, [], ◌∷◌, ◌++◌, length, get_or, set, refl, arith}
-use Rattle.std.specs.Prelude.{sum, count_by}
-use Rattle.std.proofs.lemmas.List.Sums.{sum_by-cons, sum_by-set, sum_by-append}
-
-pub count_by-append : {X : Type 0} (p : X → Bool) (u v : List X) → count_by p (u ++ v) ≡ count_by p u + count_by p v
-count_by-append p u v = sum_by-append (λ x. cond (p x) 1 0) u v
+-- Sums over lists.
+use Rattle.std.proofs.Common.{◌≡◌, ℕ, zero, suc, ◌+◌, ◌<◌, ◌≤◌, List, [], ◌∷◌, length, get_or, set, refl, arith}
+use Rattle.std.specs.Prelude.{sum}
+use Rattle.std.proofs.lemmas.List.Sums.{sum_by-cons, sum_by-set}
 
 pub sum-zeros : (t : List ℕ) → ((p : ℕ) → get_or t p 0 ≡ 0) → sum t ≡ 0
 sum-zeros [] h = refl

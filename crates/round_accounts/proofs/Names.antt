@@ -2,7 +2,7 @@
 use Rattle.std.proofs.Common.{◌≡◌, ◌≤◌, ◌<◌, ◌+◌, ◌*◌, ◌%◌, ℕ, suc, List, [], ◌∷◌, ◌++◌, length, refl, sym, ap, ◌∙◌, subst, arith, append_assoc, Bool, true, false, cond, eqb, ltb, min}
 use Rattle.std.specs.Prelude.{◌&&◌}
 use Rattle.std.proofs.lemmas.List.{append-nil}
-use Rattle.std.proofs.lemmas.Bool.Decides.{nat_tests}
+use Rattle.std.proofs.lemmas.Bool.{lt-ltb}
 use Rattle.flow.specs.Flow.{name_of_samples}
 use Rattle.block_pool.specs.Units.{FilledValue}
 use Rattle.arrivals.specs.Arrivals.{Round, names_of, name_at, fed_to}
@@ -11,9 +11,6 @@ use Rattle.block_workers.specs.Dealing.{dealt}
 use Rattle.block_workers.specs.Reading.{IsUnit, AreBlocks}
 use Rattle.block_workers.specs.Reading.AreBlocks.{none, last, more}
 use Rattle.block_workers.proofs.Accounts.{blocks_ascend}
-
-below : (a b : ℕ) → a < b → ltb a b ≡ true
-below a b h = grind (arith, nat_tests)
 
 names_cond : (b : Bool) (u : FilledValue) (l : List FilledValue) → names_of (cond b (u ∷ l) l) ≡ cond b (u.name ∷ []) [] ++ names_of l
 names_cond true u l = refl
@@ -27,7 +24,7 @@ module _ (block n : ℕ) (r : Round) (d : Desk) (to : ℕ) (is : block ≡ d.blo
   fed_one : (v k b : ℕ) (u : FilledValue) → IsUnit d (at k) b u → b ≡ min (at k + block) to → at k < to
       → fed_to block n r d.gauge v (suc k) ≡ fed_to block n r d.gauge v k ++ cond (eqb (k % n) v) (u.name ∷ []) []
   fed_one v k b u i e some =
-      let test : ltb (at k) (length (r.samples d.gauge)) ≡ true = ap (λ l. ltb (at k) l) ends ∙ below (at k) to some in
+      let test : ltb (at k) (length (r.samples d.gauge)) ≡ true = ap (λ l. ltb (at k) l) ends ∙ lt-ltb (at k) to some in
       let name : name_at block n r d.gauge k ≡ u.name = ap (λ l. name_of_samples d.gauge (at k) (min (at k + block) l)) ends
       ∙ ap (λ l. name_of_samples d.gauge (at k) l) (sym e) ∙ sym i.name in
       ap (λ t. fed_to block n r d.gauge v k ++ cond (t && eqb (k % n) v) (name_at block n r d.gauge k ∷ []) []) test

@@ -132,10 +132,6 @@ module _ (v : SimpleValue) (s : IsSimple v) where
 turn_of_side : (p x n : ℕ) (q : ℕ) → q ≡ p → OnSide p x n → IsTurn x q n
 turn_of_side p x n q e h = grind arith
 
-ends_five : (n a b c d : ℕ) (e : EndPoints) → e.points ≡ n → e.first ≡ a → e.second ≡ b → e.before ≡ c → e.last ≡ d →
-    e ≡ record { points = n; first = a; second = b; before = c; last = d }
-ends_five n a b c d e p q r s t = five_same _ _ _ _ _ _ _ _ _ _ p q r s t
-
 module _ (k : ℕ) (e : EndPoints) (r : List ℕ) (i : IsEnds k e) (a : Alike e (ends_of r)) where
   beside : 2 ≤ e.points → HasEndsBeside k e (slice_index r 0) (slice_index r 1) (slice_index r (length r - 2))
       (slice_index r (length r - 1))
@@ -164,8 +160,8 @@ module _ (k : ℕ) (e : EndPoints) (r : List ℕ) (i : IsEnds k e) (a : Alike e 
   ended = record {
     short = a.short;
     long = λ h. a.long (omega (arith, h));
-    none = λ z. let n = i.none z in ends_five 0 0 0 0 0 e z n.0 n.1 n.2 n.3;
-    one = λ z. let o = i.one z in ends_five 1 (slice_index r 0) 0 0 (slice_index r 0) e z (sym a.first) o.0 o.1 (o.2 ∙ sym a.first);
+    none = λ z. let n = i.none z in five_same _ _ _ _ _ _ _ _ _ _ z n.0 n.1 n.2 n.3;
+    one = λ z. let o = i.one z in five_same _ _ _ _ _ _ _ _ _ _ z (sym a.first) o.0 o.1 (o.2 ∙ sym a.first);
     more = beside;
   }
 

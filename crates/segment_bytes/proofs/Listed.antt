@@ -1,5 +1,5 @@
 -- Lists of counts as bins, one by one, and one written behind the other.
-use Rattle.std.proofs.Common.{◌≡◌, ℕ, zero, suc, ◌+◌, ◌*◌, ◌<◌, ◌≤◌, Bool, true, false, List, [], ◌∷◌, ◌++◌, length, drop, map, take, refl, sym, ap, ◌∙◌, append_assoc, length-append, arith}
+use Rattle.std.proofs.Common.{◌≡◌, ℕ, suc, ◌+◌, ◌*◌, ◌<◌, ◌≤◌, Bool, true, false, List, [], ◌∷◌, ◌++◌, length, drop, map, take, refl, sym, ap, ◌∙◌, append_assoc, length-append, arith}
 use Rattle.std.specs.Prelude.{◌==◌, if◌then◌else◌, slice_index, slice_index_or}
 use Rattle.std.specs.List.{flat_map}
 use Rattle.std.proofs.lemmas.List.{append-nil, drop_more, length-map, map-append}
@@ -84,13 +84,6 @@ bins_bytes k ns = bins_long (bins_of k ns)
 
 pub pairs_bytes : (lo k : ℕ) (ns : List ℕ) → length (flat_map cell (map (cell_in lo) (bins_of k ns))) ≡ 12 * length (bins_of k ns)
 pairs_bytes lo k ns = omega (arith, cells_long (map (cell_in lo) (bins_of k ns)), length-map (bins_of k ns) (cell_in lo))
-
--- nothing is left at the end
-pub none_left : (i : ℕ) (ns : List ℕ) → length ns ≤ i → drop i ns ≡ []
-none_left zero [] h = refl
-none_left zero (n ∷ ns) h = absurd (omega (arith, h))
-none_left (suc i) [] h = refl
-none_left (suc i) (n ∷ ns) h = none_left i ns (omega (arith, h))
 
 -- counts that are told by a function of their keys
 pub listed_same : (count : ℕ → ℕ) (key : ℕ) (ns : List ℕ) → ((k : ℕ) → k < length ns → slice_index ns k ≡ count (key + k))

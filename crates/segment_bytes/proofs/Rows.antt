@@ -2,7 +2,7 @@
 use Rattle.std.proofs.Common.{◌≡◌, ◌≢◌, ◌⊎◌, inl, inr, ℕ, suc, ◌+◌, ◌-◌, ◌<◌, ◌≤◌, Bool, true, false, if◌then◌else◌, ◌==◌, nat_le, nat_lt, ◌&&◌, List, [], ◌∷◌, ◌++◌, map, length, refl, sym, ap, subst, ◌∙◌, arith}
 use Rattle.std.specs.Prelude.{Some, None}
 use Rattle.std.specs.Option.{option_or}
-use Rattle.std.proofs.lemmas.Bool.{cases_eq}
+use Rattle.std.proofs.lemmas.Bool.{cases_eq, and_parts, and_from, ltb-true, lt-ltb, leb-true, le-leb}
 use Rattle.std.proofs.lemmas.Bool.Decides.{nat_tests}
 use Rattle.lemmas.proofs.Outcomes.{both_none, none_passed}
 use Rattle.tally.specs.declared.cells.Cell.{Cell}
@@ -10,7 +10,6 @@ use Rattle.tally.specs.declared.cells.Bin.{Bin}
 use Rattle.tally.specs.Counts.{IsCell}
 use Rattle.tables.specs.Bins.{AreBinsFrom}
 use Rattle.segment_rules.specs.Tests.{wrong_bin}
-use Rattle.segment_rules.proofs.Booleans.{both_true, true_both, less_of, less_true, at_most_of, at_most_true}
 use Rattle.segment_rules.proofs.CellsFrom.{IsFrom, AreCellsFrom}
 use Rattle.segment_rules.proofs.Ordered.{bins_kept, kept_bins}
 use Rattle.segment_bytes.specs.Rows.{RowValue, cell_in, cells_of, bin_of, before_rows, rows_of, AreRowsFrom, wrong_row}
@@ -146,10 +145,10 @@ rows_ok from classes index [] e = tt
 rows_ok from classes index (r ∷ rs) e =
     let t = none_passed (nat_le from r.lo && nat_lt 0 (length r.bins))
     (option_or (wrong_bin (r.lo + 1) classes index r.bins) (wrong_row (r.lo + 1) classes (index + length r.bins) rs)) index e in
-    let b = both_true (nat_le from r.lo) (nat_lt 0 (length r.bins)) t.0 in
+    let b = and_parts (nat_le from r.lo) (nat_lt 0 (length r.bins)) t.0 in
     let n = both_none (wrong_bin (r.lo + 1) classes index r.bins) (wrong_row (r.lo + 1) classes (index + length r.bins) rs) t.1 in (
-      at_most_of from r.lo b.0,
-      less_of 0 (length r.bins) b.1,
+      leb-true from r.lo b.0,
+      ltb-true 0 (length r.bins) b.1,
       bins_kept (r.lo + 1) classes index r.bins n.0,
       rows_ok (r.lo + 1) classes (index + length r.bins) rs n.1,
     )
@@ -159,7 +158,7 @@ ok_rows from classes index [] a = refl
 ok_rows from classes index (r ∷ rs) a =
     ap (λ b. (if b then option_or (wrong_bin (r.lo + 1) classes index r.bins)
     (wrong_row (r.lo + 1) classes (index + length r.bins) rs) else Some index))
-    (true_both (nat_le from r.lo) (nat_lt 0 (length r.bins)) (at_most_true from r.lo a.0) (less_true 0 (length r.bins) a.1))
+    (and_from (nat_le from r.lo) (nat_lt 0 (length r.bins)) (le-leb from r.lo a.0) (lt-ltb 0 (length r.bins) a.1))
     ∙ ap (λ o. option_or o (wrong_row (r.lo + 1) classes (index + length r.bins) rs)) (kept_bins (r.lo + 1) classes index r.bins a.2)
     ∙ ok_rows (r.lo + 1) classes (index + length r.bins) rs a.3
 

@@ -7,7 +7,7 @@ use Rattle.tally.specs.declared.cells.Cell.{Cell}
 use Rattle.tally.specs.declared.cells.Bin.{Bin}
 use Rattle.tally.specs.Counts.{Before, count_of}
 use Rattle.tally.proofs.AddEntries.{further as one_behind, one_further}
-use Rattle.tally.proofs.Walk.{count_here, count_other}
+use Rattle.tally.proofs.Walk.{count_here, count_other, behind_differs}
 use Rattle.segment_rules.proofs.CellsFrom.{IsFrom, AreCellsFrom}
 use Rattle.segment.specs.Parts.{bins_from}
 use Rattle.segment.proofs.TableSums.{none as listed_none, some as listed_some}
@@ -87,7 +87,7 @@ next_by a b k lo hi c cs o rest (inr (inl e)) =
           ∙ ap (λ (l : List Cell). record { lo = lo; hi = hi; n = count_of (c ∷ cs) lo hi } ∷ l) (sym past);
     }
 next_by a b k lo hi c cs o rest (inr (inr h)) =
-    let n = count_other c cs lo hi (differ c.lo c.hi lo hi h) in
+    let n = count_other c cs lo hi (behind_differs h) in
     record {
       none = λ z. skip lo hi c cs h ∙ rest.none (sym n ∙ z) ∙ sym (skip lo (hi + 1) c cs (one_behind c.lo c.hi lo hi h));
       some = λ g.
@@ -96,9 +96,6 @@ next_by a b k lo hi c cs o rest (inr (inr h)) =
           ∙ ap (λ (l : List Cell). record { lo = lo; hi = hi; n = count_of (c ∷ cs) lo hi } ∷ l)
           (sym (skip lo (hi + 1) c cs (one_behind c.lo c.hi lo hi h)));
     }
-  where
-    differ : (a b x y : ℕ) → Before a b x y → (a ≡ x) × (b ≡ y) → ⊥
-    differ a b x y h e = grind arith
 
 three : (a b x y : ℕ) → Before x y a b ⊎ (((a ≡ x) × (b ≡ y)) ⊎ Before a b x y)
 three a b x y = grind arith

@@ -60,17 +60,13 @@ length_true p n a b = grind (arith, nat_tests)
 
 -- ---- the ends
 
-ends_are : (e : EndPoints) (p a b c d : ℕ) → e.points ≡ p → e.first ≡ a → e.second ≡ b → e.before ≡ c → e.last ≡ d
-    → e ≡ record { points = p; first = a; second = b; before = c; last = d }
-ends_are e p a b c d e0 e1 e2 e3 e4 = five_same _ _ _ _ _ _ _ _ _ _ e0 e1 e2 e3 e4
-
 levels_of : (e : EndPoints) (p a b c d : ℕ) → e.points ≡ p → are_levels e a b c d ≡ true
     → e ≡ record { points = p; first = a; second = b; before = c; last = d }
 levels_of e p a b c d is t =
     let u = and_parts (e.first == a && e.second == b) (e.before == c && e.last == d) t in
     let v = and_parts (e.first == a) (e.second == b) u.0 in
     let w = and_parts (e.before == c) (e.last == d) u.1 in
-    ends_are e p a b c d is (eqb-true _ _ v.0) (eqb-true _ _ v.1) (eqb-true _ _ w.0) (eqb-true _ _ w.1)
+    five_same _ _ _ _ _ _ _ _ _ _ is (eqb-true _ _ v.0) (eqb-true _ _ v.1) (eqb-true _ _ w.0) (eqb-true _ _ w.1)
 
 levels_true : (e : EndPoints) (p a b c d : ℕ) → e ≡ record { points = p; first = a; second = b; before = c; last = d }
     → are_levels e a b c d ≡ true

@@ -1,4 +1,3 @@
-pub mod Booleans
 pub mod CellsFrom
 pub mod Chosen
 pub mod Ordered

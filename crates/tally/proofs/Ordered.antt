@@ -3,7 +3,7 @@ use Rattle.std.proofs.Common.{◌≡◌, ◌≢◌, ℕ, zero, suc, ◌+◌, ◌
 use Rattle.std.specs.Prelude.{All, Contains}
 use Rattle.std.specs.List.Sorted.{IsPermutation, IsNonDecreasing}
 use Rattle.std.specs.List.{IsDistinct}
-use Rattle.std.proofs.lemmas.Bool.{cases_lt, cases_eq}
+use Rattle.std.proofs.lemmas.Bool.{cases_lt, cases_eq, eqb-false}
 use Rattle.std.proofs.lemmas.Bool.Decides.{nat_tests}
 use Rattle.std.proofs.lemmas.List.{length-take-le, get_or-take, get_or_default}
 use Rattle.std.proofs.lemmas.List.Elements.{Contains-get_or}
@@ -23,9 +23,6 @@ eqb_flips x y = grind (arith, nat_tests)
 
 apart : (x y : ℕ) → x ≢ y → eqb x y ≡ false
 apart x y n = grind (arith, nat_tests)
-
-not_apart : (x y : ℕ) → eqb x y ≡ false → x ≡ y → ⊥
-not_apart x y e f = grind (arith, nat_tests)
 
 -- a place of the front of a list
 front_at : (l : List ℕ) (used i d : ℕ) → used ≤ length l → i < used → get_or (take used l) i d ≡ get_or l i 0
@@ -80,7 +77,7 @@ module _ (t l m : List ℕ) (used : ℕ) (g : IsListing t l used) (long : length
     within = within;
     holds = λ i h. subst (λ q. 0 < get_or t q 0) (new_at i h) (all_hold i 0 (omega (arith, length_new)));
     once = λ i j h w e.
-        not_apart (get_or (take used m) i 0) (get_or (take used m) j 0)
+        eqb-false (get_or (take used m) i 0) (get_or (take used m) j 0)
         (apart_from_distinct eqb (take used m) i j 0 distinct_new h (omega (arith, length_new)))
         (new_at i (omega arith) ∙ e ∙ sym (new_at j w));
     named = λ q h. found q (Contains-permutation (take used l) (take used m) q p (was_there q (g.named q h)));

@@ -1,8 +1,9 @@
 use Rattle.std.proofs.Common.{◌++◌, drop, length, take, ap, arith}
 use Rattle.std.specs.List.{flat_map}
+use Rattle.std.proofs.lemmas.List.{drop_all}
 use Rattle.segment_bytes.specs.Grammar.{bin}
 use Rattle.segment_bytes.specs.Writing.{bins_of}
-use Rattle.segment_bytes.proofs.Listed.{bins_bytes, none_left, put_done}
+use Rattle.segment_bytes.proofs.Listed.{bins_bytes, put_done}
 use Rattle.segment_bytes.proofs.writing.put_bins.Goals as goal
 
 pub returns : goal.returns
@@ -10,7 +11,7 @@ returns c =
     let v = c.loop-n.invariant in
     let counts = c.args.counts.now in
     let left = bins_of c.loop-n.next (drop c.loop-n.n-index counts) in
-    let none = ap (bins_of c.loop-n.next) (none_left c.loop-n.n-index counts (omega (arith, c.loop-n-test.false))) in
+    let none = ap (bins_of c.loop-n.next) (drop_all c.loop-n.n-index counts (omega (arith, c.loop-n-test.false))) in
     record {
       next_is = omega (arith, v.place, ap length none, bins_bytes c.args.key counts);
       front = put_done bin (take c.loop-n.at c.loop-n.buf) left

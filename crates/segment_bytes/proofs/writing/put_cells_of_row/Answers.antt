@@ -1,9 +1,10 @@
 use Rattle.std.proofs.Common.{◌+◌, ◌++◌, drop, length, map, take, ap, arith}
 use Rattle.std.specs.List.{flat_map}
+use Rattle.std.proofs.lemmas.List.{drop_all}
 use Rattle.segment_bytes.specs.Grammar.{cell}
 use Rattle.segment_bytes.specs.Rows.{cell_in}
 use Rattle.segment_bytes.specs.Writing.{bins_of}
-use Rattle.segment_bytes.proofs.Listed.{none_left, pairs_bytes, put_done}
+use Rattle.segment_bytes.proofs.Listed.{pairs_bytes, put_done}
 use Rattle.segment_bytes.proofs.writing.put_cells_of_row.Goals as goal
 
 pub returns : goal.returns
@@ -11,7 +12,7 @@ returns c =
     let v = c.loop-n.invariant in
     let counts = c.args.counts.now in
     let left = map (cell_in c.args.lo) (bins_of c.loop-n.hi (drop c.loop-n.n-index counts)) in
-    let none = none_left c.loop-n.n-index counts (omega (arith, c.loop-n-test.false)) in
+    let none = drop_all c.loop-n.n-index counts (omega (arith, c.loop-n-test.false)) in
     record {
       next_is = omega (arith, v.place, ap (λ l. length (bins_of c.loop-n.hi l)) none, pairs_bytes c.args.lo (c.args.lo + 1) counts);
       front = put_done cell (take c.loop-n.at c.loop-n.buf) left
