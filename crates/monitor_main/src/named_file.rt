@@ -29,8 +29,8 @@ impl<'a> NamedFile<'a> {
         }
     }
 
-    // The open file, or a failure.
-    fn opened(&mut self) -> Result<(), Failed>
+    // Opens the file, if it is not open yet.
+    fn open(&mut self) -> Result<(), Failed>
         ensures { self.new.faults ≡ self.old.faults }
     {
         if self.source.is_none() {
@@ -46,7 +46,7 @@ impl<'a> NamedFile<'a> {
         ensures bound { ReadsAtMost result buf.new }
         ensures faults { self.new.faults ≡ self.old.faults }
     {
-        self.opened()?;
+        self.open()?;
         match &mut self.source {
             Some(source) => source.take(buf),
             None => Err(Failed),

@@ -109,7 +109,7 @@ impl<'a, R: Files<File = File>, W: Write + Drop> FileStation<'a, R, W> {
     }
 
     // Counts a call that failed.
-    fn counted<T>(&mut self, answer: io::Result<T>) -> Result<T, Failed>
+    fn count_fault<T>(&mut self, answer: io::Result<T>) -> Result<T, Failed>
         ensures { HasCause self.old.faults self.new.faults result }
     {
         match answer {
@@ -145,26 +145,26 @@ impl<'a, R: Files<File = File>, W: Write + Drop> Station for FileStation<'a, R, 
 
     fn size(&mut self) -> Result<u64, Failed> {
         let answer = self.length();
-        self.counted(answer)
+        self.count_fault(answer)
     }
 
     fn read_at(&mut self, at: u64, buf: &mut [u8]) -> Result<(), Failed> {
         let answer = self.read(at, buf);
-        self.counted(answer)
+        self.count_fault(answer)
     }
 
     fn write_at(&mut self, at: u64, bytes: &[u8]) -> Result<(), Failed> {
         let answer = self.write(at, bytes);
-        self.counted(answer)
+        self.count_fault(answer)
     }
 
     fn sync(&mut self) -> Result<(), Failed> {
         let answer = self.flush();
-        self.counted(answer)
+        self.count_fault(answer)
     }
 
     fn tell(&mut self, line: &[u8]) -> Result<(), Failed> {
         let answer = self.line.write_all(line);
-        self.counted(answer)
+        self.count_fault(answer)
     }
 }
