@@ -1,7 +1,8 @@
 -- How the reading of a lane goes on and ends.
-use Rattle.std.proofs.Common.{◌≡◌, ◌≢◌, ◌≤◌, ◌<◌, ℕ, ◌+◌, ◌-◌, ◌*◌, List, length, drop, refl, ap, ◌∙◌, subst, arith, length-drop, ◌⊎◌, inl, inr}
+use Rattle.std.proofs.Common.{◌≡◌, ◌≢◌, ◌≤◌, ◌<◌, ℕ, ◌+◌, ◌-◌, ◌*◌, List, length, drop, refl, sym, ap, ◌∙◌, subst, arith, length-drop, ◌⊎◌, inl, inr}
 use Rattle.std.proofs.lemmas.List.{drop-drop}
 use Rattle.std.proofs.lemmas.Bool.Decides.{nat_tests}
+use Rattle.std.proofs.Math.Nat.{mul-add}
 use Rattle.std.specs.Prelude.{min}
 use Rattle.recording.specs.declared.ends.FillEnd.{FillEnd}
 use Rattle.recording.specs.declared.ends.FillEnd.TheVariants.{More as Full, Failed}
@@ -59,11 +60,8 @@ module _ (m room most n : ℕ) (before mid after : List ℕ) (e : End) (have : m
     few = (omega (arith, g.few.0), omega (arith, g.few.1, within), omega (arith, g.few.2, rest, have));
     ends = λ q. g.ends q ∙ same_end;
     count = λ q. (let c = g.count q in let r = rest in omega (arith, c, r, have, within));
-    left = λ q. g.left q ∙ ap (drop (4 * room)) is ∙ drop-drop (4 * room) (4 * m) before ∙ ap (λ k. drop k before) (sums m room);
+    left = λ q. g.left q ∙ ap (drop (4 * room)) is ∙ drop-drop (4 * room) (4 * m) before ∙ ap (λ k. drop k before) (sym (mul-add 4 m room));
   }
-    where
-      sums : (m room : ℕ) → 4 * m + 4 * room ≡ 4 * (m + room)
-      sums m room = omega arith
 
 -- where it has ended, more samples could have been wanted
 pub gives_wider : (room wider most n : ℕ) (before after : List ℕ) (e : End) → e ≢ More → room ≤ wider → Gives room most before n e after
