@@ -1,6 +1,6 @@
 -- A text that is printed piece by piece.
 use Rattle.std.proofs.Common.{◌≡◌, ◌<◌, ◌≤◌, ℕ, ◌+◌, ◌-◌, List, [], ◌∷◌, ◌++◌, length, take, drop, get_or, min, true, refl, sym, ap, ◌∙◌, subst, arith, append_assoc}
-use Rattle.std.specs.Prelude.{Result, Ok, Err, OnOk, OnErr}
+use Rattle.std.specs.Prelude.{Result, Ok, Err, OnErr}
 use Rattle.std.proofs.lemmas.List.{append-nil, at_drop_all, at_drop_more, take-append-le, take_min}
 use Rattle.std.proofs.Math.Seq.{take-append-add}
 use Rattle.outside.specs.Sink.{AppendsPrefix}
@@ -119,10 +119,6 @@ pub second_part_front : (old mid new first second : List ℕ) → mid ≡ old ++
 second_part_front old mid new first second is e = printed_front old mid new (first ++ second) second [] (subst
     (IsPrinted old mid (first ++ second)) (sym (append-nil second))
     (printed_more old old mid (first ++ second) first second (printing_starts old (first ++ second)) is)) e
-
-pub on_ok_by : {T E : Type 0} (r : Result T E) (P Q : Type 0) → (P → Q) → OnOk r P → OnOk r Q
-on_ok_by (Ok x) P Q by h = by h
-on_ok_by (Err e) P Q by h = tt
 
 pub on_err_by : {T E : Type 0} (r : Result T E) (P Q : Type 0) → (P → Q) → OnErr r P → OnErr r Q
 on_err_by (Ok x) P Q by h = tt

@@ -1,9 +1,10 @@
 use Rattle.std.proofs.Common.{◌++◌, List, ℕ, ap, refl, ◌∙◌, sym, subst, append_assoc}
 use Rattle.outside.specs.Sink.{AppendsPrefix}
 use Rattle.lemmas.proofs.Outcomes.{on_err}
+use Rattle.std.proofs.lemmas.Result.{on_ok_weaker, on_err_weaker}
 use Rattle.site_report.specs.Damages.{AreDamages}
 use Rattle.site_report.specs.Report.{IsReport, gauge_lines, detail_lines}
-use Rattle.site_report.proofs.Printed.{first_part_front, second_part_front, on_ok_by, on_err_by}
+use Rattle.site_report.proofs.Printed.{first_part_front, second_part_front}
 use Rattle.site_report.proofs.whole.Report.print.Goals as goal
 
 pub returns-in_err-print_gauges-clause-failed : goal.returns-in_err-print_gauges-clause-failed
@@ -26,7 +27,7 @@ returns-clause-ok g c = λ tells figures agrees.
     let damages = c.deref.result.now in
     let first = gauge_lines conf figures in
     let second = detail_lines conf conf.details c.deref.result.now in
-    on_ok_by c.print_details.result _ _ (λ put. (
+    on_ok_weaker c.print_details.result (λ put. (
       gauge_lines conf figures ++ detail_lines conf conf.details c.deref.result.now,
       record {
         damages = damages;
@@ -42,7 +43,7 @@ pub returns-clause-failed : goal.returns-clause-failed
 returns-clause-failed g c = λ tells figures agrees.
     let conf = c.args.conf.now in
     let damages = c.deref.result.now in
-    on_err_by c.print_details.result _ _ (λ put. (
+    on_err_weaker c.print_details.result (λ put. (
       gauge_lines conf figures ++ detail_lines conf conf.details c.deref.result.now,
       record {
         damages = damages;
