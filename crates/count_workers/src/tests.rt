@@ -195,7 +195,7 @@ fn same_bins(left: &Segment, right: &Segment) -> bool {
 
 // These samples, counted at once.
 fn counted(rt: &impl Abort, alloc: Global, samples: &[i32]) -> Result<Counted, Fail>
-    requires { (1 ≤ length samples.now) × (length samples.now ≤ 4096) }
+    requires { (1 ≤ length samples.now) × (length samples.now ≤ MAX_BLOCK) }
 {
     let grid = plan(rt, 1, 1, 1).grid;
     let mut pool = Pool::new(alloc, 1, samples.len(), &grid)?;

@@ -88,7 +88,8 @@ fn sheet_by<T: Site, O: Sink>(alloc: Global, conf: &Config, site: &mut T, out: &
     requires conf { IsConfig conf.now }
     requires home { T.out site.old ≡ 0 }
     ensures prints { O.tells → T.tells →
-        Prints result (sheet_of conf.now (T.files site.old)) (O.written out.old) (O.written out.new) }
+        Prints result (sheet_of conf.now (T.files site.old)) (O.written out.old)
+        (O.written out.new) }
     ensures nothing { O.tells → result ≢ Done → result ≢ WriteFault →
         O.written out.new ≡ O.written out.old }
     ensures answer { T.tells → MayAnswer (answer_over conf.now (T.files site.old)) result }

@@ -1,4 +1,5 @@
 ghost use Rattle.std.specs.Prelude.{◌≡◌, ◌<◌, ◌≤◌, length, IfOk};
+ghost use Rattle.calibration.specs.declared.limits.TheConstants.{MAX_GAUGES};
 
 use calibration::{Gain, Gains, Grid, Setup};
 use recording::{Head, MAX_SAMPLES};
@@ -73,7 +74,7 @@ fn head(alloc: Global, gauges: usize) -> Result<StoreHead, Fail>
 
 /// A station on which a store was made.
 pub fn made(alloc: Global, gauges: usize) -> Result<MomentStation, Fail>
-    requires { gauges ≤ 32 }
+    requires { gauges ≤ MAX_GAUGES }
 {
     let mut station = MomentStation::new(alloc, Vec::new(alloc), Vec::new(alloc));
     init(alloc, &mut station, &head(alloc, gauges)?)?;
@@ -114,7 +115,7 @@ fn put_segment(
     setup: &Setup,
     segment: &Segment,
 ) -> Result<(), Refusal>
-    requires few { length setup.now.gains ≤ 32 }
+    requires few { length setup.now.gains ≤ MAX_GAUGES }
     requires grid { segment.now.grid ≡ setup.now.grid }
     requires gauge { segment.now.gauge < length setup.now.gains }
     requires some { segment.now.from < segment.now.to }
@@ -136,7 +137,7 @@ fn put_again(
     setup: &Setup,
     segment: &Segment,
 ) -> Result<Option<PutFault>, Refusal>
-    requires few { length setup.now.gains ≤ 32 }
+    requires few { length setup.now.gains ≤ MAX_GAUGES }
     requires grid { segment.now.grid ≡ setup.now.grid }
     requires gauge { segment.now.gauge < length setup.now.gains }
     requires some { segment.now.from < segment.now.to }
@@ -171,7 +172,7 @@ fn put_fit_again(
     setup: &Setup,
     segment: &Segment,
 ) -> Result<Option<PutFault>, Refusal>
-    requires few { length setup.now.gains ≤ 32 }
+    requires few { length setup.now.gains ≤ MAX_GAUGES }
 {
     let name = segment.name();
     assert!(rt; segment.grid() == setup.grid);
@@ -188,7 +189,7 @@ fn put_fit(
     setup: &Setup,
     segment: &Segment,
 ) -> Result<(), Refusal>
-    requires few { length setup.now.gains ≤ 32 }
+    requires few { length setup.now.gains ≤ MAX_GAUGES }
 {
     let name = segment.name();
     assert!(rt; segment.grid() == setup.grid);
@@ -205,7 +206,7 @@ pub fn put(
     station: &mut MomentStation,
     part: Part,
 ) -> Result<Result<(), Refusal>, Fail>
-    requires { gauges ≤ 32 }
+    requires { gauges ≤ MAX_GAUGES }
 {
     let setup = setup(alloc, gauges)?;
     let segment = counted(rt, alloc, &setup.grid, part)?;
@@ -219,7 +220,7 @@ pub fn stored(
     gauges: usize,
     parts: &[Part],
 ) -> Result<Vec<u8>, Fail>
-    requires { gauges ≤ 32 }
+    requires { gauges ≤ MAX_GAUGES }
 {
     let mut station = made(alloc, gauges)?;
     for part in parts {

@@ -26,7 +26,8 @@ impl Model for Run {
 
     ghost Value = { RunState };
 
-    ghost view = { λ r. record { classes = r.classes; live = reverse (take r.len r.places.items) } };
+    ghost view = { λ r.
+        record { classes = r.classes; live = reverse (take r.len r.places.items) } };
 
     ghost invariant = { λ r. IsRunBuffer r.classes r.places.items r.len };
 }
