@@ -8,7 +8,7 @@ use Rattle.tally.specs.declared.cells.Bin.{Bin}
 use Rattle.turning_points.specs.EndPoints.{EndPoints}
 use Rattle.tables.specs.Tables.{table_with_bins}
 use Rattle.tables.specs.Bins.{count_at}
-use Rattle.tables.proofs.Filled.{placed, none_before, filled_at, table_at, table_long}
+use Rattle.tables.proofs.Filled.{count_placed, none_before, filled_at, table_at, table_long}
 use Rattle.lemmas.proofs.Lists.{get_or-zeros}
 use Rattle.calibration.specs.declared.grid.TheConstants.{MAX_CLASSES}
 use Rattle.level_crossing.specs.Crossings.{IsCrossings, count_at as crossing_count}
@@ -23,10 +23,10 @@ shifted b s none next zero =
     let e : sum (take zero s) ≡ 0 = refl in let f : sum (take zero b) ≡ 0 = refl in omega (arith, sum_take_more s zero, none, e, f)
 shifted b s none next (suc i) = omega (arith, sum_take_more s (suc i), sum_take_more b i, next i, shifted b s none next i)
 
-placed_next : (p : ℕ) (bs : List Bin) → placed 1 (suc p) bs ≡ placed 0 p bs
+placed_next : (p : ℕ) (bs : List Bin) → count_placed 1 (suc p) bs ≡ count_placed 0 p bs
 placed_next p [] = refl
 placed_next p (b ∷ bs) =
-    ap (λ t. cond t b.n (placed 1 (suc p) bs)) (same p b.key) ∙ ap (λ n. cond (eqb p (b.key + 0)) b.n n) (placed_next p bs)
+    ap (λ t. cond t b.n (count_placed 1 (suc p) bs)) (same p b.key) ∙ ap (λ n. cond (eqb p (b.key + 0)) b.n n) (placed_next p bs)
   where
     same : (p k : ℕ) → eqb (suc p) (k + 1) ≡ eqb p (k + 0)
     same p k = grind (arith, nat_tests)
@@ -48,14 +48,14 @@ module _ (classes reference : ℕ) (e : EndPoints) (bins : List Bin) (k : IsGrid
   begins_at : (i : ℕ) → get_or (table_with_bins 0 (replicate (classes + 1) 0) bins) i 0 ≡ count_at i bins
   begins_at = table_at 1 classes (classes + 1) bins c.bins_are (omega arith)
 
-  stops_at : (p : ℕ) → get_or (table_with_bins 1 (replicate (classes + 1) 0) bins) p 0 ≡ placed 1 p bins
+  stops_at : (p : ℕ) → get_or (table_with_bins 1 (replicate (classes + 1) 0) bins) p 0 ≡ count_placed 1 p bins
   stops_at p = let l = length-replicate {A = ℕ} (classes + 1) 0 in omega (
     arith,
     filled_at 1 1 classes (replicate (classes + 1) 0) bins c.bins_are (omega (arith, l)) (λ p h. get_or-zeros (classes + 1) p) p,
     get_or-zeros (classes + 1) p,
   )
 
-  begins_placed : (p : ℕ) → get_or (table_with_bins 0 (replicate (classes + 1) 0) bins) p 0 ≡ placed 0 p bins
+  begins_placed : (p : ℕ) → get_or (table_with_bins 0 (replicate (classes + 1) 0) bins) p 0 ≡ count_placed 0 p bins
   begins_placed p = let l = length-replicate {A = ℕ} (classes + 1) 0 in
       omega (
         arith,

@@ -4,13 +4,14 @@ use Rattle.std.specs.Prelude.{All}
 use Rattle.std.proofs.lemmas.List.Elements.{All-head, All-tail}
 use Rattle.std.proofs.lemmas.Bool.Decides.{nat_tests}
 use mir.Val.{bool_byte}
-use Rattle.turning_points.proofs.Zigzag.{Turn, IsZigzag, ends_differ, turn_at}
+use Rattle.turning_points.proofs.Zigzag.{IsZigzag, ends_differ, turn_at}
 use Rattle.tables.specs.Tables.{raise, is_at}
 use Rattle.tables.proofs.Counting.{raise_at, sum_cons}
 use Rattle.level_crossing.specs.Crossings.{step_crossings, crossings}
 use Rattle.level_crossing.specs.Halves.{below_at, from_at, last_begin, last_stop, IsOpen}
 use Rattle.level_crossing.proofs.PushJoin.{sum_take_raise}
 use Rattle.level_crossing.proofs.Halves.{halves, at_bottom, at_top, one_more, none_at}
+use Rattle.turning_points.specs.Points.{IsTurn}
 
 crossings_more : (r l : ℕ) (p : List ℕ) (i : ℕ) → i + 1 < length p →
     crossings r l (take (suc (suc i)) p) ≡ crossings r l (take (suc i) p) + step_crossings r l (get_or p i 0) (get_or p (suc i) 0)
@@ -32,18 +33,19 @@ crossings_next r l p i j e h =
       ap (λ k. step_crossings r l (get_or p i 0) (get_or p k 0)) a,
     )
 
-pub turn_here : (p : List ℕ) (i : ℕ) → IsZigzag p → 1 ≤ i → i + 1 < length p → Turn (get_or p (i - 1) 0) (get_or p i 0) (get_or p (i + 1) 0)
+pub turn_here : (p : List ℕ) (i : ℕ) → IsZigzag p → 1 ≤ i → i + 1 < length p →
+    IsTurn (get_or p (i - 1) 0) (get_or p i 0) (get_or p (i + 1) 0)
 turn_here p i z o h =
     let t = turn_at p (i - 1) z (omega arith) in
     let a : suc (i - 1) ≡ i = omega arith in
     let b : suc (suc (i - 1)) ≡ i + 1 = omega arith in
-    subst (λ k. Turn (get_or p (i - 1) 0) (get_or p i 0) (get_or p k 0)) b
-    (subst (λ k. Turn (get_or p (i - 1) 0) (get_or p k 0) (get_or p (suc (suc (i - 1))) 0)) a t)
+    subst (λ k. IsTurn (get_or p (i - 1) 0) (get_or p i 0) (get_or p k 0)) b
+    (subst (λ k. IsTurn (get_or p (i - 1) 0) (get_or p k 0) (get_or p (suc (suc (i - 1))) 0)) a t)
 
-pub bottom_is : (y x z : ℕ) → Turn y x z → ltb x y ≡ true → (x < y) × (x < z)
+pub bottom_is : (y x z : ℕ) → IsTurn y x z → ltb x y ≡ true → (x < y) × (x < z)
 bottom_is y x z t e = (grind (arith, nat_tests), grind (arith, nat_tests))
 
-pub top_is : (y x z : ℕ) → Turn y x z → ltb x y ≡ false → (y < x) × (z < x)
+pub top_is : (y x z : ℕ) → IsTurn y x z → ltb x y ≡ false → (y < x) × (z < x)
 top_is y x z t e = (grind (arith, nat_tests), grind (arith, nat_tests))
 
 no_stop : (r l y x : ℕ) → x < y → last_stop r l y x ≡ 0

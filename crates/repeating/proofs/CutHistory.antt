@@ -3,8 +3,8 @@ use Rattle.std.proofs.Common.{◌≡◌, ℕ, suc, ◌+◌, ◌<◌, ◌≤◌, 
 use Rattle.std.proofs.lemmas.Bool.{cases_lt}
 use Rattle.std.specs.Prelude.{All}
 use Rattle.std.proofs.lemmas.List.Elements.{All-nil, All-cons, All-head, All-tail, All-append}
-use Rattle.turning_points.specs.Points.{turns as turns_of, changes}
-use Rattle.turning_points.proofs.Zigzag.{add, add_equal, IsZigzag, one, two, inner, zig_points, Turn}
+use Rattle.turning_points.specs.Points.{turns as turns_of, changes, IsTurn}
+use Rattle.turning_points.proofs.Zigzag.{add, add_equal, IsZigzag, one, two, inner, zig_points}
 use Rattle.turning_points.proofs.Over.{over, over_points, zig_over}
 use Rattle.turning_points.proofs.Joining.{Side, at, away, before, add_away, add_before, add_two}
 use Rattle.turning_points.proofs.Levels.{All-points}
@@ -24,7 +24,7 @@ join_kept : {m x : ℕ} {t u : List ℕ} (f g : List ℕ) → over u (m ∷ t) �
     add x (f ++ (m ∷ t)) ≡ g ++ (m ∷ t) → add x (f ++ (m ∷ [])) ≡ g ++ (m ∷ []) → Joined m t (x ∷ u)
 join_kept {x} f g p q r s = record { front = g; whole = ap (add x) p ∙ r; left = ap (add x) q ∙ s }
 
-below_top : (m y z : ℕ) → y < suc m → Turn m y z → y < m
+below_top : (m y z : ℕ) → y < suc m → IsTurn m y z → y < m
 below_top m y z p u = grind arith
 
 add_top : (x m : ℕ) (t : List ℕ) → IsZigzag (m ∷ t) → All (λ y. y < suc m) t → x < m → add x (m ∷ t) ≡ x ∷ m ∷ t

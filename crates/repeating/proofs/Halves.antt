@@ -5,7 +5,7 @@ use Rattle.std.proofs.lemmas.Bool.Decides.{nat_tests}
 use Rattle.std.specs.Prelude.{All}
 use Rattle.std.proofs.lemmas.List.Elements.{All-nil, All-cons, All-head, All-tail}
 use Rattle.turning_points.specs.Pairs.{pair, range}
-use Rattle.turning_points.proofs.Zigzag.{Turn, IsZigzag, zig_tail}
+use Rattle.turning_points.proofs.Zigzag.{IsZigzag, zig_tail}
 use Rattle.three_point.specs.Run.{live_after, ranges_left, run, same, half_units_of_pair}
 use Rattle.three_point.proofs.Steps.{live_after_half, ranges_counted_half, live_after_less, ranges_counted_less, live_after_cycle, ranges_counted_cycle}
 use Rattle.three_point.proofs.Bounds.{All-live_after}
@@ -16,6 +16,7 @@ use Rattle.residue_join.proofs.OneDeletion.{Fits, onto_one, read, run_step, onto
 use Rattle.repeating.specs.Repeating.{live_after_cycles, cycles_closed, cycle_run}
 use Rattle.repeating.proofs.Ending.{EndsIn, ends_here, ends_on}
 use Rattle.repeating.proofs.Cut.{before_greatest, zig_from_fits, tail_is}
+use Rattle.turning_points.specs.Points.{IsTurn}
 
 live_after_cycles_less : (z y x : ℕ) (v : List ℕ) → range y z < range x y → live_after_cycles z (y ∷ x ∷ v) ≡ z ∷ y ∷ x ∷ v
 live_after_cycles_less z y x v h = grind (arith, nat_tests)
@@ -67,7 +68,7 @@ module _ (lo hi : ℕ) where
         ap (count_in lo hi) (cycles_closed_one z a x (w ∷ v) p),
       ))
 
-  closing_two : (m z a x : ℕ) → x ≡ m → a ≤ m → Turn z a x → z ≤ m → ((range a z < range x a) ⊎ (range x a ≤ range a z)) →
+  closing_two : (m z a x : ℕ) → x ≡ m → a ≤ m → IsTurn z a x → z ≤ m → ((range a z < range x a) ⊎ (range x a ≤ range a z)) →
       Closing m z (a ∷ x ∷ [])
   closing_two m z a x e h t b (inl s) = closing_less m z a x [] (ends_on (ends_here e)) (omega arith) s
   closing_two m z a x e h t b (inr s) =
@@ -83,7 +84,7 @@ module _ (lo hi : ℕ) where
         ap (count_in lo hi) (cycles_closed_one z a x [] s),
       ))
 
-  closing_more : (m z a x w : ℕ) (v : List ℕ) → EndsIn m (a ∷ x ∷ w ∷ v) → a ≤ m → x ≤ m → Turn z a x →
+  closing_more : (m z a x w : ℕ) (v : List ℕ) → EndsIn m (a ∷ x ∷ w ∷ v) → a ≤ m → x ≤ m → IsTurn z a x →
       ((range a z < range x a) ⊎ (range x a ≤ range a z)) → Closing m z (w ∷ v) → Closing m z (a ∷ x ∷ w ∷ v)
   closing_more m z a x w v e h k t (inl s) c = closing_less m z a x (w ∷ v) e (omega arith) s
   closing_more m z a x w v e h k t (inr s) c = closing_cycle m z a x w v s c

@@ -4,9 +4,10 @@ use Rattle.std.proofs.lemmas.Bool.{cases_lt}
 use Rattle.std.specs.Prelude.{All}
 use Rattle.std.proofs.lemmas.List.Elements.{All-nil, All-cons, All-head, All-tail}
 use Rattle.turning_points.specs.Pairs.{range}
-use Rattle.turning_points.proofs.Zigzag.{Turn, IsZigzag, two, inner, ends_differ}
+use Rattle.turning_points.proofs.Zigzag.{IsZigzag, two, inner, ends_differ}
 use Rattle.four_point.proofs.HasNoCycle.{HasNoCycle, HasNoCycle-tail, Shrinks, last, shrinks, Shrinks-from_no_cycle}
 use Rattle.repeating.proofs.Ending.{EndsIn, ends_here, ends_on}
+use Rattle.turning_points.specs.Points.{IsTurn}
 
 -- each level is at least lo and below hi
 abbrev pub Within : ℕ → ℕ → List ℕ → Type 0
@@ -26,7 +27,7 @@ record Nested (y z : ℕ) (l : List ℕ) : Type 0 where
   rising : y < z → Within (suc y) (suc z) (z ∷ l)
   falling : z < y → Within z y (z ∷ l)
 
-nest : {y z w : ℕ} {l : List ℕ} → range z w < range y z → Turn y z w → Nested z w l → Nested y z (w ∷ l)
+nest : {y z w : ℕ} {l : List ℕ} → range z w < range y z → IsTurn y z w → Nested z w l → Nested y z (w ∷ l)
 nest {y} {z} {w} {l} h t n = record {
   rising = λ p. one_within (suc y) (suc z) z (w ∷ l) (omega arith) (omega arith)
       (wider w z (suc y) (suc z) (w ∷ l) (omega arith) (omega arith) (n.falling (omega arith)));
@@ -74,13 +75,13 @@ two_within lo hi y z l w =
     let b = All-head (λ x. (lo ≤ x) × (x < hi)) z l (All-tail (λ x. (lo ≤ x) × (x < hi)) y (z ∷ l) w) in
     (a.0, a.1, b.0, b.1)
 
-spans_more : {e f x y z : ℕ} {l : List ℕ} → Turn x y z → range x y ≤ range y z → Spans e f (y ∷ z ∷ l) → Spans e f (x ∷ y ∷ z ∷ l)
+spans_more : {e f x y z : ℕ} {l : List ℕ} → IsTurn x y z → range x y ≤ range y z → Spans e f (y ∷ z ∷ l) → Spans e f (x ∷ y ∷ z ∷ l)
 spans_more {e} {f} {x} {y} {z} {l} t h (rises p w) =
     let v = two_within e (suc f) y z l w in rises p (one_within e (suc f) x (y ∷ z ∷ l) (omega arith) (omega arith) w)
 spans_more {e} {f} {x} {y} {z} {l} t h (falls p w) =
     let v = two_within f (suc e) y z l w in falls p (one_within f (suc e) x (y ∷ z ∷ l) (omega arith) (omega arith) w)
 
-widest_pick : {x y z : ℕ} {l : List ℕ} → HasNoCycle (x ∷ y ∷ z ∷ l) → IsZigzag (x ∷ y ∷ z ∷ l) → Turn x y z → Widest (y ∷ z ∷ l) →
+widest_pick : {x y z : ℕ} {l : List ℕ} → HasNoCycle (x ∷ y ∷ z ∷ l) → IsZigzag (x ∷ y ∷ z ∷ l) → IsTurn x y z → Widest (y ∷ z ∷ l) →
     ((range y z < range x y) ⊎ (range x y ≤ range y z)) → Widest (x ∷ y ∷ z ∷ l)
 widest_pick {x} {y} {z} {l} c g t w (inl p) = record {
   g = [];

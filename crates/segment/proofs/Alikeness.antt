@@ -1,12 +1,12 @@
 -- Points and residue lose equally many levels where two parts meet.
 use Rattle.std.proofs.Common.{◌≡◌, ◌≢◌, ℕ, ◌+◌, ◌<◌, ◌≤◌, ◌⊎◌, inl, inr, refl, sym, ap, ◌∙◌, subst, arith}
 use Rattle.std.proofs.lemmas.Bool.{cases_eq, cases_lt}
-use Rattle.turning_points.specs.Points.{IsBetween}
-use Rattle.turning_points.specs.EndPoints.{EndPoints, IsTurn, IsEnds, ends_prepend, meets}
+use Rattle.turning_points.specs.Points.{IsBetween, IsTurn, OnSide}
+use Rattle.turning_points.specs.EndPoints.{EndPoints, IsEnds, ends_prepend, meets}
 use Rattle.turning_points.proofs.Put.{PutCase, at_none, at_equal, at_second, at_turn, at_passed, put_none, put_equal, put_second, put_turn, put_two, put_passed, put_first, put_side}
 use Rattle.turning_points.proofs.PutEnds.{case_of, put_ends}
 use Rattle.turning_points.proofs.MeetEnds.{Left, left_zero, left_one, left_two, left_long, left_of, meets_zero, meets_one, meets_two, meets_long, twice}
-use Rattle.segment.specs.Alike.{OnSide, Alike}
+use Rattle.segment.specs.Alike.{Alike}
 use Rattle.segment.proofs.Deleted.{side_self, side_next}
 
 -- after a level was put before each, where the levels lie on one side

@@ -7,7 +7,8 @@ use Rattle.turning_points.proofs.Zigzag.{IsZigzag, zig_tail, ends_differ}
 use Rattle.four_point.proofs.Drops.{Drops, here, past, Encloses}
 use Rattle.four_point.proofs.Chain.{Chain, done, more}
 use Rattle.four_point.proofs.Unique.{zig_drops}
-use Rattle.segment.specs.Alike.{OnSide, Alike}
+use Rattle.segment.specs.Alike.{Alike}
+use Rattle.turning_points.specs.Points.{OnSide}
 
 -- what a deletion leaves of the ends
 record Same (l m : List ℕ) : Type 0 where

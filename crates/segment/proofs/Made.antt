@@ -7,7 +7,8 @@ use Rattle.tally.specs.declared.cells.Bin.{Bin}
 use Rattle.tally.specs.Counts.{Counts, total_of}
 use Rattle.tally.specs.Room.{room_for}
 use Rattle.tables.specs.Bins.{count_at}
-use Rattle.turning_points.specs.EndPoints.{EndPoints, IsTurn, ends_of}
+use Rattle.turning_points.specs.EndPoints.{EndPoints, ends_of}
+use Rattle.turning_points.specs.Points.{IsTurn, OnSide}
 use Rattle.turning_points.proofs.EndPlaces.{last_place, before_place}
 use Rattle.four_point.specs.Residue.{IsResidue, ReducerValue}
 use Rattle.calibration.specs.Grid.{GridValue, IsGrid}
@@ -17,7 +18,7 @@ use Rattle.simple_counts.specs.Simple.{SimpleValue, IsSimple, peak_count, range_
 use Rattle.segment_rules.specs.Parts.{PartsValue}
 use Rattle.segment_rules.specs.Rules.{IsEnded}
 use Rattle.segment_rules.specs.Rules.{IsSegment as AreSegment}
-use Rattle.segment.specs.Alike.{Alike, OnSide}
+use Rattle.segment.specs.Alike.{Alike}
 use Rattle.segment.specs.Segment.{SegmentValue, IsSegment}
 use Rattle.segment.specs.Parts.{parts_of}
 use Rattle.segment.specs.Loading.{longest_of}

@@ -4,7 +4,8 @@ use Rattle.std.specs.Prelude.{All, if◌then◌else◌, slice_index}
 use Rattle.std.proofs.lemmas.Bool.{cases_lt}
 use Rattle.std.proofs.lemmas.Bool.Decides.{nat_tests}
 use Rattle.turning_points.specs.Pairs.{range}
-use Rattle.turning_points.specs.EndPoints.{EndPoints, IsEnds, IsTurn, ends_of}
+use Rattle.turning_points.specs.EndPoints.{EndPoints, IsEnds, ends_of}
+use Rattle.turning_points.specs.Points.{IsTurn, OnSide}
 use Rattle.turning_points.proofs.EndPlaces.{last_place, before_place}
 use Rattle.turning_points.proofs.PushEnds.{five_same}
 use Rattle.tally.specs.Counts.{IsCell, IsCounts}
@@ -15,7 +16,7 @@ use Rattle.simple_counts.specs.Simple.{SimpleValue, IsSimple, open_at, peak_coun
 use Rattle.simple_counts.specs.Loading.{CountsEnds, first_range, last_range}
 use Rattle.segment_rules.specs.Rules.{AreCells, HasEndsBeside, IsEnded, IsOrdered, IsSummed}
 use Rattle.segment_rules.specs.Rules.{IsSegment as AreSegment}
-use Rattle.segment.specs.Alike.{Alike, OnSide}
+use Rattle.segment.specs.Alike.{Alike}
 use Rattle.segment.specs.Segment.{SegmentValue, IsSegment}
 use Rattle.segment.specs.Parts.{bins_from, parts_of}
 use Rattle.segment.proofs.Listing.{bins_count, bins_ordered}

@@ -4,7 +4,8 @@ use Rattle.std.specs.Prelude.{All, Bool, true, false, IsTrue, MatchBool, slice_i
 use Rattle.std.proofs.lemmas.Bool.{false≢true}
 use Rattle.std.proofs.lemmas.List.Elements.{All-nil, All-cons, All-head, All-tail}
 use Rattle.tally.specs.declared.cells.Bin.{Bin}
-use Rattle.turning_points.specs.EndPoints.{EndPoints, IsEnds, IsTurn}
+use Rattle.turning_points.specs.EndPoints.{EndPoints, IsEnds}
+use Rattle.turning_points.specs.Points.{IsTurn}
 use Rattle.turning_points.specs.declared.ends.TheConstants.{MAX_POINTS}
 use Rattle.turning_points.proofs.Zigzag.{IsZigzag, inner}
 use Rattle.turning_points.proofs.Over.{zig_own}

@@ -6,10 +6,10 @@ use Rattle.std.proofs.Common.{◌≡◌, ℕ, zero, suc, ◌+◌, ◌-◌, ◌*�
 use Rattle.recording.specs.declared.TheConstants.{MAX_SAMPLES}
 use Rattle.calibration.specs.Grid.{GridValue, IsGrid}
 use Rattle.turning_points.specs.Points.{points}
-use Rattle.turning_points.specs.EndPoints.{IsEnds, ends_of, ends_push, meets}
+use Rattle.turning_points.specs.EndPoints.{IsEnds, ends_of, ends_push, meets, only_point}
 use Rattle.turning_points.proofs.Zigzag.{one as single}
 use Rattle.turning_points.proofs.MeetEnds.{meets_few}
-use Rattle.turning_points.proofs.PushEnds.{list_ends, meets_none, one, push_is_meets}
+use Rattle.turning_points.proofs.PushEnds.{list_ends, meets_none, push_is_meets}
 use Rattle.tally.specs.Counts.{Counts as Tallied, count_of, total_of}
 use Rattle.tally.specs.Room.{room_for}
 use Rattle.four_point.specs.Residue.{AddsCycles, IsResidue, ReducerValue}
@@ -23,7 +23,7 @@ use Rattle.segment.specs.Segment.{SegmentValue, IsSegment, empty_at}
 use Rattle.segment.proofs.Residues.{left, residue_ends}
 use Rattle.segment.proofs.SameEnds.{joined_ends, pushed_ends, some_used}
 
-pub one_alike : (y : ℕ) → Alike (one y) (ends_of (y ∷ []))
+pub one_alike : (y : ℕ) → Alike (only_point y) (ends_of (y ∷ []))
 one_alike y = record {
   short = λ q. refl;
   long = λ q. absurd (omega arith);
@@ -80,12 +80,12 @@ taken_rules v y t q x z i h room long j b s qc tc rc xg xs xf xl xn zg ze zc =
     let g = o.limits.classes_from in
     let w = one_ends k y h in
     let e : IsEnds k v.simple.ends = subst (λ n. IsEnds n v.simple.ends) o.simple.0 i.simple.ends in
-    let r = left k v.simple.ends (one y) v.reducer.residue (y ∷ []) q.residue _ _ (total_of v.tally.cells) 0 (total_of t.cells) e w
+    let r = left k v.simple.ends (only_point y) v.reducer.residue (y ∷ []) q.residue _ _ (total_of v.tally.cells) 0 (total_of t.cells) e w
     (residue_ends k v.reducer.residue (omega arith) i.residue) w i.alike (one_alike y) i.residue.own refl i.balance refl j
     (omega (arith, b)) in
     let f = ze ∙ push_is_meets k y v.simple.ends e in
     let p = ap (λ n. n.points) f in
-    let a = meets_few k v.simple.ends (one y) e w in
+    let a = meets_few k v.simple.ends (only_point y) e w in
     let c = i.span in
     let d = i.longest in
     record {
@@ -101,7 +101,7 @@ taken_rules v y t q x z i h room long j b s qc tc rc xg xs xf xl xn zg ze zc =
       longest = (d.0, d.1, omega arith);
       readings = omega (arith, i.readings);
       used = omega (arith, i.used);
-      none = λ n. let m = meets_none k v.simple.ends (one y) e w (sym p ∙ n) in absurd (let u = m.1 in omega arith);
+      none = λ n. let m = meets_none k v.simple.ends (only_point y) e w (sym p ∙ n) in absurd (let u = m.1 in omega arith);
       balance = omega (arith, r.balance);
       crossed = λ l. omega (
         arith,

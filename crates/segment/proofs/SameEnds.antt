@@ -6,11 +6,11 @@ use Rattle.std.proofs.Common.{◌≡◌, ℕ, suc, ◌<◌, ◌≤◌, ◌⊎◌
 use Rattle.std.specs.Prelude.{not}
 use Rattle.std.proofs.lemmas.Bool.{cases_lt}
 use Rattle.std.proofs.lemmas.Bool.Decides.{nat_tests}
-use Rattle.turning_points.specs.EndPoints.{EndPoints, IsEnds, ends_of, ends_push, last_point, meets, ends_prepend}
+use Rattle.turning_points.specs.EndPoints.{EndPoints, IsEnds, ends_of, ends_push, last_point, meets, ends_prepend, only_point}
 use Rattle.turning_points.proofs.Put.{PutCase, at_none, at_equal, at_second, at_turn, at_passed, put_equal, put_first, put_none, put_passed, put_second, put_turn, put_two}
 use Rattle.turning_points.proofs.PutEnds.{case_of, put_ends}
 use Rattle.turning_points.proofs.MeetEnds.{Left, left_zero, left_one, left_two, left_long, left_of, meets_long, meets_one, meets_two, meets_zero, twice}
-use Rattle.turning_points.proofs.PushEnds.{one, push_is_meets}
+use Rattle.turning_points.proofs.PushEnds.{push_is_meets}
 use Rattle.level_crossing.specs.Crossings.{CrossingsValue, first_of, has_level}
 use Rattle.level_crossing.specs.Loading.{HasEnds}
 
@@ -125,16 +125,16 @@ some_more m p c h k l = grind (arith, nat_tests)
 last_more : (m x y g : ℕ) → x ≡ y → (m ≡ 0 → g ≡ y) → (1 ≤ m → g ≡ y) → x ≡ g
 last_more m x y g h k l = grind arith
 
-pub pushed_ends : (k y : ℕ) (v x : CrossingsValue) (e g : EndPoints) → IsEnds k e → IsEnds k (one y) → HasEnds v e → x.some ≡ true →
+pub pushed_ends : (k y : ℕ) (v x : CrossingsValue) (e g : EndPoints) → IsEnds k e → IsEnds k (only_point y) → HasEnds v e → x.some ≡ true →
     x.first ≡ (if v.some then v.first else y) → x.last ≡ y → g ≡ ends_push y e → HasEnds x g
 pushed_ends k y v x e g i j a some first last is =
-    let t = joint k e (one y) i j in
-    let f : EndPoints = one y in
+    let t = joint k e (only_point y) i j in
+    let f : EndPoints = only_point y in
     let at_first = first ∙ ap (λ n. if v.some then n else y) a.1 in
     subst (HasEnds x) (sym (is ∙ push_is_meets k y e i)) (
-      some_more e.points (meets e (one y)).points x.some some (λ z. ap (λ n. n.points) (t.none z)) t.some,
-      first_by e.points x.first e.first y (meets e (one y)).first v.some a.0 at_first (λ z. ap (λ n. n.first) (t.none z)) t.first,
-      last_more e.points x.last y (meets e (one y)).last last (λ z. ap (λ n. n.last) (t.none z)) (λ s. t.last s (omega arith)),
+      some_more e.points (meets e (only_point y)).points x.some some (λ z. ap (λ n. n.points) (t.none z)) t.some,
+      first_by e.points x.first e.first y (meets e (only_point y)).first v.some a.0 at_first (λ z. ap (λ n. n.first) (t.none z)) t.first,
+      last_more e.points x.last y (meets e (only_point y)).last last (λ z. ap (λ n. n.last) (t.none z)) (λ s. t.last s (omega arith)),
     )
 
 pub listed_ends : (p : List ℕ) (x : CrossingsValue) (e : EndPoints) → x.some ≡ has_level p → x.first ≡ first_of p → x.last ≡ last_point p →

@@ -1,13 +1,8 @@
 -- The ends of a segment's points, and those of its residue.
---   OnSide   two levels lie on one side of a third
 --   Alike    the same ends, with their neighbours on the same sides, and as many levels where there are at most three
 --            points
 use Rattle.std.specs.Prelude.{ℕ, ◌≤◌, ◌<◌, ◌≡◌, ◌⊎◌}
 use Rattle.turning_points.specs.EndPoints.{EndPoints}
-
--- n lies on the side of x, seen from p
-abbrev pub OnSide : ℕ → ℕ → ℕ → Type 0
-OnSide p x n = ((p < x) × (p < n)) ⊎ ((x < p) × (n < p))
 
 pub record Alike (e r : EndPoints) : Type 0 where
   pub short : e.points ≤ 3 → r.points ≡ e.points

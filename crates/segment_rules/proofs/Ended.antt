@@ -6,17 +6,18 @@ use Rattle.std.proofs.lemmas.Bool.{and_parts, and_from, eqb-true, eq-eqb, eqb-fa
 use Rattle.tally.specs.declared.cells.Bin.{Bin}
 use Rattle.tables.specs.Bins.{count_at}
 use Rattle.turning_points.specs.Points.{is_turn}
-use Rattle.turning_points.specs.EndPoints.{EndPoints, IsTurn, no_ends}
+use Rattle.turning_points.specs.EndPoints.{EndPoints, no_ends, only_point}
+use Rattle.turning_points.proofs.Zigzag.{turn_test, turn_of_test}
 use Rattle.turning_points.proofs.PushEnds.{five_same}
 use Rattle.simple_counts.specs.Loading.{CountsEnds, first_range, last_range}
-use Rattle.segment_rules.specs.Rules.{HasEndsBeside, IsEnded, only_point}
+use Rattle.segment_rules.specs.Rules.{HasEndsBeside, IsEnded}
 use Rattle.segment_rules.specs.Tests.{are_end_ranges_counted, has_length, are_levels, has_ends_beside, has_ends}
 
 -- ---- the last sum rule
 
 -- the test, of the numbers of points, of both counts and of both ranges
-abbrev counted : ℕ → ℕ → ℕ → ℕ → ℕ → Bool
-counted a c d f l = nat_lt a 2 || (nat_le 1 c && (nat_le 1 d && (nat_lt a 3 || (not (f == l) || nat_le 2 c))))
+abbrev ends_counted_test : ℕ → ℕ → ℕ → ℕ → ℕ → Bool
+ends_counted_test a c d f l = nat_lt a 2 || (nat_le 1 c && (nat_le 1 d && (nat_lt a 3 || (not (f == l) || nat_le 2 c))))
 
 pub end_ranges_of : (e : EndPoints) (ranges : List Bin) → are_end_ranges_counted e ranges ≡ true → 2 ≤ e.points → CountsEnds e ranges
 end_ranges_of e ranges t le2 =
@@ -27,19 +28,19 @@ end_ranges_of e ranges t le2 =
     let d = count_at l ranges in
     record { first = one_is a c d f l t le2; last = other_is a c d f l t le2; separate = λ le3 same. both_are a c d f l t le3 same }
   where
-    one_is : (a c d f l : ℕ) → counted a c d f l ≡ true → 2 ≤ a → 1 ≤ c
+    one_is : (a c d f l : ℕ) → ends_counted_test a c d f l ≡ true → 2 ≤ a → 1 ≤ c
     one_is a c d f l t le2 = grind (arith, nat_tests)
 
-    other_is : (a c d f l : ℕ) → counted a c d f l ≡ true → 2 ≤ a → 1 ≤ d
+    other_is : (a c d f l : ℕ) → ends_counted_test a c d f l ≡ true → 2 ≤ a → 1 ≤ d
     other_is a c d f l t le2 = grind (arith, nat_tests)
 
-    both_are : (a c d f l : ℕ) → counted a c d f l ≡ true → 3 ≤ a → f ≡ l → 2 ≤ c
+    both_are : (a c d f l : ℕ) → ends_counted_test a c d f l ≡ true → 3 ≤ a → f ≡ l → 2 ≤ c
     both_are a c d f l t le3 same = grind (arith, nat_tests)
 
 few_points : (a : ℕ) (b : Bool) → a < 2 → (nat_lt a 2 || b) ≡ true
 few_points a b lt = grind (arith, nat_tests)
 
-all_counted : (a c d f l : ℕ) → 2 ≤ a → 1 ≤ c → 1 ≤ d → (3 ≤ a → f ≡ l → 2 ≤ c) → counted a c d f l ≡ true
+all_counted : (a c d f l : ℕ) → 2 ≤ a → 1 ≤ c → 1 ≤ d → (3 ≤ a → f ≡ l → 2 ≤ c) → ends_counted_test a c d f l ≡ true
 all_counted a c d f l le2 some other both = grind (arith, nat_tests)
 
 pub end_ranges_true : (e : EndPoints) (ranges : List Bin) → (2 ≤ e.points → CountsEnds e ranges) → ((e.points < 2) ⊎ (2 ≤ e.points))
@@ -75,12 +76,6 @@ levels_true e p a b c d is =
     ∙ and_from (a == a && b == b) (c == c && d == d) (and_from (a == a) (b == b) (eq-eqb a a refl) (eq-eqb b b refl))
     (and_from (c == c) (d == d) (eq-eqb c c refl) (eq-eqb d d refl))
 
-turn_of : (x y z : ℕ) → is_turn x y z ≡ true → IsTurn x y z
-turn_of x y z t = grind (arith, nat_tests)
-
-turn_true : (x y z : ℕ) → IsTurn x y z → is_turn x y z ≡ true
-turn_true x y z t = grind (arith, nat_tests)
-
 both_where : (n p a b c d : ℕ) → (not (n == p) || (a == b && c == d)) ≡ true → n ≡ p → (a ≡ b) × (c ≡ d)
 both_where n p a b c d t e = grind (arith, nat_tests)
 
@@ -100,8 +95,8 @@ beside_of k e a b c d t =
     record {
       first_is = eqb-true _ _ ends.0;
       last_is = eqb-true _ _ ends.1;
-      second_side = turn_of e.second a b sides.0;
-      before_side = turn_of e.before d c sides.1;
+      second_side = turn_of_test e.second a b sides.0;
+      before_side = turn_of_test e.before d c sides.1;
       second_below = ltb-true _ _ below.0;
       before_below = ltb-true _ _ below.1;
       two = both_where e.points 2 e.second b e.before c x.0;
@@ -113,7 +108,7 @@ beside_true k e a b c d m =
     and_from (e.first == a && e.last == d) _ (and_from (e.first == a) (e.last == d) (eq-eqb _ _ m.first_is)
     (eq-eqb _ _ m.last_is))
     (and_from (is_turn e.second a b && is_turn e.before d c) _
-    (and_from (is_turn e.second a b) (is_turn e.before d c) (turn_true _ _ _ m.second_side) (turn_true _ _ _ m.before_side))
+    (and_from (is_turn e.second a b) (is_turn e.before d c) (turn_test _ _ _ m.second_side) (turn_test _ _ _ m.before_side))
     (and_from (nat_lt e.second k && nat_lt e.before k) _
     (and_from (nat_lt e.second k) (nat_lt e.before k) (lt-ltb _ _ m.second_below) (lt-ltb _ _ m.before_below))
     (and_from (not (e.points == 2) || (e.second == b && e.before == c)) _ (where_true e.points 2 e.second b e.before c m.two)

@@ -9,7 +9,8 @@ use Rattle.std.specs.Prelude.{◌≡◌, ◌<◌, ◌≤◌, ◌+◌, ◌-◌, �
 use Rattle.tally.specs.declared.cells.Cell.{Cell}
 use Rattle.tally.specs.Counts.{IsAscending, IsCell, total_of}
 use Rattle.tables.specs.Bins.{AreBinsFrom, sum_of}
-use Rattle.turning_points.specs.EndPoints.{EndPoints, IsTurn, no_ends}
+use Rattle.turning_points.specs.EndPoints.{EndPoints, no_ends, only_point}
+use Rattle.turning_points.specs.Points.{IsTurn}
 use Rattle.four_point.specs.Residue.{IsResidue}
 use Rattle.simple_counts.specs.Loading.{CountsEnds}
 use Rattle.calibration.specs.Grid.{GridValue}
@@ -60,10 +61,6 @@ pub record HasEndsBeside (classes : ℕ) (e : EndPoints) (first second before la
   pub before_below : e.before < classes
   pub two : e.points ≡ 2 → (e.second ≡ second) × (e.before ≡ before)
   pub three : e.points ≡ 3 → (e.second ≡ second) × (e.before ≡ second)
-
--- the ends of a history with the one point p
-abbrev pub only_point : ℕ → EndPoints
-only_point p = record { points = 1; first = p; second = 0; before = 0; last = p }
 
 pub record IsEnded (classes : ℕ) (e : EndPoints) (r : List ℕ) : Type 0 where
   pub short : e.points ≤ 3 → length r ≡ e.points

@@ -22,7 +22,6 @@ mod tests;
 
 pub use lists::{Bins, Cells, Levels};
 pub use name::Name;
-pub use order::first_wrong_from;
 pub use parts::Parts;
 pub use rule::BrokenRule;
 pub use rules::first_broken;

@@ -40,23 +40,13 @@ fn is_next_bin(from: u32, to: u16, bin: &Bin) -> bool
     from <= u32::from(bin.key) && (bin.key < to && 0 < bin.n)
 }
 
+// The place of the first entry that breaks the order of keys from one on and below another.
 fn first_wrong_bin(from: u16, to: u16, bins: &[Bin]) -> Option<u32>
     ensures place { result ≡ wrong_bin from to 0 bins.now }
     ensures few { IfNone result (length bins.now ≤ 2 ^ 16) }
 {
-    first_wrong_from(u32::from(from), to, 0, bins)
-}
-
-/// The place of the first entry that breaks the order of keys from one on and below another,
-/// counted from `index` on.
-pub fn first_wrong_from(from: u32, to: u16, index: u32, bins: &[Bin]) -> Option<u32>
-    requires small { from ≤ 2 ^ 16 }
-    requires room { index + 2 ^ 16 < 2 ^ 32 }
-    ensures place { result ≡ wrong_bin from to index bins.now }
-    ensures few { IfNone result (length bins.now ≤ 2 ^ 16) }
-{
-    let mut least = from;
-    let mut place = index;
+    let mut least = u32::from(from);
+    let mut place = 0;
     for bin in bins {
         if !is_next_bin(least, to, bin) {
             return Some(place);

@@ -6,10 +6,10 @@ use Rattle.std.proofs.lemmas.Bool.Decides.{nat_tests}
 use Rattle.std.proofs.lemmas.Grind.{same_number_lists}
 use Rattle.std.proofs.lemmas.List.{take_all, take_more, length-take-le, length-replicate}
 use Rattle.std.proofs.lemmas.List.Elements.{All-head, All-tail}
-use Rattle.turning_points.specs.Points.{is_turn, points}
+use Rattle.turning_points.specs.Points.{is_turn, points, IsTurn}
 use Rattle.turning_points.specs.Pairs.{range}
 use Rattle.turning_points.specs.EndPoints.{EndPoints, last_but_one, ends_of, last_point}
-use Rattle.turning_points.proofs.Zigzag.{Turn, IsZigzag, none, one, two, inner, ends_differ, turn_at}
+use Rattle.turning_points.proofs.Zigzag.{IsZigzag, none, one, two, inner, ends_differ, turn_at, turn_test}
 use Rattle.turning_points.proofs.Over.{own}
 use Rattle.turning_points.proofs.PushEnds.{list_ends}
 use Rattle.turning_points.proofs.EndPlaces.{last_place, before_place}
@@ -36,16 +36,13 @@ zig_take (suc zero) (inner t g) = one
 zig_take (suc (suc zero)) (inner t g) = two (ends_differ (inner t g))
 zig_take (suc (suc (suc n))) (inner t g) = inner t (zig_take (suc (suc n)) g)
 
-pub turn_here : (p : List ℕ) (i : ℕ) → IsZigzag p → 2 ≤ i → i < length p → Turn (get_or p (i - 2) 0) (get_or p (i - 1) 0) (get_or p i 0)
+pub turn_here : (p : List ℕ) (i : ℕ) → IsZigzag p → 2 ≤ i → i < length p → IsTurn (get_or p (i - 2) 0) (get_or p (i - 1) 0) (get_or p i 0)
 turn_here p i z o h =
     let t = turn_at p (i - 2) z (omega arith) in
     let a : suc (i - 2) ≡ i - 1 = omega arith in
     let b : suc (suc (i - 2)) ≡ i = omega arith in
-    subst (λ k. Turn (get_or p (i - 2) 0) (get_or p (i - 1) 0) (get_or p k 0)) b
-    (subst (λ k. Turn (get_or p (i - 2) 0) (get_or p k 0) (get_or p (suc (suc (i - 2))) 0)) a t)
-
-turn_true : (a b c : ℕ) → Turn a b c → is_turn a b c ≡ true
-turn_true a b c t = grind (arith, nat_tests)
+    subst (λ k. IsTurn (get_or p (i - 2) 0) (get_or p (i - 1) 0) (get_or p k 0)) b
+    (subst (λ k. IsTurn (get_or p (i - 2) 0) (get_or p k 0) (get_or p (suc (suc (i - 2))) 0)) a t)
 
 value_same : (K r : ℕ) (e e' : EndPoints) (d d' m m' : List ℕ) → e ≡ e' → d ≡ d' → m ≡ m' →
     ◌≡◌ {A = SimpleValue} (record { classes = K; reference = r; ends = e; decided = d; extremes = m })
@@ -87,7 +84,7 @@ module _ (k r : ℕ) (l d m d' m' : List ℕ) (i : ℕ) (z : IsZigzag l) (a : Al
   level = level_below k l i a h
 
   turning : is_turn (last_but_one (take i l)) (last_point (take i l)) x ≡ true
-  turning = ap (λ p. is_turn p (last_point (take i l)) x) is_before ∙ ap (λ p. is_turn (get_or l (i - 2) 0) p x) is_last ∙ turn_true _ _ _
+  turning = ap (λ p. is_turn p (last_point (take i l)) x) is_before ∙ ap (λ p. is_turn (get_or l (i - 2) 0) p x) is_last ∙ turn_test _ _ _
       (turn_here l i z o h)
 
   many : leb 2 (length (take i l)) ≡ true

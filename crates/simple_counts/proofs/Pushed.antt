@@ -2,12 +2,12 @@
 use Rattle.std.proofs.Common.{◌≡◌, ◌≢◌, ℕ, ◌+◌, ◌<◌, ◌≤◌, ◌⊎◌, inl, inr, Bool, true, false, cond, eqb, List, [], ◌∷◌, ◌++◌, length, get_or, sum, refl, sym, ap, ◌∙◌, subst, arith, length-set, length-append, append_assoc}
 use Rattle.std.proofs.lemmas.Bool.{cases_eq, cases_lt}
 use Rattle.std.proofs.lemmas.Bool.Decides.{nat_tests}
-use Rattle.turning_points.specs.Points.{points, IsBetween}
+use Rattle.turning_points.specs.Points.{points, IsBetween, IsTurn, OnSide}
 use Rattle.turning_points.specs.Pairs.{range}
-use Rattle.turning_points.specs.EndPoints.{EndPoints, ends_of, IsTurn, IsEnds}
-use Rattle.turning_points.proofs.Zigzag.{IsZigzag, zig_points, Turn}
+use Rattle.turning_points.specs.EndPoints.{EndPoints, ends_of, IsEnds}
+use Rattle.turning_points.proofs.Zigzag.{IsZigzag, zig_points}
 use Rattle.turning_points.proofs.Over.{points_inside}
-use Rattle.turning_points.proofs.Joining.{Same, tail, last_behind, before_behind}
+use Rattle.turning_points.proofs.Joining.{tail, last_behind, before_behind}
 use Rattle.turning_points.proofs.Push.{two_levels, same_level, push_turn, push_between, push_equal, end_differs}
 use Rattle.tables.specs.Tables.{raise, is_at}
 use Rattle.simple_counts.specs.Simple.{decided_at, SimpleValue, Counts, IsSimple, push_of}
@@ -16,7 +16,7 @@ use Rattle.tables.proofs.Counting.{raise_at, sum_raise}
 use Rattle.simple_counts.proofs.Triples.{triples_join, range_side, extreme_side}
 use Rattle.simple_counts.proofs.PutLists.{range_below}
 use Rattle.turning_points.specs.declared.ends.TheConstants.{MAX_POINTS}
-use Rattle.turning_points.proofs.PushEnds.{five_same, differs_turn}
+use Rattle.turning_points.proofs.PushEnds.{five_same, differs_turn, turn_or}
 use Rattle.simple_counts.proofs.ZeroRange.{range_positive, zero_set}
 
 pub data PushCase (x : ℕ) (e : EndPoints) : Type 0 where
@@ -25,9 +25,6 @@ pub data PushCase (x : ℕ) (e : EndPoints) : Type 0 where
   on_second : e.points ≡ 1 → x ≢ e.last → PushCase x e
   on_turn : 2 ≤ e.points → IsTurn e.before e.last x → PushCase x e
   on_passed : 2 ≤ e.points → IsBetween e.before e.last x → PushCase x e
-
-turn_or : (p l x : ℕ) → x ≢ l → p ≢ l → IsTurn p l x ⊎ IsBetween p l x
-turn_or p l x m n = grind arith
 
 pub push_case : (x : ℕ) (e : EndPoints) → (2 ≤ e.points → e.before ≢ e.last) → PushCase x e
 push_case x e d = pick_none (cases_lt e.points 1)
@@ -38,7 +35,7 @@ push_case x e d = pick_none (cases_lt e.points 1)
 
     pick_long : 1 ≤ e.points → x ≢ e.last → ((e.points < 2) ⊎ (2 ≤ e.points)) → PushCase x e
     pick_long h n (inl s) = let p : e.points ≡ 1 = omega arith in on_second p n
-    pick_long h n (inr s) = pick_turn s (turn_or e.before e.last x n (d s))
+    pick_long h n (inr s) = pick_turn s (turn_or e.before e.last x (λ q. n (sym q)) (d s))
 
     pick_some : 1 ≤ e.points → ((x ≡ e.last) ⊎ (x ≢ e.last)) → PushCase x e
     pick_some h (inl q) = on_equal h q
@@ -315,10 +312,10 @@ second_other [] p y z = refl
 second_other (a ∷ []) p y z = grind (arith, nat_tests)
 second_other (a ∷ b ∷ f) p y z = grind (arith, nat_tests, length-append f (p ∷ z ∷ []))
 
-same_refl : (p z : ℕ) → p ≢ z → Same p z z
+same_refl : (p z : ℕ) → p ≢ z → OnSide p z z
 same_refl p z n = grind arith
 
-same_on : (p z x : ℕ) → IsBetween p z x → Same p z x
+same_on : (p z x : ℕ) → IsBetween p z x → OnSide p z x
 same_on p z x n = grind arith
 
 module _ (v : SimpleValue) (x : ℕ) (i : IsSimple v) (h : x < v.classes) where
@@ -362,7 +359,7 @@ module _ (v : SimpleValue) (x : ℕ) (i : IsSimple v) (h : x < v.classes) where
 
     on_long_turn : 2 ≤ v.ends.points → IsTurn v.ends.before v.ends.last x → On (push_of x v) (points (f ++ (p ∷ z ∷ x ∷ [])))
     on_long_turn q t =
-        let t' : Turn p z x = subst (λ a. IsTurn a z x) is_before (subst (λ a. IsTurn v.ends.before a x) is_last t) in
+        let t' : IsTurn p z x = subst (λ a. IsTurn a z x) is_before (subst (λ a. IsTurn v.ends.before a x) is_last t) in
         let w = i.ends.below in
         let u : range v.ends.before v.ends.last < length v.decided = omega
         (arith, i.decided, range_below v.classes v.ends.before v.ends.last w.2 w.3) in

@@ -2,10 +2,10 @@
 use Rattle.std.proofs.Common.{◌≡◌, ◌≢◌, ℕ, ◌+◌, ◌-◌, ◌<◌, ◌≤◌, ◌⊎◌, inl, inr, Bool, true, false, cond, List, [], ◌∷◌, length, get_or, sum, refl, sym, ap, ◌∙◌, subst, arith, length-set}
 use Rattle.std.proofs.lemmas.Bool.{cases_eq, cases_lt}
 use Rattle.std.proofs.lemmas.Bool.Decides.{nat_tests}
-use Rattle.turning_points.specs.Points.{IsBetween}
+use Rattle.turning_points.specs.Points.{IsBetween, IsTurn}
 use Rattle.turning_points.specs.Pairs.{range}
-use Rattle.turning_points.specs.EndPoints.{EndPoints, ends_of, IsTurn, IsEnds, ends_prepend}
-use Rattle.turning_points.proofs.Zigzag.{Added, first, equal, second, turn, between, Turn}
+use Rattle.turning_points.specs.EndPoints.{EndPoints, ends_of, IsEnds, ends_prepend}
+use Rattle.turning_points.proofs.Zigzag.{Added, first, equal, second, turn, between}
 use Rattle.tables.specs.Tables.{raise, lower, is_at}
 use Rattle.simple_counts.specs.Simple.{Agrees, decide, mark, decided_at}
 use Rattle.level_crossing.specs.Extremes.{extremes_at, is_extreme}
@@ -142,7 +142,7 @@ module _ (K r : ℕ) (a b : ℕ → ℕ) (d m : List ℕ) (ld : length d ≡ K) 
   marked x y z k l true h e = omega (arith, raise_at m y k (omega arith))
   marked x y z k l false h e = omega arith
 
-  at_turned : (x y z : ℕ) (l : List ℕ) → Turn x y z → x < K → y < K → At K r a b (y ∷ z ∷ l) d m →
+  at_turned : (x y z : ℕ) (l : List ℕ) → IsTurn x y z → x < K → y < K → At K r a b (y ∷ z ∷ l) d m →
       At K r a b (x ∷ y ∷ z ∷ l) (decide x (ends_of (y ∷ z ∷ l)) d) (mark r x (ends_of (y ∷ z ∷ l)) m)
   at_turned x y z l t p q g =
       let s : 2 ≤ length (y ∷ z ∷ l) = omega arith in

@@ -1,9 +1,9 @@
 -- A level put before ends: the numbers alone.
 use Rattle.std.proofs.Common.{◌≡◌, ℕ, ◌<◌, ◌≤◌, cond, List, arith}
 use Rattle.std.proofs.lemmas.Bool.Decides.{nat_tests}
-use Rattle.turning_points.specs.Points.{IsBetween}
+use Rattle.turning_points.specs.Points.{IsBetween, IsTurn}
 use Rattle.turning_points.specs.Pairs.{range}
-use Rattle.turning_points.specs.EndPoints.{EndPoints, IsTurn}
+use Rattle.turning_points.specs.EndPoints.{EndPoints}
 use Rattle.tables.specs.Tables.{raise, lower}
 use Rattle.simple_counts.specs.Simple.{decide, mark}
 use Rattle.level_crossing.specs.Extremes.{is_extreme}

@@ -12,9 +12,9 @@ use Rattle.tables.specs.Bins.{AreBinsFrom, count_at, sum_of}
 use Rattle.tables.specs.Tables.{table_with_bins}
 
 -- what stands at a place of an empty table when it is filled
-abbrev pub placed : ℕ → ℕ → List Bin → ℕ
-placed by p [] = 0
-placed by p (b ∷ bins) = cond (eqb p (b.key + by)) b.n (placed by p bins)
+abbrev pub count_placed : ℕ → ℕ → List Bin → ℕ
+count_placed by p [] = 0
+count_placed by p (b ∷ bins) = cond (eqb p (b.key + by)) b.n (count_placed by p bins)
 
 pick : (c : ℕ) (p q : ℕ) (x : ℕ) → p ≡ q → cond (eqb p q) x c ≡ x
 pick c p q x e = grind (arith, nat_tests)
@@ -22,26 +22,26 @@ pick c p q x e = grind (arith, nat_tests)
 pass : (c : ℕ) (p q : ℕ) (x : ℕ) → p ≢ q → cond (eqb p q) x c ≡ c
 pass c p q x n = grind (arith, nat_tests)
 
-pub none_before : (by from to p : ℕ) (bs : List Bin) → AreBinsFrom from to bs → p < from + by → placed by p bs ≡ 0
+pub none_before : (by from to p : ℕ) (bs : List Bin) → AreBinsFrom from to bs → p < from + by → count_placed by p bs ≡ 0
 none_before by from to p [] a lt = refl
-none_before by from to p (b ∷ bs) a lt = pass (placed by p bs) p (b.key + by) b.n (λ e. absurd (omega (arith, e, lt, a.0))) ∙ none_before by
-    (b.key + 1) to p bs a.3 (omega (arith, lt, a.0))
+none_before by from to p (b ∷ bs) a lt = pass (count_placed by p bs) p (b.key + by) b.n (λ e. absurd (omega (arith, e, lt, a.0)))
+    ∙ none_before by (b.key + 1) to p bs a.3 (omega (arith, lt, a.0))
 
 filled_step : (by from p : ℕ) (t : List ℕ) (b : Bin) (bs : List Bin) (x : ℕ) → b.key + by < length t → get_or t (b.key + by) 0 ≡ 0 →
-    (p ≡ b.key + by → placed by p bs ≡ 0)
-    → x ≡ get_or (set t (b.key + by) b.n) p 0 + placed by p bs → ((p ≡ b.key + by) ⊎ (p ≢ b.key + by)) →
-    x ≡ get_or t p 0 + placed by p (b ∷ bs)
+    (p ≡ b.key + by → count_placed by p bs ≡ 0)
+    → x ≡ get_or (set t (b.key + by) b.n) p 0 + count_placed by p bs → ((p ≡ b.key + by) ⊎ (p ≢ b.key + by)) →
+    x ≡ get_or t p 0 + count_placed by p (b ∷ bs)
 filled_step by from p t b bs x w z none h (inl e) =
     let s : get_or (set t (b.key + by) b.n) (b.key + by) 0 ≡ b.n = get_or-set_same t (b.key + by) b.n 0 w in
     let s2 : get_or (set t (b.key + by) b.n) p 0 ≡ b.n = ap (λ q. get_or (set t (b.key + by) b.n) q 0) e ∙ s in
     let z2 : get_or t p 0 ≡ 0 = ap (λ q. get_or t q 0) e ∙ z in
-    omega (arith, h, s2, z2, none e, pick (placed by p bs) p (b.key + by) b.n e)
+    omega (arith, h, s2, z2, none e, pick (count_placed by p bs) p (b.key + by) b.n e)
 filled_step by from p t b bs x w z none h (inr n) =
     let s : get_or (set t (b.key + by) b.n) p 0 ≡ get_or t p 0 = get_or-set_other t (b.key + by) p b.n 0 n in
-    omega (arith, h, s, pass (placed by p bs) p (b.key + by) b.n n)
+    omega (arith, h, s, pass (count_placed by p bs) p (b.key + by) b.n n)
 
 pub filled_at : (by from to : ℕ) (t : List ℕ) (bs : List Bin) → AreBinsFrom from to bs → to + by ≤ length t →
-    ((p : ℕ) → from + by ≤ p → get_or t p 0 ≡ 0) → (p : ℕ) → get_or (table_with_bins by t bs) p 0 ≡ get_or t p 0 + placed by p bs
+    ((p : ℕ) → from + by ≤ p → get_or t p 0 ≡ 0) → (p : ℕ) → get_or (table_with_bins by t bs) p 0 ≡ get_or t p 0 + count_placed by p bs
 filled_at by from to t [] a w z p = omega arith
 filled_at by from to t (b ∷ bs) a w z p =
     let long = length-set t (b.key + by) b.n in
@@ -86,11 +86,11 @@ pub zeros_sum : (n : ℕ) → ◌≡◌ {A = ℕ} (sum (replicate n 0)) 0
 zeros_sum zero = refl
 zeros_sum (suc n) = omega (arith, sum_by-cons (λ (x : ℕ). x) 0 (replicate n 0), zeros_sum n)
 
-pub placed_counts : (k : ℕ) (bs : List Bin) → placed 0 k bs ≡ count_at k bs
+pub placed_counts : (k : ℕ) (bs : List Bin) → count_placed 0 k bs ≡ count_at k bs
 placed_counts k [] = refl
 placed_counts k (b ∷ bs) =
     let e : b.key + 0 ≡ b.key = omega arith in
-    ap (λ q. cond (eqb k q) b.n (placed 0 k bs)) e ∙ ap (λ c. cond (eqb k b.key) b.n c) (placed_counts k bs)
+    ap (λ q. cond (eqb k q) b.n (count_placed 0 k bs)) e ∙ ap (λ c. cond (eqb k b.key) b.n c) (placed_counts k bs)
 
 pub table_at : (from to n : ℕ) (bs : List Bin) → AreBinsFrom from to bs → to ≤ n → (k : ℕ) →
     get_or (table_with_bins 0 (replicate n 0) bs) k 0 ≡ count_at k bs

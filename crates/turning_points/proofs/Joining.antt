@@ -1,16 +1,16 @@
 -- The points where two histories meet.
 use Rattle.std.proofs.Common.{◌≡◌, zero, Bool, true, false, ◌==◌, if◌then◌else◌, ◌≢◌, ℕ, suc, ◌+◌, ◌<◌, ◌⊎◌, List, [], ◌∷◌, ◌++◌, length, get_or, length-append, refl, sym, ap, ◌∙◌, subst, arith}
 use Rattle.std.proofs.lemmas.Bool.Decides.{nat_tests}
-use Rattle.turning_points.specs.Points.{is_turn, points, IsBetween}
+use Rattle.turning_points.specs.Points.{is_turn, points, IsBetween, IsTurn, OnSide}
 use Rattle.turning_points.specs.EndPoints.{EndPoints, ends_of, last_point, last_but_one}
-use Rattle.turning_points.proofs.Zigzag.{add, Added, first, equal, second, turn, between, is_added, Turn, IsZigzag, one, two, inner, zig_points, zig_added, ends_differ}
+use Rattle.turning_points.proofs.Zigzag.{add, Added, first, equal, second, turn, between, is_added, IsZigzag, one, two, inner, zig_points, zig_added, ends_differ}
 use Rattle.turning_points.proofs.Over.{over, over_points, over_append, over_own, zig_over, over_of_points}
 use Rattle.turning_points.proofs.Push.{end_differs}
 
 -- where v stands before y and z
 pub data Side (v y z : ℕ) : Type 0 where
   at : v ≡ y → Side v y z
-  away : Turn v y z → Side v y z
+  away : IsTurn v y z → Side v y z
   before : IsBetween v y z → Side v y z
 
 pub side_of : (v y z : ℕ) → y ≢ z → (e t : Bool) → v == y ≡ e → is_turn v y z ≡ t → Side v y z
@@ -18,7 +18,7 @@ side_of v y z n true t p q = at (grind (arith, nat_tests))
 side_of v y z n false true p q = away (grind (arith, nat_tests))
 side_of v y z n false false p q = before (grind (arith, nat_tests))
 
-pub add_away : (v y z : ℕ) (l : List ℕ) → Turn v y z → add v (y ∷ z ∷ l) ≡ v ∷ y ∷ z ∷ l
+pub add_away : (v y z : ℕ) (l : List ℕ) → IsTurn v y z → add v (y ∷ z ∷ l) ≡ v ∷ y ∷ z ∷ l
 add_away v y z l t = grind (arith, nat_tests)
 
 pub add_before : (v y z : ℕ) (l : List ℕ) → IsBetween v y z → add v (y ∷ z ∷ l) ≡ v ∷ z ∷ l
@@ -53,23 +53,19 @@ meet (suc (suc (suc n))) e f =
     let h = put_before e.before g.points g in
     record h { points = suc n + h.points; first = e.first; second = e.second }
 
--- n lies on the side of x, seen from p
-abbrev pub Same : ℕ → ℕ → ℕ → Type 0
-Same p x n = ((p < x) × (p < n)) ⊎ ((x < p) × (n < p))
-
 -- p and x put before s: p, and then a level on the side of x
 pub record Met (p x : ℕ) (s : List ℕ) : Type 0 where
   pub n : ℕ
   pub t : List ℕ
   pub is : add p (add x s) ≡ p ∷ n ∷ t
-  pub side : Same p x n
+  pub side : OnSide p x n
 
-met_side : (p x z : ℕ) (t : List ℕ) → p ≢ x → x ≢ z → Side p x z → (n : ℕ) × (r : List ℕ) × (add p (x ∷ z ∷ t) ≡ p ∷ n ∷ r) × Same p x n
+met_side : (p x z : ℕ) (t : List ℕ) → p ≢ x → x ≢ z → Side p x z → (n : ℕ) × (r : List ℕ) × (add p (x ∷ z ∷ t) ≡ p ∷ n ∷ r) × OnSide p x n
 met_side p x z t d e (at h) = absurd (d h)
 met_side p x z t d e (away h) = (x, z ∷ t, add_away p x z t h, grind arith)
 met_side p x z t d e (before h) = (z, t, add_before p x z t h, grind arith)
 
-met_at : (p x : ℕ) (t : List ℕ) → p ≢ x → IsZigzag (x ∷ t) → (n : ℕ) × (r : List ℕ) × (add p (x ∷ t) ≡ p ∷ n ∷ r) × Same p x n
+met_at : (p x : ℕ) (t : List ℕ) → p ≢ x → IsZigzag (x ∷ t) → (n : ℕ) × (r : List ℕ) × (add p (x ∷ t) ≡ p ∷ n ∷ r) × OnSide p x n
 met_at p x t d one = (x, [], add_two p x d, grind arith)
 met_at p x t d (two {y = z} n) = met_side p x z [] d n (side_of p x z n _ _ refl refl)
 met_at p x t d (inner {y = z} {z = w} {l = l} u g) =
@@ -82,11 +78,11 @@ met p x s d g =
     let m = met_at p x h.0 d (subst IsZigzag h.1 (zig_added a g)) in
     record { n = m.0; t = m.1; is = ap (add p) h.1 ∙ m.2; side = m.3 }
 
-turn_same : {a p x n : ℕ} → Turn a p x → Same p x n → Turn a p n
+pub turn_same : {a p x n : ℕ} → IsTurn a p x → OnSide p x n → IsTurn a p n
 turn_same t s = grind arith
 
 -- the last point may be put for others on its side
-zig_put : (f : List ℕ) (p x n : ℕ) (t : List ℕ) → IsZigzag (f ++ (p ∷ x ∷ [])) → Same p x n → IsZigzag (p ∷ n ∷ t) →
+zig_put : (f : List ℕ) (p x n : ℕ) (t : List ℕ) → IsZigzag (f ++ (p ∷ x ∷ [])) → OnSide p x n → IsZigzag (p ∷ n ∷ t) →
     IsZigzag (f ++ (p ∷ n ∷ t))
 zig_put [] p x n t g s z = z
 zig_put (a ∷ []) p x n t (inner u g) s z = inner (turn_same u s) z

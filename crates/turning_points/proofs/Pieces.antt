@@ -8,12 +8,12 @@ use Rattle.std.proofs.lemmas.Bool.{cases_eq}
 use Rattle.std.proofs.lemmas.Bool.Decides.{nat_tests}
 use Rattle.std.proofs.lemmas.List.{take-take, take_all}
 use Rattle.std.proofs.lemmas.Slice.{take-put_mid}
-use Rattle.turning_points.specs.Points.{is_turn, changes, turns, points, IsBetween}
+use Rattle.turning_points.specs.Points.{is_turn, changes, turns, points, IsBetween, IsTurn}
 use Rattle.turning_points.specs.Turned.{decided_points, recent, HasGiven}
 use Rattle.turning_points.specs.Pieces.{last_of, turns_in, recent_of}
 use Rattle.turning_points.specs.declared.turner.Recent.{Recent}
 use Rattle.turning_points.specs.declared.turner.Recent.TheVariants.{Nothing, One, Two}
-use Rattle.turning_points.proofs.Zigzag.{Turn, IsZigzag, zig_points}
+use Rattle.turning_points.proofs.Zigzag.{IsZigzag, zig_points}
 use Rattle.turning_points.proofs.Over.{points_inside}
 use Rattle.turning_points.proofs.Directions.{changes_again, first_differs, no_turn}
 use Rattle.turning_points.proofs.Push.{end_differs}
@@ -46,7 +46,7 @@ recent_of-same p x e = grind (arith, nat_tests)
 recent_of-other : (p x : ℕ) → p ≢ x → recent_of p x ≡ Two p x
 recent_of-other p x n = grind (arith, nat_tests)
 
-turn_at_point : (p q x v : ℕ) → ((p < x) × (q < x)) ⊎ ((x < p) × (x < q)) → is_turn q x v ≡ true → Turn p x v
+turn_at_point : (p q x v : ℕ) → ((p < x) × (q < x)) ⊎ ((x < p) × (x < q)) → is_turn q x v ≡ true → IsTurn p x v
 turn_at_point p q x v s e = grind (arith, nat_tests)
 
 between_point : (p q x v : ℕ) → ((p < x) × (q < x)) ⊎ ((x < p) × (x < q)) → x ≢ v → is_turn q x v ≡ false → IsBetween p x v

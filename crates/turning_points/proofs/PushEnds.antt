@@ -2,21 +2,18 @@
 use Rattle.std.proofs.Common.{◌≡◌, ◌≢◌, ℕ, suc, ◌+◌, ◌<◌, ◌≤◌, ◌⊎◌, inl, inr, List, [], ◌∷◌, length, get_or, refl, sym, ap, ◌∙◌, arith}
 use Rattle.std.proofs.lemmas.Bool.{cases_eq, cases_lt}
 use Rattle.std.proofs.lemmas.Bool.Decides.{nat_tests}
-use Rattle.turning_points.specs.Points.{IsBetween}
-use Rattle.turning_points.specs.EndPoints.{EndPoints, ends_of, last_point, last_but_one, IsTurn, IsEnds, ends_prepend, meets, ends_push}
+use Rattle.turning_points.specs.Points.{IsBetween, IsTurn}
+use Rattle.turning_points.specs.EndPoints.{EndPoints, ends_of, last_point, last_but_one, IsEnds, ends_prepend, meets, ends_push, only_point}
 use Rattle.turning_points.proofs.Zigzag.{IsZigzag, two, inner, zig_tail, ends_differ}
 use Rattle.turning_points.proofs.Put.{put_equal, put_second, put_turn, put_two, put_first}
 use Rattle.turning_points.proofs.PutEnds.{case_of}
 use Rattle.turning_points.proofs.MeetEnds.{Left as Parted, left_zero, left_one, left_two, left_long, left_of, twice, meets_zero, meets_one, meets_two, meets_long, long}
 
-abbrev pub one : ℕ → EndPoints
-one x = record { points = 1; first = x; second = 0; before = 0; last = x }
+put_one_same : (x p : ℕ) → p ≡ x → ends_prepend p (only_point x) ≡ only_point x
+put_one_same x p e = put_equal p (only_point x) (omega arith) e
 
-put_one_same : (x p : ℕ) → p ≡ x → ends_prepend p (one x) ≡ one x
-put_one_same x p e = put_equal p (one x) (omega arith) e
-
-put_one_other : (x p : ℕ) → p ≢ x → ends_prepend p (one x) ≡ record { points = 2; first = p; second = x; before = p; last = x }
-put_one_other x p n = put_second p (one x) refl n
+put_one_other : (x p : ℕ) → p ≢ x → ends_prepend p (only_point x) ≡ record { points = 2; first = p; second = x; before = p; last = x }
+put_one_other x p n = put_second p (only_point x) refl n
 
 data PushCase (x : ℕ) (e : EndPoints) : Type 0 where
   on_none : e.points ≡ 0 → PushCase x e
@@ -26,7 +23,7 @@ data PushCase (x : ℕ) (e : EndPoints) : Type 0 where
   on_turn : 2 ≤ e.points → IsTurn e.before e.last x → PushCase x e
   on_passed : 2 ≤ e.points → IsBetween e.before e.last x → PushCase x e
 
-turn_or : (p l x : ℕ) → l ≢ x → p ≢ l → IsTurn p l x ⊎ IsBetween p l x
+pub turn_or : (p l x : ℕ) → l ≢ x → p ≢ l → IsTurn p l x ⊎ IsBetween p l x
 turn_or p l x m n = grind arith
 
 push_case : (K x : ℕ) (e : EndPoints) → IsEnds K e → PushCase x e
@@ -53,18 +50,18 @@ push_case K x e i = pick_none (cases_lt e.points 1)
     pick_none (inr h) = pick_long h (cases_lt e.points 2)
 
 -- what the last two points make of one level more
-twice_same : (x p l : ℕ) → p ≢ l → l ≡ x → ends_prepend p (ends_prepend l (one x)) ≡
+twice_same : (x p l : ℕ) → p ≢ l → l ≡ x → ends_prepend p (ends_prepend l (only_point x)) ≡
     record { points = 2; first = p; second = x; before = p; last = x }
 twice_same x p l n e = ap (ends_prepend p) (put_one_same x l e) ∙ put_one_other x p (λ q. n (q ∙ sym e))
 
-twice_turn : (x p l : ℕ) → l ≢ x → IsTurn p l x → ends_prepend p (ends_prepend l (one x)) ≡
+twice_turn : (x p l : ℕ) → l ≢ x → IsTurn p l x → ends_prepend p (ends_prepend l (only_point x)) ≡
     record { points = 3; first = p; second = l; before = l; last = x }
 twice_turn x p l n t =
     ap (ends_prepend p) (put_one_other x l n) ∙ put_turn p (record { points = 2; first = l; second = x; before = l; last = x })
     (omega arith) t
 
 twice_passed : (x p l : ℕ) → l ≢ x → IsBetween p l x →
-    ends_prepend p (ends_prepend l (one x)) ≡ record { points = 2; first = p; second = x; before = p; last = x }
+    ends_prepend p (ends_prepend l (only_point x)) ≡ record { points = 2; first = p; second = x; before = p; last = x }
 twice_passed x p l n t =
     ap (ends_prepend p) (put_one_other x l n) ∙ put_two p (record { points = 2; first = l; second = x; before = l; last = x }) refl t
 
@@ -73,7 +70,7 @@ pub five_same : (a b c d e a' b' c' d' e' : ℕ) → a ≡ a' → b ≡ b' → c
     (record { points = a'; first = b'; second = c'; before = d'; last = e' })
 five_same a b c d e a' b' c' d' e' p q r s t = cc
 
-end_none : (x : ℕ) (e : EndPoints) → e.points ≡ 0 → ends_push x e ≡ one x
+end_none : (x : ℕ) (e : EndPoints) → e.points ≡ 0 → ends_push x e ≡ only_point x
 end_none x e h = grind (arith, nat_tests)
 
 end_same : (x : ℕ) (e : EndPoints) → 1 ≤ e.points → e.last ≡ x → ends_push x e ≡ e
@@ -102,54 +99,54 @@ differs_passed : (p l x : ℕ) → IsBetween p l x → l ≢ x
 differs_passed p l x t = grind arith
 
 module _ (K x : ℕ) (e : EndPoints) (i : IsEnds K e) where
-  long_same : 3 ≤ e.points → e.last ≡ x → ends_push x e ≡ meets e (one x)
+  long_same : 3 ≤ e.points → e.last ≡ x → ends_push x e ≡ meets e (only_point x)
   long_same h q = end_same x e (omega arith) q ∙ five_same _ _ _ _ _ _ _ _ _ _ (omega arith) refl refl refl q
-      ∙ sym (meets_long e (one x) h ∙ ap (long e) (twice_same x e.before e.last (i.differ (omega arith)).1 q))
+      ∙ sym (meets_long e (only_point x) h ∙ ap (long e) (twice_same x e.before e.last (i.differ (omega arith)).1 q))
 
-  two_same : e.points ≡ 2 → e.last ≡ x → ends_push x e ≡ meets e (one x)
+  two_same : e.points ≡ 2 → e.last ≡ x → ends_push x e ≡ meets e (only_point x)
   two_same h q = let t = i.two h in end_same x e (omega arith) q ∙ five_same _ _ _ _ _ _ _ _ _ _ h (sym t.0) (sym t.1 ∙ q) refl q
-      ∙ sym (meets_two e (one x) h ∙ twice_same x e.before e.last (i.differ (omega arith)).1 q)
+      ∙ sym (meets_two e (only_point x) h ∙ twice_same x e.before e.last (i.differ (omega arith)).1 q)
 
-  long_turn : 3 ≤ e.points → IsTurn e.before e.last x → ends_push x e ≡ meets e (one x)
+  long_turn : 3 ≤ e.points → IsTurn e.before e.last x → ends_push x e ≡ meets e (only_point x)
   long_turn h t = end_turn x e (omega arith) t ∙ five_same _ _ _ _ _ _ _ _ _ _ (omega arith) refl refl refl refl
-      ∙ sym (meets_long e (one x) h ∙ ap (long e) (twice_turn x e.before e.last (differs_turn e.before e.last x t) t))
+      ∙ sym (meets_long e (only_point x) h ∙ ap (long e) (twice_turn x e.before e.last (differs_turn e.before e.last x t) t))
 
-  two_turn : e.points ≡ 2 → IsTurn e.before e.last x → ends_push x e ≡ meets e (one x)
+  two_turn : e.points ≡ 2 → IsTurn e.before e.last x → ends_push x e ≡ meets e (only_point x)
   two_turn h t = let w = i.two h in end_turn x e (omega arith) t ∙ five_same _ _ _ _ _ _ _ _ _ _ (omega arith) (sym w.0) (sym w.1) refl refl
-      ∙ sym (meets_two e (one x) h ∙ twice_turn x e.before e.last (differs_turn e.before e.last x t) t)
+      ∙ sym (meets_two e (only_point x) h ∙ twice_turn x e.before e.last (differs_turn e.before e.last x t) t)
 
-  long_passed : 3 ≤ e.points → IsBetween e.before e.last x → ends_push x e ≡ meets e (one x)
+  long_passed : 3 ≤ e.points → IsBetween e.before e.last x → ends_push x e ≡ meets e (only_point x)
   long_passed h t = end_passed x e h t ∙ five_same _ _ _ _ _ _ _ _ _ _ (omega arith) refl refl refl refl
-      ∙ sym (meets_long e (one x) h ∙ ap (long e) (twice_passed x e.before e.last (differs_passed e.before e.last x t) t))
+      ∙ sym (meets_long e (only_point x) h ∙ ap (long e) (twice_passed x e.before e.last (differs_passed e.before e.last x t) t))
 
-  two_passed : e.points ≡ 2 → IsBetween e.before e.last x → ends_push x e ≡ meets e (one x)
+  two_passed : e.points ≡ 2 → IsBetween e.before e.last x → ends_push x e ≡ meets e (only_point x)
   two_passed h t = let w = i.two h in end_two x e h t ∙ five_same _ _ _ _ _ _ _ _ _ _ refl (sym w.0) refl refl refl
-      ∙ sym (meets_two e (one x) h ∙ twice_passed x e.before e.last (differs_passed e.before e.last x t) t)
+      ∙ sym (meets_two e (only_point x) h ∙ twice_passed x e.before e.last (differs_passed e.before e.last x t) t)
 
-  push_by : PushCase x e → ends_push x e ≡ meets e (one x)
-  push_by (on_none h) = end_none x e h ∙ sym (meets_zero e (one x) h)
+  push_by : PushCase x e → ends_push x e ≡ meets e (only_point x)
+  push_by (on_none h) = end_none x e h ∙ sym (meets_zero e (only_point x) h)
   push_by (on_one_same h q) = let w = i.one h in end_same x e (omega arith) q ∙ five_same _ _ _ _ _ _ _ _ _ _ h (sym w.2 ∙ q) w.0 w.1 q
-      ∙ sym (meets_one e (one x) h ∙ put_one_same x e.last q)
+      ∙ sym (meets_one e (only_point x) h ∙ put_one_same x e.last q)
   push_by (on_one_other h q) = let w = i.one h in end_one x e h q ∙ five_same _ _ _ _ _ _ _ _ _ _ refl (sym w.2) refl refl refl
-      ∙ sym (meets_one e (one x) h ∙ put_one_other x e.last q)
+      ∙ sym (meets_one e (only_point x) h ∙ put_one_other x e.last q)
   push_by (on_same h q) = by_two (cases_lt e.points 3)
     where
-      by_two : ((e.points < 3) ⊎ (3 ≤ e.points)) → ends_push x e ≡ meets e (one x)
+      by_two : ((e.points < 3) ⊎ (3 ≤ e.points)) → ends_push x e ≡ meets e (only_point x)
       by_two (inl s) = two_same (omega arith) q
       by_two (inr s) = long_same s q
   push_by (on_turn h q) = by_two (cases_lt e.points 3)
     where
-      by_two : ((e.points < 3) ⊎ (3 ≤ e.points)) → ends_push x e ≡ meets e (one x)
+      by_two : ((e.points < 3) ⊎ (3 ≤ e.points)) → ends_push x e ≡ meets e (only_point x)
       by_two (inl s) = two_turn (omega arith) q
       by_two (inr s) = long_turn s q
   push_by (on_passed h q) = by_two (cases_lt e.points 3)
     where
-      by_two : ((e.points < 3) ⊎ (3 ≤ e.points)) → ends_push x e ≡ meets e (one x)
+      by_two : ((e.points < 3) ⊎ (3 ≤ e.points)) → ends_push x e ≡ meets e (only_point x)
       by_two (inl s) = two_passed (omega arith) q
       by_two (inr s) = long_passed s q
 
   -- one level more is a part of that one level
-  pub push_is_meets : ends_push x e ≡ meets e (one x)
+  pub push_is_meets : ends_push x e ≡ meets e (only_point x)
   push_is_meets = push_by (push_case K x e i)
 
 meets_none_by : (K : ℕ) (e f : EndPoints) → IsEnds K e → IsEnds K f → Parted e.points → (meets e f).points ≡ 0 →

@@ -2,9 +2,9 @@
 use Rattle.std.proofs.Common.{◌≡◌, ◌≢◌, ℕ, zero, suc, ◌+◌, ◌<◌, ◌≤◌, ◌⊎◌, inl, inr, refl, sym, ap, ◌∙◌, arith}
 use Rattle.std.proofs.lemmas.Bool.{cases_eq, cases_lt}
 use Rattle.std.proofs.lemmas.Bool.Decides.{nat_tests}
-use Rattle.turning_points.specs.Points.{IsBetween}
-use Rattle.turning_points.specs.EndPoints.{EndPoints, IsTurn, ends_prepend}
-use Rattle.turning_points.proofs.Joining.{put_before, Same}
+use Rattle.turning_points.specs.Points.{IsBetween, IsTurn, OnSide}
+use Rattle.turning_points.specs.EndPoints.{EndPoints, ends_prepend}
+use Rattle.turning_points.proofs.Joining.{put_before}
 
 pub data PutCase (x : ℕ) (e : EndPoints) : Type 0 where
   at_none : e.points ≡ 0 → PutCase x e
@@ -96,13 +96,13 @@ put_first x e (at_passed p q) = passed_first x e p q (cases_lt e.points 3)
     passed_first x e p q (inr s) = let r = ap (λ g. g.points) (put_passed x e s q) in
         (ap (λ g. g.first) (put_passed x e s q), omega arith, omega arith, omega arith)
 
-same_self : (p x n : ℕ) → p ≢ x → n ≡ x → Same p x n
+same_self : (p x n : ℕ) → p ≢ x → n ≡ x → OnSide p x n
 same_self p x n d e = grind arith
 
-same_between : (p x s n : ℕ) → IsBetween p x s → n ≡ s → Same p x n
+same_between : (p x s n : ℕ) → IsBetween p x s → n ≡ s → OnSide p x n
 same_between p x s n d e = grind arith
 
-pub put_side : (p : ℕ) (g : EndPoints) → 1 ≤ g.points → p ≢ g.first → PutCase p g → Same p g.first (ends_prepend p g).second
+pub put_side : (p : ℕ) (g : EndPoints) → 1 ≤ g.points → p ≢ g.first → PutCase p g → OnSide p g.first (ends_prepend p g).second
     × (2 ≤ (ends_prepend p g).points)
 put_side p g h d (at_none q) = absurd (omega arith)
 put_side p g h d (at_equal q r) = absurd (d r)
@@ -114,7 +114,7 @@ put_side p g h d (at_turn q r) =
 put_side p g h d (at_passed q r) = side_passed p g q r (cases_lt g.points 3)
   where
     side_passed : (p : ℕ) (g : EndPoints) → 2 ≤ g.points → IsBetween p g.first g.second → ((g.points < 3) ⊎ (3 ≤ g.points)) →
-        Same p g.first (ends_prepend p g).second × (2 ≤ (ends_prepend p g).points)
+        OnSide p g.first (ends_prepend p g).second × (2 ≤ (ends_prepend p g).points)
     side_passed p g q r (inl s) = let e = put_two p g (omega arith) r in let o = ap (λ k. k.points) e in
         (same_between p g.first g.second (ends_prepend p g).second r (ap (λ k. k.second) e), omega arith)
     side_passed p g q r (inr s) = let e = put_passed p g s r in let o = ap (λ k. k.points) e in

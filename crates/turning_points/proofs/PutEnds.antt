@@ -1,8 +1,8 @@
 -- A level put before a list of points, and the tables.
 use Rattle.std.proofs.Common.{◌≡◌, ◌≢◌, ℕ, ◌+◌, ◌<◌, ◌≤◌, ◌⊎◌, inl, inr, refl, sym, subst, arith}
 use Rattle.std.proofs.lemmas.Bool.{cases_lt}
-use Rattle.turning_points.specs.Points.{IsBetween}
-use Rattle.turning_points.specs.EndPoints.{EndPoints, IsTurn, IsEnds, ends_prepend}
+use Rattle.turning_points.specs.Points.{IsBetween, IsTurn}
+use Rattle.turning_points.specs.EndPoints.{EndPoints, IsEnds, ends_prepend}
 use Rattle.turning_points.proofs.Put.{PutCase, at_none, at_equal, at_second, at_turn, at_passed, put_case, put_none, put_equal, put_second, put_turn, put_two, put_passed}
 
 -- the ends stay ends

@@ -1,12 +1,13 @@
 -- The number of points of a history, its first two and its last two.
 --   EndPoints     these five numbers; 0 where there is no such point
 --   ends_of       those of a list of points
+--   only_point    those of one point
 --   IsEnds        those of some list of points of levels below k
 --   ends_prepend  the ends after a level was put before
 --   meets         the ends of two histories, one after the other
 --   ends_push     the ends after a level was put behind
 use Rattle.std.specs.Prelude.{◌≡◌, ◌≢◌, ℕ, ◌+◌, ◌-◌, ◌<◌, ◌≤◌, ◌⊎◌, ◌==◌, if◌then◌else◌, List, [], ◌∷◌, length, slice_index}
-use Rattle.turning_points.specs.Points.{is_turn}
+use Rattle.turning_points.specs.Points.{is_turn, IsTurn}
 
 pub record EndPoints : Type 0 where
   pub points : ℕ
@@ -39,9 +40,8 @@ ends_of l = record {
 abbrev pub no_ends : EndPoints
 no_ends = record { points = 0; first = 0; second = 0; before = 0; last = 0 }
 
--- b is greater than both, or less than both
-abbrev pub IsTurn : ℕ → ℕ → ℕ → Type 0
-IsTurn a b c = ((a < b) × (c < b)) ⊎ ((b < a) × (b < c))
+abbrev pub only_point : ℕ → EndPoints
+only_point x = record { points = 1; first = x; second = 0; before = 0; last = x }
 
 pub record IsEnds (k : ℕ) (e : EndPoints) : Type 0 where
   pub none : e.points ≡ 0 → (e.first ≡ 0) × (e.second ≡ 0) × (e.before ≡ 0) × (e.last ≡ 0)
@@ -54,7 +54,7 @@ pub record IsEnds (k : ℕ) (e : EndPoints) : Type 0 where
 -- the ends after the level x was put before
 abbrev pub ends_prepend : ℕ → EndPoints → EndPoints
 ends_prepend x e =
-    if e.points == 0 then record { points = 1; first = x; second = 0; before = 0; last = x }
+    if e.points == 0 then only_point x
     else if x == e.first then e
     else if e.points == 1 then record { points = 2; first = x; second = e.first; before = x; last = e.first }
     else if is_turn x e.first e.second then record {
@@ -93,7 +93,7 @@ meets e f =
 -- the ends after the level x was put behind
 abbrev pub ends_push : ℕ → EndPoints → EndPoints
 ends_push x e =
-    if e.points == 0 then record { points = 1; first = x; second = 0; before = 0; last = x }
+    if e.points == 0 then only_point x
     else if x == e.last then e
     else if e.points == 1 then record { points = 2; first = e.first; second = x; before = e.last; last = x }
     else if is_turn e.before e.last x then record {
