@@ -1,4 +1,6 @@
-ghost use Rattle.std.specs.Prelude.{◌≡◌, ◌+◌, ◌<◌, [], None};
+ghost use Rattle.std.specs.Prelude.{◌≡◌, ◌+◌, ◌++◌, ◌<◌, None, OnOk, OnErr};
+ghost use Rattle.outside.specs.Sink.{AppendsPrefix};
+ghost use Rattle.monitor_main.specs.Known.{Tells, bytes_of};
 
 #[cfg(test)]
 mod tests;
@@ -22,16 +24,18 @@ pub struct FileSource<F: Read + Send + Drop> {
 
 impl<F: Read + Send + Drop> FileSource<F> {
     pub fn new(file: F) -> FileSource<F>
-        ensures { result.faults ≡ 0 }
+        ensures file { result.file ≡ file }
+        ensures faults { result.faults ≡ 0 }
     {
         FileSource { file, faults: 0 }
     }
 }
 
 impl<F: Read + Send + Drop> Source for FileSource<F> {
-    ghost tells = { ⊥ };
+    // Where readers of its type tell what they will give.
+    ghost tells = { Tells F.remaining };
 
-    ghost left = { λ _. [] };
+    ghost left = { λ s. bytes_of (F.remaining s.file) };
 
     ghost faults = { λ s. s.faults };
 
@@ -119,35 +123,59 @@ impl<'a, R: Files<File = File> + AllocGlobal> Site for FolderSite<'a, R> {
     }
 }
 
-/// Standard output, written at once.
+/// An output, written at once.
 #[derive(Drop)]
-pub struct OutputSink<'a, R: Print> {
-    rt: &'a R,
+pub struct OutputSink<W: Write + Drop> {
+    out: W,
     faults: u64,
 }
 
-impl<'a, R: Print> OutputSink<'a, R> {
-    pub fn new(rt: &'a R) -> OutputSink<'a, R>
-        ensures { result.faults ≡ 0 }
+impl<W: Write + Drop> OutputSink<W> {
+    pub fn new(out: W) -> OutputSink<W>
+        ensures out { result.out ≡ out }
+        ensures faults { result.faults ≡ 0 }
     {
-        OutputSink { rt, faults: 0 }
+        OutputSink { out, faults: 0 }
+    }
+
+    // Writes the bytes, as std's `write_all` does, which doesn't say that a failure left a front of
+    // them. A write that was interrupted is tried again.
+    fn write(&mut self, bytes: &[u8]) -> Result<(), Failed>
+        ensures ok { Tells W.contents → OnOk result
+            (bytes_of (W.contents self.new.out) ≡ bytes_of (W.contents self.old.out) ++ bytes.now) }
+        ensures failed { Tells W.contents → OnErr result (AppendsPrefix
+            (bytes_of (W.contents self.old.out)) (bytes_of (W.contents self.new.out)) bytes.now) }
+        ensures faults { self.new.faults ≡ self.old.faults }
+    {
+        let mut rest = bytes;
+        for _ in 0..u64::MAX {
+            if rest.is_empty() {
+                return Ok(());
+            }
+            match self.out.write(rest) {
+                Ok(0) => break,
+                Ok(n) => rest = &rest[n..],
+                Err(cause) if cause.kind() == ErrorKind::Interrupted => {}
+                Err(_) => break,
+            }
+        }
+        Err(Failed)
     }
 }
 
-impl<'a, R: Print> Sink for OutputSink<'a, R> {
-    ghost tells = { ⊥ };
+impl<W: Write + Drop> Sink for OutputSink<W> {
+    // Where writers of its type tell what they hold.
+    ghost tells = { Tells W.contents };
 
-    ghost written = { λ _. [] };
+    ghost written = { λ s. bytes_of (W.contents s.out) };
 
     ghost faults = { λ s. s.faults };
 
     fn put(&mut self, bytes: &[u8]) -> Result<(), Failed> {
-        match io::writer(self.rt).write_all(bytes) {
-            Ok(()) => Ok(()),
-            Err(_) => {
-                self.faults = self.faults.saturating_add(1);
-                Err(Failed)
-            }
+        let answer = self.write(bytes);
+        if answer.is_err() {
+            self.faults = self.faults.saturating_add(1);
         }
+        answer
     }
 }

@@ -2,9 +2,9 @@
 //! `monitor`. The configuration is `monitor.toml`, the store `monitor.store`; each is opened at its
 //! first use.
 //!
-//! The adapters are the trusted edge. They meet the contracts of the outside, and tell nothing of
-//! what a real file or a terminal holds: no contract can. Each counts the errors of the system that
-//! it met.
+//! The adapters are the trusted edge. They meet the contracts of the outside: a source gives what
+//! its reader gives, and an output is what its writer holds, where those tell it. Of a real file and
+//! a terminal no contract tells. Each counts the errors of the system that it met.
 #![tactic(auto)]
 
 mod adapters;
@@ -23,6 +23,7 @@ use named_file::NamedFile;
 use outside::OpenGate;
 use station::Station;
 use status::Status;
+use std::io;
 use std::process::ExitCode;
 use std::sync::Wait;
 use std::thread::Threads;
@@ -55,7 +56,7 @@ fn run_words<R: AllocGlobal + Threads + Wait + Sync, K: Station>(
 ) -> Status {
     let mut config = NamedFile::new(rt, "monitor.toml");
     let mut site = FolderSite::new(rt);
-    let mut out = OutputSink::new(rt);
+    let mut out = OutputSink::new(io::writer(rt));
     monitor(
         threads,
         words,

@@ -1,14 +1,11 @@
 use super::{FileSource, FolderSite, OutputSink};
 use outside::{Sink, Site, Source};
-use std::fmt::Display;
+use std::fs;
 use std::fs::File;
-use std::io::ErrorKind;
+use std::io::Cursor;
 use std::test::Fail;
-use std::{fs, io};
 
 const NAME: &str = "a_file_of_the_test";
-
-const OUTPUT: &str = "an_output_of_the_test";
 
 #[test]
 fn a_file_is_read_to_its_end(rt: HostRuntime) -> Result<(), Fail> {
@@ -46,51 +43,14 @@ fn a_site_counts_what_is_missing_and_what_fails(rt: HostRuntime) -> Result<(), F
     Ok(())
 }
 
-// An output into a file, or one that fails.
-#[derive(Drop)]
-struct FileOutput<'a> {
-    rt: &'a HostRuntime,
-    fails: bool,
-}
-
-impl Print for FileOutput<'_> {
-    fn print<D: Display + Drop>(&self, _value: D) -> io::Result<()> {
-        Err(io::Error::from(ErrorKind::Unsupported))
-    }
-
-    fn println<D: Display + Drop>(&self, _value: D) -> io::Result<()> {
-        Err(io::Error::from(ErrorKind::Unsupported))
-    }
-
-    fn write_all(&self, bytes: &[u8]) -> io::Result<()> {
-        if self.fails {
-            return Err(io::Error::from(ErrorKind::StorageFull));
-        }
-        fs::write(self.rt, OUTPUT, bytes)
-    }
-}
-
+// An output of twelve bytes: the last byte of the second text finds no room.
 #[test]
-fn output_is_written(rt: HostRuntime) -> Result<(), Fail> {
-    let output = FileOutput {
-        rt: &rt,
-        fails: false,
-    };
-    let mut sink = OutputSink::new(&output);
+fn an_output_is_written_until_it_is_full(rt: HostRuntime) -> Result<(), Fail> {
+    let mut sink = OutputSink::new(Cursor::new([0u8; 12]));
     assert!(rt; sink.put(b"written\n").is_ok());
     assert_eq!(rt; sink.faults, 0);
-    assert_eq!(rt; fs::read(&rt, OUTPUT)?.as_slice(), b"written\n".as_slice());
-    fs::remove_file(&rt, OUTPUT)?;
-    Ok(())
-}
-
-#[test]
-fn output_that_fails_is_counted(rt: HostRuntime) {
-    let output = FileOutput {
-        rt: &rt,
-        fails: true,
-    };
-    let mut sink = OutputSink::new(&output);
     assert!(rt; sink.put(b"lost\n").is_err());
     assert_eq!(rt; sink.faults, 1);
+    assert_eq!(rt; sink.out.into_inner(), *b"written\nlost");
+    Ok(())
 }
