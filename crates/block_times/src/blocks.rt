@@ -41,6 +41,7 @@ fn tally_for(alloc: Global, classes: u16, longest: u64) -> Result<Tally, AllocEr
 }
 
 impl Site {
+    /// Takes the memory of the units and boards of a plan.
     pub fn new(alloc: Global, plan: Plan) -> Result<Site, AllocError> {
         let block = plan.block as u64;
         let of_unit = match plan.form {

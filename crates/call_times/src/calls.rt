@@ -18,6 +18,7 @@ pub enum Call {
 }
 
 impl Call {
+    /// All calls, in the order in which they are shown.
     pub const ALL: [Call; 4] = [Call::Level, Call::Turner, Call::KeepPoints, Call::Astm];
 }
 
@@ -41,6 +42,7 @@ pub struct Recording {
 }
 
 impl Recording {
+    /// Makes the samples, and finds their levels.
     pub fn new(alloc: Global) -> Result<Recording, AllocError> {
         let classifier = classifier();
         let raws = walk(alloc)?;
@@ -57,6 +59,7 @@ impl Recording {
         })
     }
 
+    /// How many samples it has.
     pub fn len(&self) -> usize {
         self.raws.len()
     }

@@ -21,6 +21,7 @@ pub enum Count {
 }
 
 impl Count {
+    /// All ways, in the order in which they are shown.
     pub const ALL: [Count; 4] = [
         Count::CrossingsByPoints,
         Count::SimpleByPoints,

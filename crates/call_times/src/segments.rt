@@ -17,6 +17,7 @@ pub enum Way {
 }
 
 impl Way {
+    /// All ways, in the order in which they are shown.
     pub const ALL: [Way; 5] = [
         Way::Blocks {
             length: 1024,
@@ -89,6 +90,7 @@ pub struct Maker {
 }
 
 impl Maker {
+    /// Takes all memory that the segments of this way need, over the classes of a grid.
     pub fn new(alloc: Global, way: Way, grid: &Grid) -> Result<Maker, AllocError> {
         let mut units = Vec::new(alloc);
         for _ in 0..way.units() {

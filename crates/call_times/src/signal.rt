@@ -10,6 +10,7 @@ pub enum Signal {
 }
 
 impl Signal {
+    /// All signals, in the order in which they are shown.
     pub const ALL: [Signal; 3] = [Signal::Walk, Signal::Noise, Signal::Sine];
 }
 

@@ -15,7 +15,7 @@ use std::rt::Files;
 // are.
 const READ_AHEAD: usize = 65536;
 
-/// An open file, read from its start.
+/// An open file, or another reader, from where it stands.
 #[derive(Drop)]
 pub struct FileSource<F: Read + Send + Drop> {
     file: F,
@@ -23,6 +23,7 @@ pub struct FileSource<F: Read + Send + Drop> {
 }
 
 impl<F: Read + Send + Drop> FileSource<F> {
+    /// What this reader gives from here on, of which no call failed yet.
     pub fn new(file: F) -> FileSource<F>
         ensures file { result.file ≡ file }
         ensures faults { result.faults ≡ 0 }
@@ -77,6 +78,7 @@ pub struct FolderSite<'a, R: Files<File = File> + AllocGlobal> {
 }
 
 impl<'a, R: Files<File = File> + AllocGlobal> FolderSite<'a, R> {
+    /// The current folder, of which no source is out.
     pub fn new(rt: &'a R) -> FolderSite<'a, R>
         ensures out { result.out ≡ 0 }
         ensures faults { result.faults ≡ 0 }
@@ -131,6 +133,7 @@ pub struct OutputSink<W: Write + Drop> {
 }
 
 impl<W: Write + Drop> OutputSink<W> {
+    /// An output to this writer, on which no call failed yet.
     pub fn new(out: W) -> OutputSink<W>
         ensures out { result.out ≡ out }
         ensures faults { result.faults ≡ 0 }

@@ -18,6 +18,7 @@ pub struct NamedFile<'a> {
 }
 
 impl<'a> NamedFile<'a> {
+    /// The file of this name, which is not opened yet.
     pub fn new(rt: &'a HostRuntime, name: &'static str) -> NamedFile<'a>
         ensures { result.faults ≡ 0 }
     {

@@ -26,6 +26,7 @@ pub struct FileStation<'a, R: Files<File = File>, W: Write + Drop> {
 }
 
 impl<'a, R: Files<File = File>, W: Write + Drop> FileStation<'a, R, W> {
+    /// The store in the file of this name, which is not opened yet, and the line to the operator.
     pub fn new(rt: &'a R, name: &'static str, line: W) -> FileStation<'a, R, W>
         ensures { result.faults ≡ 0 }
     {
