@@ -7,11 +7,12 @@
 //! (`specs/Cells.antt`).
 //!
 //! Cost: a column takes one pass over the bytes, and memory for its samples and one row. A sheet
-//! takes memory for its text.
+//! takes memory for its text twice, since it is appended when it is whole.
 #![tactic(auto)]
 
 mod cells;
 mod columns;
+/// Laws over the definitions alone.
 pub mod laws;
 mod rows;
 mod sheets;

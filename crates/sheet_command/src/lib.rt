@@ -3,7 +3,7 @@
 //! All recordings are read whole, in order of gauge, and the text is written once it is known
 //! (`specs/Sheet.antt`). The text is that of `csv_recording`, under the gauges' names.
 //!
-//! It takes memory for all samples and for the text.
+//! It takes memory for all samples, and for the text twice.
 #![tactic(auto)]
 
 mod command;
