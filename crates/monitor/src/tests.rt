@@ -182,7 +182,7 @@ fn faults_of_the_outside(rt: HostRuntime) -> Result<(), Fail> {
     assert_eq!(rt; status, Status::WriteFault);
     assert_eq!(rt; out.written().len(), 0);
 
-    // Takes of 7 bytes: the head ends in the fifth, the body in the tenth, and the eleventh finds
+    // Takes of 7 bytes: the head ends in the fifth, the body in the eleventh, and the twelfth finds
     // the end.
     let words = words_of(alloc, &["table", "t"])?;
     for failing in [0, 4, 5, 9, 10u64] {
