@@ -85,6 +85,10 @@ builds 'with CDPATH' 0
 unset CDPATH
 (cd "$top" && PATH=$kit sh monitor x >"$room/printed" 2>/dev/null)
 check 'by sh, in its own folder' 'ran|x|' "$(cat "$room/printed")"
+mkdir -p "$room/elsewhere/check out/crates"
+(cd "$room" && CDPATH=$room/elsewhere PATH=$kit sh 'check out/monitor' x >"$room/printed" 2>/dev/null)
+check 'by sh, with CDPATH and a path that is not whole' 'ran|x|' "$(cat "$room/printed")"
+rm -r "$room/elsewhere/check out"
 
 # what the program is made of
 echo 'fn low() { }' >"$top/crates/low/src/lib.rt"
@@ -93,8 +97,13 @@ echo 'abbrev two' >"$top/crates/low/specs/Two.antt"
 builds 'a new source' 1
 rm "$top/crates/low/specs/Two.antt"
 builds 'a deleted source' 1
+mkdir -p "$top/crates/low/proofs"
+echo 'pub' >"$top/crates/low/proofs/Low.antt"
+builds 'a new proof' 1
 printf 'low:\napart: low\nmonitor_main: low apart\n' >"$top/crates.txt"
 builds 'a changed crates.txt' 1
+printf 'low:\napart: low\nmonitor_main: apart low\n' >"$top/crates.txt"
+builds 'crates that are named in another order' 1
 fresh
 builds 'a fresh checkout' 1
 echo 'fn apart() { }' >"$top/crates/apart/src/lib.rt"
@@ -112,6 +121,8 @@ builds 'a change, and a program from the future' 1
 echo 'stand-in 2' >"$room/kit/KIT-ID"
 builds 'a new kit' 1
 builds 'the same kit' 0
+echo '# another' >>"$room/kit/bin/rt"
+builds 'another rt of the same kit' 1
 echo 'fn low() {   }' >"$top/crates/low/src/lib.rt"
 DURING='echo "fn low() { 1 }" >../low/src/lib.rt'
 export DURING

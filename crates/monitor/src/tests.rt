@@ -185,7 +185,7 @@ fn faults_of_the_outside(rt: HostRuntime) -> Result<(), Fail> {
     // Takes of 7 bytes: the head ends in the fifth, the body in the eleventh, and the twelfth finds
     // the end.
     let words = words_of(alloc, &["table", "t"])?;
-    for failing in [0, 4, 5, 9, 10u64] {
+    for failing in [0, 4, 5, 10, 11u64] {
         let site = site_of(alloc, file_of(alloc, &EXAMPLE)?, 7)?;
         let name = String::from_str(alloc, "t")?;
         let mut site = site.failing_reads(name, vec![in alloc; failing]?);
