@@ -161,12 +161,12 @@ repeated='repeat G1
 3.0 1.0'
 check 'the example repeats' "0:$repeated" "$("$program" repeat >printed; echo "$?:$(cat printed)")"
 status 'a word behind repeat' 1 "$usage" repeat x
-# Its third sample is another one now, so the first cell that differs is that of the cycle which this sample closed.
+# Its second sample is 2 now and not 1, so the half cycle between that and -3 isn't found again.
 { head -c 36 g1.sgrc && printf '\002' && tail -c +38 g1.sgrc; } >changed
 mv changed g1.sgrc
 status 'a recording that has changed' 11 'audit G1: cell 5 9 held 1, recount 0' audit
 head -c 268435457 /dev/zero >long.csv
-status 'a text of over 256 MiB' 10 'recording long.csv: too long' column long.csv strain 1 10
+status 'a text of over 256 MiB' 10 'recording long.csv: too long' column long.csv strain 00112233445566778899aabbccddeeff 1000
 rm long.csv
 printf '%s\n' "$config" | sed 's/classes = 16/classes = 17/' >monitor.toml
 status 'another configuration' 3 'store: classes was 16, is 17' report
