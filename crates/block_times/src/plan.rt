@@ -32,25 +32,39 @@ pub struct Plan {
 }
 
 impl Plan {
-    /// All plans. A table for each unit has no place for 1024 classes, and up to 64 classes a block
-    /// of 4096 samples has room for each pair.
+    /// All plans.
     pub fn all(alloc: Global) -> Result<Vec<Plan>, AllocError> {
         let mut plans = Vec::new(alloc);
         for history in [History::Noise, History::Walk] {
             for units in [1, 512] {
                 for block in [1024, 4096] {
-                    plans.push(plan_of(history, 64, units, block, Form::Table))?;
-                    if block == 1024 {
-                        plans.push(plan_of(history, 64, units, block, Form::Log))?;
-                    }
-                    plans.push(plan_of(history, 128, units, block, Form::Table))?;
-                    plans.push(plan_of(history, 128, units, block, Form::Log))?;
-                    plans.push(plan_of(history, 1024, units, block, Form::Log))?;
+                    push_plans(&mut plans, history, units, block)?;
                 }
             }
         }
         Ok(plans)
     }
+}
+
+// A plan for each number of classes and form. A table for each unit has no place for 1024 classes,
+// and up to 64 classes a block of 4096 samples has room for each pair.
+fn push_plans(
+    plans: &mut Vec<Plan>,
+    history: History,
+    units: u32,
+    block: u32,
+) -> Result<(), AllocError>
+    requires full { 1 ≤ block }
+    requires longest { block ≤ 4096 }
+{
+    plans.push(plan_of(history, 64, units, block, Form::Table))?;
+    if block == 1024 {
+        plans.push(plan_of(history, 64, units, block, Form::Log))?;
+    }
+    plans.push(plan_of(history, 128, units, block, Form::Table))?;
+    plans.push(plan_of(history, 128, units, block, Form::Log))?;
+    plans.push(plan_of(history, 1024, units, block, Form::Log))?;
+    Ok(())
 }
 
 fn plan_of(history: History, classes: u16, units: u32, block: u32, form: Form) -> Plan
