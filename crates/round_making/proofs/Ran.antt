@@ -1,6 +1,7 @@
 -- What a round does to a reader and to a worker, from lending to settling.
 use Rattle.std.proofs.Common.{rules, ◌≡◌, ◌≢◌, inl, inr, ◌≤◌, ◌<◌, ◌+◌, ◌*◌, ◌-◌, ℕ, zero, suc, List, [], ◌∷◌, ◌++◌, length, take, get_or, vec_len, vec_capacity, refl, sym, ap, ◌∙◌, subst, arith, append_assoc, Some}
 use Rattle.recording.specs.declared.TheConstants.{MAX_SAMPLES}
+use Rattle.flow.specs.declared.TheConstants.{BLOCKS_PER_WINDOW}
 use Rattle.std.specs.List.{All}
 use Rattle.std.specs.declared.vec.Vec.{Vec}
 use Rattle.std.specs.declared.alloc.Global.{Global}
@@ -49,7 +50,7 @@ module _ {C : Type 0} where
     pub desk_block : desk.block ≡ r0.desk.block
     pub desk_grid : desk.grid ≡ r0.desk.grid
     pub units : List FilledValue
-    pub few : length units ≤ 16
+    pub few : length units ≤ BLOCKS_PER_WINDOW
     pub blocks : AreBlocks desk l0.at units r3.desk.at
     pub before : C
     pub now : C
@@ -57,21 +58,21 @@ module _ {C : Type 0} where
     pub has : r3.src ≡ Some now
     pub samples : tells → samples_of units ≡ take (r3.desk.at - l0.at) (samples (left before))
     pub limit : r3.desk.at ≤ MAX_SAMPLES
-    pub gives : l0.end ≡ More → tells → Gives (16 * r0.desk.block) (MAX_SAMPLES - l0.at) (left before) (r3.desk.at - l0.at) r3.desk.end
-        (left now)
+    pub gives : l0.end ≡ More → tells → Gives (BLOCKS_PER_WINDOW * r0.desk.block) (MAX_SAMPLES - l0.at) (left before) (r3.desk.at - l0.at)
+        r3.desk.end (left now)
     pub cause : l0.end ≡ More → r3.desk.end ≡ ReadFault → Rose (faults before) (faults now)
     pub later : faults before ≤ faults now
     pub ended : l0.end ≢ More → (r3.desk.at ≡ l0.at) × (r3.desk.end ≡ l0.end) × (now ≡ before)
     pub fed : (v : ℕ) (d : Feeder Item) → v < workers
         → fed (get_or r3.desk.feeders.items v d) ≡ fed (get_or r0.desk.feeders.items v d) ++ round_of (dealt workers v 0 units)
     pub ends : (v : ℕ) (d : Feeder Item) → v < workers → IsSameFeeder (get_or r0.desk.feeders.items v d) (get_or r3.desk.feeders.items v d)
-    pub blanks : vec_len r3.desk.blanks + length units ≡ 16
+    pub blanks : vec_len r3.desk.blanks + length units ≡ BLOCKS_PER_WINDOW
     pub fit : All (IsBlank r0.desk.block r0.desk.grid) r3.desk.blanks.items
     pub gauge : r3.desk.gauge ≡ r0.desk.gauge
     pub block : r3.desk.block ≡ r0.desk.block
     pub grid : r3.desk.grid ≡ r0.desk.grid
     pub feeders : vec_len r3.desk.feeders ≡ workers
-    pub room : 16 ≤ vec_capacity r3.desk.blanks
+    pub room : BLOCKS_PER_WINDOW ≤ vec_capacity r3.desk.blanks
 
   -- what a reader's job keeps, whatever its lane
   pub record JobKeeps (workers : ℕ) (r1 r2 : Reader C) : Type 0 where
@@ -93,8 +94,8 @@ module _ {C : Type 0} where
       (keeps.ends v d m)
 
   ran_on : (tells : Type 0) (left : C → List ℕ) (faults : C → ℕ) (workers : ℕ) (r0 r1 r2 r3 : Reader C) (l0 l1 : Lane C)
-      → vec_len r0.desk.feeders ≡ workers → 16 ≤ vec_capacity r0.desk.blanks → Lent r0 r1 l0 l1 → (job : ReadJob tells left faults r1 r2)
-      → SameRead r2 r3 → JobKeeps workers r1 r2
+      → vec_len r0.desk.feeders ≡ workers → BLOCKS_PER_WINDOW ≤ vec_capacity r0.desk.blanks → Lent r0 r1 l0 l1
+      → (job : ReadJob tells left faults r1 r2) → SameRead r2 r3 → JobKeeps workers r1 r2
       → l0.end ≡ More → ReadDone tells (left job.before) (left job.now) r1.desk r2.desk
       → (r2.desk.end ≡ ReadFault → Rose (faults job.before) (faults job.now)) → LaneRan tells left faults workers r0 r3 l0
   ran_on tells left faults workers r0 r1 r2 r3 l0 l1 wide room lent job same keeps q rd cause =
@@ -117,10 +118,13 @@ module _ {C : Type 0} where
         has = same.src ∙ job.has;
         samples = λ t. rd.samples t ∙ ap (λ k. take k (samples (left b))) long;
         limit = let l = rd.limit in let e = same.at in omega (arith, l, e);
-        gives = λ m t. subst (λ e. Gives (16 * r0.desk.block) (MAX_SAMPLES - l0.at) (left b) (r3.desk.at - l0.at) e (left n)) (sym same.end)
-            (subst (λ a. Gives (16 * r0.desk.block) (MAX_SAMPLES - a) (left b) (r3.desk.at - l0.at) r2.desk.end (left n)) lent.at
-            (gives_as (16 * r1.desk.block) (16 * r0.desk.block) (MAX_SAMPLES - r1.desk.at) (r2.desk.at - r1.desk.at) (r3.desk.at - l0.at)
-            (left b) (left n) r2.desk.end (ap (λ k. 16 * k) lent.block) long (rd.gives t)));
+        gives = λ m t. subst (λ e. Gives (BLOCKS_PER_WINDOW * r0.desk.block) (MAX_SAMPLES - l0.at) (left b) (r3.desk.at - l0.at) e (left n))
+            (sym same.end)
+            (subst (λ a. Gives (BLOCKS_PER_WINDOW * r0.desk.block) (MAX_SAMPLES - a) (left b) (r3.desk.at - l0.at) r2.desk.end (left n))
+            lent.at
+            (gives_as (BLOCKS_PER_WINDOW * r1.desk.block) (BLOCKS_PER_WINDOW * r0.desk.block) (MAX_SAMPLES - r1.desk.at)
+            (r2.desk.at - r1.desk.at) (r3.desk.at - l0.at) (left b) (left n) r2.desk.end (ap (λ k. BLOCKS_PER_WINDOW * k) lent.block) long
+            (rd.gives t)));
         cause = λ m f. cause (sym same.end ∙ f);
         later = job.later;
         ended = λ o. absurd (o q);
@@ -144,8 +148,8 @@ module _ {C : Type 0} where
       }
 
   ran_over : (tells : Type 0) (left : C → List ℕ) (faults : C → ℕ) (workers : ℕ) (r0 r1 r2 r3 : Reader C) (l0 l1 : Lane C)
-      → vec_len r0.desk.feeders ≡ workers → 16 ≤ vec_capacity r0.desk.blanks → l0.at ≤ MAX_SAMPLES → Lent r0 r1 l0 l1 → CanRead r1
-      → (job : ReadJob tells left faults r1 r2) → SameRead r2 r3 → JobKeeps workers r1 r2
+      → vec_len r0.desk.feeders ≡ workers → BLOCKS_PER_WINDOW ≤ vec_capacity r0.desk.blanks → l0.at ≤ MAX_SAMPLES → Lent r0 r1 l0 l1
+      → CanRead r1 → (job : ReadJob tells left faults r1 r2) → SameRead r2 r3 → JobKeeps workers r1 r2
       → l0.end ≢ More → NotRead r1.desk r2.desk → job.now ≡ job.before → LaneRan tells left faults workers r0 r3 l0
   ran_over tells left faults workers r0 r1 r2 r3 l0 l1 wide room limit lent can job same keeps o nr still =
       let here : vec_len r1.desk.feeders ≡ workers = ap (λ (fs : Vec (Feeder Item) Global). vec_len fs) lent.feeders ∙ wide in
@@ -189,8 +193,8 @@ module _ {C : Type 0} where
       }
 
   pub lane_ran : (tells : Type 0) (left : C → List ℕ) (faults : C → ℕ) (workers : ℕ) (r0 r1 r2 r3 : Reader C) (l0 l1 : Lane C)
-      → vec_len r0.desk.feeders ≡ workers → 16 ≤ vec_capacity r0.desk.blanks → l0.at ≤ MAX_SAMPLES → Lent r0 r1 l0 l1 → CanRead r1
-      → ReadJob tells left faults r1 r2 → SameRead r2 r3 → LaneRan tells left faults workers r0 r3 l0
+      → vec_len r0.desk.feeders ≡ workers → BLOCKS_PER_WINDOW ≤ vec_capacity r0.desk.blanks → l0.at ≤ MAX_SAMPLES → Lent r0 r1 l0 l1
+      → CanRead r1 → ReadJob tells left faults r1 r2 → SameRead r2 r3 → LaneRan tells left faults workers r0 r3 l0
   lane_ran tells left faults workers r0 r1 r2 r3 l0 l1 wide room limit lent can job same =
       let here : vec_len r1.desk.feeders ≡ workers = ap (λ (fs : Vec (Feeder Item) Global). vec_len fs) lent.feeders ∙ wide in
       let keeps = job_keeps tells left faults workers r1 r2 here job in

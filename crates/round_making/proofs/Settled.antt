@@ -1,6 +1,7 @@
 -- A round, from its beginning to its end: everything rests again, and the lanes' fronts stand on the board.
 use Rattle.std.proofs.Common.{rules, ◌≡◌, ◌⊎◌, inl, inr, ◌≤◌, ◌<◌, ◌+◌, ◌*◌, ◌-◌, ℕ, zero, suc, List, [], ◌∷◌, ◌++◌, length, map, take, get_or, vec_len, refl, sym, ap, ◌∙◌, subst, arith, append_assoc, drop, length-append, mul-le-mul_right}
 use Rattle.recording.specs.declared.TheConstants.{MAX_SAMPLES}
+use Rattle.flow.specs.declared.TheConstants.{BLOCKS_PER_WINDOW}
 use Rattle.std.specs.List.{All}
 use Rattle.std.specs.declared.vec.Vec.{Vec}
 use Rattle.std.specs.declared.alloc.Global.{Global}
@@ -281,7 +282,7 @@ module _ {C : Type 0} (tells : Type 0) (left : C → List ℕ) (faults : C → �
     gauge = λ g m. (let q = lane g m in ap (λ (x : Desk). x.gauge) q.is.0 ∙ q.run.desk_gauge ∙ (s.resting.each_reader g r m).gauge);
     size = λ g m. (let q = lane g m in ap (λ (x : Desk). x.block) q.is.0 ∙ q.run.desk_block ∙ (s.resting.each_reader g r m).size);
     grid = λ g m. (let q = lane g m in ap (λ (x : Desk). x.grid) q.is.0 ∙ q.run.desk_grid ∙ (s.resting.each_reader g r m).kind);
-    few = λ g m. (let q = lane g m in subst (λ us. length us ≤ 16) (sym q.is.1) q.run.few);
+    few = λ g m. (let q = lane g m in subst (λ us. length us ≤ BLOCKS_PER_WINDOW) (sym q.is.1) q.run.few);
     blocks = λ g m. (
         let q = lane g m in
         subst (λ a. AreBlocks (desk g) a (given g) (to g)) (sym (start_at g m))
@@ -316,13 +317,14 @@ module _ {C : Type 0} (tells : Type 0) (left : C → List ℕ) (faults : C → �
       (each_map s.collected.units (λ u f. (f.0 ∙ sym s.lent_pool.0.block, f.1 ∙ sym s.lent_pool.0.grid))
       (taken_kind p0.block p0.grid n workers (at_of ls0) to desk given s.collected.lists s.collected.units are_taken))
       (λ g i. once_by g i (cases_lt g n))
-      (let most : over n (λ g. length (given g)) ≤ n * 16 = over_most n 16 (λ g. length (given g)) (λ g m. are_taken.few g m) in
+      (let most : over n (λ g. length (given g)) ≤ n * BLOCKS_PER_WINDOW =
+      over_most n BLOCKS_PER_WINDOW (λ g. length (given g)) (λ g m. are_taken.few g m) in
       omega (arith, s.lent_pool.1, units_long, most, s.lent_pool.0.units, s.resting.pool.0))
 
   pub came : Came b1 b2 p1 p2 s.collected.units
   came = s.collected.deposited.came good
 
-  blanks_here : (g : ℕ) → g < n → blanks_at rs3 g + length (given g) ≡ 16
+  blanks_here : (g : ℕ) → g < n → blanks_at rs3 g + length (given g) ≡ BLOCKS_PER_WINDOW
   blanks_here g m =
       let q = lane g m in
       let at : blanks_at rs3 g ≡ vec_len (get_or rs3 g r).desk.blanks =
@@ -331,13 +333,13 @@ module _ {C : Type 0} (tells : Type 0) (left : C → List ℕ) (faults : C → �
       omega (arith, at, e, f)
 
   -- units that were used and units that were not are all of them
-  pub all_units : over n (blanks_at rs3) + length s.collected.units ≡ 16 * n
+  pub all_units : over n (blanks_at rs3) + length s.collected.units ≡ BLOCKS_PER_WINDOW * n
   all_units =
       let sum : over n (λ g. blanks_at rs3 g + length (given g)) ≡ over n (blanks_at rs3) + over n (λ g. length (given g)) =
       over_sum n (blanks_at rs3) (λ g. length (given g)) in
-      let each : over n (λ g. blanks_at rs3 g + length (given g)) ≡ over n (λ g. 16) =
-      over_same n (λ g. blanks_at rs3 g + length (given g)) (λ g. 16) blanks_here in
-      let all : over n (λ g. 16) ≡ n * 16 = over_const n 16 in
+      let each : over n (λ g. blanks_at rs3 g + length (given g)) ≡ over n (λ g. BLOCKS_PER_WINDOW) =
+      over_same n (λ g. blanks_at rs3 g + length (given g)) (λ g. BLOCKS_PER_WINDOW) blanks_here in
+      let all : over n (λ g. BLOCKS_PER_WINDOW) ≡ n * BLOCKS_PER_WINDOW = over_const n BLOCKS_PER_WINDOW in
       omega (arith, sum, each, all, units_long)
 
   pub fit_all : (g : ℕ) (d : Reader C) → g < length rs3 → All (IsBlank p2.block p2.grid) (get_or rs3 g d).desk.blanks.items
@@ -432,7 +434,7 @@ module _ {C : Type 0} (tells : Type 0) (left : C → List ℕ) (faults : C → �
     long4 : length rs4 ≡ n
     long4 = back_lanes.0 ∙ long3
 
-    all_inside : p3.inside ≡ 16 * n
+    all_inside : p3.inside ≡ BLOCKS_PER_WINDOW * n
     all_inside =
         let e : over (length rs3) (blanks_at rs3) ≡ over n (blanks_at rs3) = ap (λ j. over j (blanks_at rs3)) long3 in
         let i = came.inside in
@@ -527,13 +529,13 @@ module _ {C : Type 0} (tells : Type 0) (left : C → List ℕ) (faults : C → �
         }
 
     flow_by : (g : ℕ) → ((g < n) ⊎ (n ≤ g))
-        → (at_of ls0 g ≤ length (flow.samples g)) × (length (flow.samples g) ≤ at_of ls0 g + 16 * p0.block)
+        → (at_of ls0 g ≤ length (flow.samples g)) × (length (flow.samples g) ≤ at_of ls0 g + BLOCKS_PER_WINDOW * p0.block)
     flow_by g (inl m) =
         let u = up_at g m in let e = start_at g m in let f = end_at g m in let q = (lane g m).run in
         let reach = blocks_reach q.desk (get_or ls0 g l).at (to g) q.units q.blocks in
         let size : length q.units * q.desk.block ≡ length q.units * p0.block =
         ap (λ j. length q.units * j) (q.desk_block ∙ (s.resting.each_reader g r m).size) in
-        let most : length q.units * p0.block ≤ 16 * p0.block = mul-le-mul_right p0.block q.few in
+        let most : length q.units * p0.block ≤ BLOCKS_PER_WINDOW * p0.block = mul-le-mul_right p0.block q.few in
         (omega (arith, u, e, f), omega (arith, reach, size, most, e, f))
     flow_by g (inr b) =
         let e : at_of ls0 g ≡ 0 = beyond (λ (x : Lane C). x.at) ls0 g 0 (omega (arith, b, s.long)) in
@@ -557,11 +559,11 @@ module _ {C : Type 0} (tells : Type 0) (left : C → List ℕ) (faults : C → �
           samples = let e = b.at in let f = start_at g m in let h = end_at g m in
               (omega (arith, flows.0, e, f, h), omega (arith, flows.1, e, f, h));
           limit = let e = b.at in let u = x.limit in omega (arith, e, u);
-          gives = λ o t. subst (λ e. Gives (16 * p0.block) (MAX_SAMPLES - (get_or ls0 g l).at) (left x.before)
+          gives = λ o t. subst (λ e. Gives (BLOCKS_PER_WINDOW * p0.block) (MAX_SAMPLES - (get_or ls0 g l).at) (left x.before)
               ((get_or ls2 g l).at - (get_or ls0 g l).at) e (left x.now)) (sym b.end)
-              (gives_as (16 * (get_or rs0 g r).desk.block) (16 * p0.block) (MAX_SAMPLES - (get_or ls0 g l).at) (to g - (get_or ls0 g l).at)
-              ((get_or ls2 g l).at - (get_or ls0 g l).at) (left x.before) (left x.now) (get_or rs3 g r).desk.end
-              (ap (λ j. 16 * j) size) long (x.gives o t));
+              (gives_as (BLOCKS_PER_WINDOW * (get_or rs0 g r).desk.block) (BLOCKS_PER_WINDOW * p0.block) (MAX_SAMPLES - (get_or ls0 g l).at)
+              (to g - (get_or ls0 g l).at) ((get_or ls2 g l).at - (get_or ls0 g l).at) (left x.before) (left x.now)
+              (get_or rs3 g r).desk.end (ap (λ j. BLOCKS_PER_WINDOW * j) size) long (x.gives o t));
           cause = λ o e. x.cause o (sym b.end ∙ e);
           later = x.later;
           ended = λ o. (let e = x.ended o in (b.at ∙ e.0, b.end ∙ e.1, e.2));
