@@ -152,8 +152,8 @@ returns-in-Ended g c =
         _,
         taken,
         λ tells. all_read table_grid table_gain c.take.new.self read.0 (drop 32 file) (g.S.Source.left c.loop.src)
-            (g.S.Source.left c.fill-filled.new.src) (length c.loop.raws) c.fill-filled.result.n c.fill-filled.result.end c.fill-filled.new.buf
-            (read.2 tells) (fill.samples tells) (fill.taken tells) taken c.in-Ended.is,
+            (g.S.Source.left c.fill-filled.new.src) (length c.loop.raws) c.fill-filled.result.n c.fill-filled.result.end
+            c.fill-filled.new.buf (read.2 tells) (fill.samples tells) (fill.taken tells) taken c.in-Ended.is,
       );
       few = c.if-figures-gt-MAX_SAMPLES.false;
       cause = λ tells. state_with_head file c.in_ok-read_head.field-0 (c.in_ok-read_head.ensures.head tells (λ is. cc)) ∙ sound_end
