@@ -46,8 +46,7 @@ fn main(rt: HostRuntime) -> io::Result<()> {
 // How many levels each signal has.
 const LEVELS: u32 = 1 << 17;
 
-// Each way to count over each signal. The time is that to the level; by points each is taken 16
-// times.
+// Each way to count over each signal.
 fn show_counts<R: CpuClock + AllocGlobal + Print>(rt: &R, is_timed: bool) -> io::Result<()> {
     let Ok(grid) = Grid::new(128, 2, -64000, 64) else {
         return Ok(());
@@ -57,16 +56,7 @@ fn show_counts<R: CpuClock + AllocGlobal + Print>(rt: &R, is_timed: bool) -> io:
         for count in Count::ALL {
             let digest = counted_by(rt.alloc(), count, &grid, &levels)?;
             if is_timed {
-                let mut least = u128::MAX;
-                for _ in 0..REPEATS {
-                    let start = rt.process_cpu_time()?;
-                    counted_by(rt.alloc(), count, &grid, &levels)?;
-                    let end = rt.process_cpu_time()?;
-                    if end >= start {
-                        least = least.min((end - start).as_nanos());
-                    }
-                }
-                let hundredths = least.wrapping_mul(100) / LEVELS as u128;
+                let hundredths = time_of_count(rt, count, &grid, &levels)?;
                 println!(rt; "{count}_{signal} {digest} {hundredths}")?;
             } else {
                 println!(rt; "{count}_{signal} {digest}")?;
@@ -74,6 +64,26 @@ fn show_counts<R: CpuClock + AllocGlobal + Print>(rt: &R, is_timed: bool) -> io:
         }
     }
     Ok(())
+}
+
+// The least processor time of a way to count, in hundredths of a nanosecond to the level; by points
+// each is taken 16 times.
+fn time_of_count<R: CpuClock + AllocGlobal>(
+    rt: &R,
+    count: Count,
+    grid: &Grid,
+    levels: &[u16],
+) -> io::Result<u128> {
+    let mut least = u128::MAX;
+    for _ in 0..REPEATS {
+        let start = rt.process_cpu_time()?;
+        counted_by(rt.alloc(), count, grid, levels)?;
+        let end = rt.process_cpu_time()?;
+        if end >= start {
+            least = least.min((end - start).as_nanos());
+        }
+    }
+    Ok(least.wrapping_mul(100) / LEVELS as u128)
 }
 
 // Each way to make a segment, over each signal.
