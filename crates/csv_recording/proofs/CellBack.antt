@@ -1,5 +1,5 @@
 -- The cell of a sample means the sample.
-use Rattle.std.proofs.Common.{◌≡◌, ◌≢◌, ℕ, suc, ◌<◌, ◌≤◌, Bool, true, false, ◌==◌, ◌&&◌, ℤ, pos, negsuc, neg_ℤ, List, [], ◌∷◌, length, nat_lt, Some, refl, inl, inr, arith, decimal, FitsSigned, w32, lt-ltb, le-leb, ne_eqb, eqb-true}
+use Rattle.std.proofs.Common.{◌≡◌, ◌≢◌, ℕ, suc, ◌<◌, ◌≤◌, Bool, true, false, ◌==◌, ◌&&◌, ℤ, pos, negsuc, neg_ℤ, List, [], ◌∷◌, length, Some, refl, inl, inr, arith, decimal, FitsSigned, w32, lt-ltb, le-leb, ne_eqb, eqb-true}
 use Rattle.std.specs.List.{list_any}
 use Rattle.std.specs.Char.{digit_value}
 use Rattle.std.specs.Str.Parse.{AllDigits, digits_value}

@@ -51,15 +51,6 @@ magnitude_after n digits = if list_all (λ d. nat_lt (digit_value d) 10) digits 
 pub magnitude-short : (digits : List ℕ) → 0 < length digits → length digits ≤ 10 → magnitude digits ≡ magnitude_after 0 digits
 magnitude-short digits some few = grind (arith, nat_tests)
 
-pub magnitude-empty : (digits : List ℕ) → length digits ≡ 0 → magnitude digits ≡ None
-magnitude-empty digits none = grind (arith, nat_tests)
-
-pub magnitude-long : (digits : List ℕ) → 10 < length digits → magnitude digits ≡ None
-magnitude-long digits many = grind (arith, nat_tests)
-
-pub magnitude_after-other : (n d : ℕ) (digits : List ℕ) → nat_lt (digit_value d) 10 ≡ false → magnitude_after n (d ∷ digits) ≡ None
-magnitude_after-other n d digits other = rw other refl
-
 pub magnitude_after-digit : (n d : ℕ) (digits : List ℕ) → nat_lt (digit_value d) 10 ≡ true
     → magnitude_after n (d ∷ digits) ≡ magnitude_after (n * 10 + digit_value d) digits
 magnitude_after-digit n d digits digit = rw digit refl

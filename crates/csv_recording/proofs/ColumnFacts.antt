@@ -55,10 +55,6 @@ abbrev pub behind : List ℤ → Result (List ℤ) ColumnFault → Result (List 
 behind samples (Ok more) = Ok (samples ++ more)
 behind samples (Err fault) = Err fault
 
-pub behind-none : (r : Result (List ℤ) ColumnFault) → behind [] r ≡ r
-behind-none (Ok more) = refl
-behind-none (Err fault) = refl
-
 pub behind-all : (place row : ℕ) (samples : List ℤ) → behind samples (samples_of_rows place row []) ≡ Ok samples
 unfolding samples_of_rows
 behind-all place row samples = ap Ok (append-nil samples)

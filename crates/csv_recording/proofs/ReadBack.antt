@@ -10,8 +10,9 @@ use Rattle.std.specs.Int.{w32, to_le_bytes}
 use Rattle.std.proofs.lemmas.Int.{fits_signed_from_abs}
 use Rattle.std.proofs.lemmas.List.{take_at, drop_at, length-append}
 use Rattle.std.proofs.lemmas.Nat.{from_le_bytes-to_le_bytes_4}
+use Rattle.lemmas.proofs.Outcomes.{same_ok}
 use Rattle.recording.specs.Head.{IsRecorded, head_bytes, head_in, recording_head}
-use Rattle.recording.specs.Samples.{sample, samples, torn_bytes, sample_bytes}
+use Rattle.recording.specs.Samples.{samples, torn_bytes, sample_bytes}
 use Rattle.recording.specs.declared.head.Head.{Head}
 use Rattle.recording.specs.declared.head.HeadFault.TheVariants.{Short}
 use Rattle.recording.proofs.Groups.{samples-group, torn_bytes-group, bytes_of, length-bytes_of, sample-bytes_of}
@@ -113,15 +114,12 @@ cell-fits cell v is = go (means_missing (without_blanks cell)) is
     go true is = subst (λ (x : ℤ). FitsSigned w32 x) (same_Some missing v is) missing-fits
     go false is = reading-fits (without_blanks cell) v is
 
-same_ok : {A : Type 0} (a b : A) → ◌≡◌ {A = Result A ColumnFault} (Ok a) (Ok b) → a ≡ b
-same_ok a b is = cc
-
 row-fits : (place row : ℕ) (fields : List (List ℕ)) (v : ℤ) → sample_of_row place row fields ≡ Ok v → FitsSigned w32 v
 row-fits place row fields v is = go (field_at fields place) is
   where
     by_cell : (cell : List ℕ) (m : Option ℤ) → cell_sample cell ≡ m → present m (Cell row) ≡ Ok v → FitsSigned w32 v
     by_cell cell None none is = absurd (cc)
-    by_cell cell (Some x) some is = subst (λ (y : ℤ). FitsSigned w32 y) (same_ok x v is) (cell-fits cell x some)
+    by_cell cell (Some x) some is = subst (λ (y : ℤ). FitsSigned w32 y) (same_ok refl is) (cell-fits cell x some)
 
     go : (f : Option (List ℕ)) → (present f (ShortRow row (length fields)) >>= λ cell. present (cell_sample cell) (Cell row)) ≡ Ok v →
         FitsSigned w32 v
@@ -130,7 +128,7 @@ row-fits place row fields v is = go (field_at fields place) is
 
 rows-fit : (place row : ℕ) (rows : List (List (List ℕ))) (w : List ℤ) → samples_of_rows place row rows ≡ Ok w → AllFit w
 unfolding samples_of_rows AllFit
-rows-fit place row [] w is = subst AllFit (same_ok [] w is) tt
+rows-fit place row [] w is = subst AllFit (same_ok refl is) tt
 rows-fit place row (fields ∷ rows) w is =
     go (sample_of_row place row fields) refl (samples_of_rows place (row + 1) rows) (rows-fit place (row + 1) rows) is
   where
@@ -139,7 +137,7 @@ rows-fit place row (fields ∷ rows) w is =
         → (a >>= λ sample. b >>= λ samples. Ok (sample ∷ samples)) ≡ Ok w → AllFit w
     go (Err fault) first b more is = absurd (cc)
     go (Ok x) first (Err fault) more is = absurd (cc)
-    go (Ok x) first (Ok xs) more is = subst AllFit (same_ok (x ∷ xs) w is) (row-fits place row fields x first, more xs refl)
+    go (Ok x) first (Ok xs) more is = subst AllFit (same_ok refl is) (row-fits place row fields x first, more xs refl)
 
 column-fits : (name : List ℕ) (records : List (List (List ℕ))) (w : List ℤ) → column_in name records ≡ Ok w → AllFit w
 column-fits name [] w is = absurd (cc)
