@@ -1,5 +1,5 @@
 -- The front of one gauge, among those of a round.
-use Rattle.std.proofs.Common.{◌≡◌, ◌≢◌, ◌≤◌, ◌<◌, ◌+◌, ◌++◌, inl, inr, ℕ, zero, suc, List, [], ◌∷◌, length, slice_index, slice_index_or, slice_range, refl, sym, ◌∙◌, ap, subst, arith}
+use Rattle.std.proofs.Common.{◌≡◌, ◌≢◌, ◌≤◌, ◌<◌, ◌+◌, ◌++◌, inl, inr, ℕ, List, length, slice_index, slice_range, sym, ◌∙◌, ap, subst, arith}
 use Rattle.std.proofs.lemmas.Bool.{cases_eq}
 use Rattle.station.specs.Station.{Lines}
 use Rattle.held_samples.specs.Told.{gauge_lines}
@@ -14,11 +14,6 @@ use Rattle.site_config.specs.Valid.{IsConfig, name_of}
 use Rattle.recorded.specs.Recorded.{Recorded}
 use Rattle.held_samples.specs.Going.{AreNames}
 use Rattle.held_samples.specs.Fronts.{IsHeldTo, StandsIn}
-
-pub any_default : {A : Type 0} (xs : List A) (i : ℕ) (a b : A) → i < length xs → slice_index_or xs i a ≡ slice_index_or xs i b
-any_default [] i a b lt = absurd (omega (arith, lt))
-any_default (x ∷ xs) zero a b lt = refl
-any_default (x ∷ xs) (suc i) a b lt = any_default xs i a b (omega (arith, lt))
 
 pub are_names : (conf : Config) → IsConfig conf → AreNames (name_of conf) (length conf.gauges)
 are_names conf is = record { letters = is.names; differ = is.differ }

@@ -286,13 +286,6 @@ held_to held held2 p lt is = record {
   others = λ g other. ap (λ (e : List ℕ). get_or e g 0) is ∙ get_or-set_other (ends_of held) p.name.gauge g p.name.to 0 other;
 }
 
-pub line_of_some : (told : Lines) (name : List ℕ) (from to : ℕ) → from < to →
-    told ++ held_line name to ∷ [] ≡ told ++ gauge_lines name from to
-line_of_some told name from to lt = ap (λ (l : Lines). told ++ l) (some name from to lt)
-
-pub line_of_none : (told : Lines) (name : List ℕ) (from to : ℕ) → from ≡ to → told ≡ told ++ gauge_lines name from to
-line_of_none told name from to same = same_lines told ∙ ap (λ (l : Lines). told ++ l) (none name from to same)
-
 -- a fact whatever the answer is, and what telling does to the lines
 pub on_any : {A E : Type 0} {P : Type 0} (r : Result A E) → P → OnOk r P
 on_any (Ok x) p = p
