@@ -2,6 +2,7 @@
 use Rattle.std.proofs.Common.{◌≡◌, ◌≤◌, ◌<◌, ◌+◌, ℕ, List, inl, inr, length, slice_index_or, refl, sym, ◌∙◌, ap, subst, arith, []}
 use Rattle.std.proofs.lemmas.Bool.{cases_lt}
 use Rattle.std.proofs.lemmas.List.{get_or_default}
+use Rattle.std.proofs.lemmas.Option.{none-some}
 use Rattle.std.specs.Prelude.{nat_le, ◌==◌, if◌then◌else◌, Option, Some, None, Err}
 use Rattle.std.proofs.lemmas.Bool.Decides.{nat_tests}
 use Rattle.outside.specs.Site.{Files}
@@ -95,7 +96,4 @@ pub not_both : (c : Config) (heads : List Head) (n : ℕ → ℕ) (files : Files
 not_both c heads n files g f sound faulty =
     let any : Head = record { id = []; period_us = 0 } in
     let same : sound.0 ≡ faulty.0 = same_some sound.1 faulty.1 in
-    clash f (sym (sound.2 any) ∙ (ap (fault_of (slice_index_or heads g any) (n g)) same ∙ faulty.2 any))
-  where
-    clash : (f : RecordingFault) → None ≡ Some f → ⊥
-    clash f e = cc
+    none-some f (sym (sound.2 any) ∙ (ap (fault_of (slice_index_or heads g any) (n g)) same ∙ faulty.2 any))
