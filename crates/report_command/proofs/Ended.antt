@@ -1,5 +1,5 @@
 -- What each answer of `report` says.
-use Rattle.std.proofs.Common.{◌≡◌, ◌≢◌, ◌≤◌, ◌⊎◌, inl, inr, ℕ, List, refl, sym, subst, ◌∙◌, arith}
+use Rattle.std.proofs.Common.{◌≡◌, ◌≢◌, ◌≤◌, ◌⊎◌, inl, inr, ℕ, List, refl, subst, arith}
 use Rattle.std.specs.Prelude.{Result, Ok, Err}
 use Rattle.outside.specs.Fault.{Rose}
 use Rattle.station.specs.Station.{Image}
@@ -7,7 +7,7 @@ use Rattle.calibration.specs.declared.setup.Setup.{Setup}
 use Rattle.segment_store.specs.Held.{ends_of}
 use Rattle.segment_store.specs.Image.{Reads}
 use Rattle.segment_store.specs.Moments.{IsThere, StoreValue}
-use Rattle.segment_store.specs.Opening.{DiskRose, IsUnharmed, Resumes}
+use Rattle.segment_store.specs.Opening.{DiskRose, IsUnharmed}
 use Rattle.segment_store.specs.declared.fault.ResumeFault.{ResumeFault}
 use Rattle.segment_store.specs.declared.fault.ResumeFault.TheVariants as fault
 use Rattle.report.specs.Figures.{Figures}
@@ -21,23 +21,13 @@ use Rattle.status.specs.Printing.{IsPrinting}
 use Rattle.status.specs.Refused.{store_status}
 use Rattle.status.proofs.AnswerCases.{by_printing, by_store_status}
 use Rattle.report_command.specs.Printing.{Prints}
-use Rattle.report_command.specs.Answers.{MayAnswerOver, ReadsAs, ReportAnswers, IsSound}
+use Rattle.report_command.specs.Answers.{MayAnswerOver, ReadsAs, ReportAnswers}
 
 pub refused_prints : (f : ResumeFault) (c : Config) (figures : ℕ → Figures) (old : List ℕ) → Prints (store_status f) c figures old old
 refused_prints f c figures old = by_store_status (λ (x : Status). Prints x c figures old old) (λ s. refl) refl refl f
 
 pub unread_prints : (s : Status) → IsRefusal s → (c : Config) (figures : ℕ → Figures) (old : List ℕ) → Prints s c figures old old
 unread_prints s is c figures old = by_refusal (λ (x : Status). Prints x c figures old old) (λ f. refl) refl refl s is
-
-pub refused_answer : {X : Type 0} (c : Config) (image : Image) (see : X → ℕ × List ℕ) (f : ResumeFault) →
-    Resumes {X = X} c.setup image see (Err f)
-    → MayAnswerOver c image (store_status f)
-refused_answer c image see fault.NotAStore h = (fault.NotAStore, refl, h)
-refused_answer c image see (fault.Version v) h = (fault.Version v, refl, h)
-refused_answer c image see (fault.Differs field kept found) h = (fault.Differs field kept found, refl, h)
-refused_answer c image see (fault.Damaged index damage) h = (fault.Damaged index damage, refl, h)
-refused_answer c image see fault.DiskFault h = tt
-refused_answer c image see fault.OutOfMemory h = tt
 
 pub reads_as : (setup : Setup) (s : StoreValue) (seen old : Image) (leaves : Image → Type 0) → s.head.setup ≡ setup → IsThere s seen leaves
     → seen ≡ old → ReadsAs setup old
@@ -69,21 +59,6 @@ printed_complete s before now is write none =
     by_printing (λ (x : Status). (x ≡ WriteFault → Rose before now) → (x ≡ Done) ⊎ (x ≡ OutOfMemory)) (λ w. inl refl)
     (λ w. absurd (none (w refl))) s is write
 
-pub refused_disk : (X : Type 0) (f : ResumeFault) (before between now : ℕ) → DiskRose {X = X} before between (Err f) → between ≤ now
-    → store_status f ≡ DiskFault → Rose before now
-refused_disk X fault.NotAStore before between now d le is = absurd cc
-refused_disk X (fault.Version v) before between now d le is = absurd cc
-refused_disk X (fault.Differs field kept found) before between now d le is = absurd cc
-refused_disk X (fault.Damaged index damage) before between now d le is = absurd cc
-refused_disk X fault.DiskFault before between now d le is = omega (arith, d, le)
-refused_disk X fault.OutOfMemory before between now d le is = absurd cc
-
-pub refused_no_read : (f : ResumeFault) → store_status f ≢ ReadFault
-refused_no_read = by_store_status (λ s. s ≢ ReadFault) (λ f is. absurd cc) (λ is. absurd cc) (λ is. absurd cc)
-
-pub refused_no_write : (f : ResumeFault) → store_status f ≢ WriteFault
-refused_no_write = by_store_status (λ s. s ≢ WriteFault) (λ f is. absurd cc) (λ is. absurd cc) (λ is. absurd cc)
-
 pub printing_other : (s : Status) → IsPrinting s → (s ≢ ReadFault) × (s ≢ DiskFault)
 printing_other =
     by_printing (λ s. (s ≢ ReadFault) × (s ≢ DiskFault)) ((λ is. absurd cc), (λ is. absurd cc)) ((λ is. absurd cc), (λ is. absurd cc))
@@ -108,16 +83,6 @@ pub unread_answer : (conf : Result Config ConfigFault) (image : Image) (s : Stat
     ReportAnswers conf image s
 unread_answer conf image s is =
     by_refusal (λ (x : Status). MeansAs conf (Err x) → ReportAnswers conf image x) (λ f m. m) (λ m. tt) (λ m. tt) s is
-
--- a sound configuration is refused for a read that failed, or for want of memory
-pub unread_complete : (conf : Result Config ConfigFault) (image : Image) (s : Status) (before now : ℕ) → IsRefusal s → MeansAs conf (Err s)
-    → IsSound conf image → (s ≡ ReadFault → Rose before now) → (Rose before now → ⊥) → (s ≡ Done) ⊎ (s ≡ OutOfMemory)
-unread_complete conf image s before now is m sound read none =
-    by_refusal (λ (x : Status). MeansAs conf (Err x) → (x ≡ ReadFault → Rose before now) → (x ≡ Done) ⊎ (x ≡ OutOfMemory))
-    (λ f m r. absurd (clash (sym m ∙ sound.1))) (λ m r. absurd (none (r refl))) (λ m r. inr refl) s is m read
-  where
-    clash : {f : ConfigFault} {c : Config} → ◌≡◌ {A = Result Config ConfigFault} (Err f) (Ok c) → ⊥
-    clash e = absurd cc
 
 pub unread_other : (s : Status) → IsRefusal s → (s ≢ WriteFault) × (s ≢ DiskFault) × (IsPrinting s → ⊥)
 unread_other = by_refusal (λ s. (s ≢ WriteFault) × (s ≢ DiskFault) × (IsPrinting s → ⊥))

@@ -2,7 +2,8 @@
 --   agrees_held    those of the samples that the bodies stand for
 --   kept_figures   those that the bodies keep, wherever they keep some
 --   agrees_kept    they are the segments'
-use Rattle.std.proofs.Common.{◌≡◌, ◌<◌, ℕ, ℤ, zero, suc, ◌-◌, List, [], ◌∷◌, length, take, get_or, refl, sym, ap, subst, ◌∙◌, arith}
+use Rattle.std.proofs.Common.{◌≡◌, ◌<◌, ℕ, ℤ, ◌-◌, List, [], length, take, get_or, refl, sym, ap, subst, ◌∙◌, arith}
+use Rattle.std.proofs.lemmas.List.{get_or_default}
 use Rattle.std.specs.Prelude.{sum_by}
 use Rattle.station.specs.Station.{Image}
 use Rattle.calibration.specs.Gain.{GainValue}
@@ -87,17 +88,12 @@ agree_by grid v u bodies same over from k = record {
   ranges = λ j one to. ap (λ (x : SegmentValue). range_count x.simple j) same;
 }
 
-any_default : (held : List SegmentValue) (g : ℕ) (d e : SegmentValue) → g < length held → get_or held g d ≡ get_or held g e
-any_default [] g d e lt = absurd (omega (arith, lt))
-any_default (v ∷ held) zero d e lt = refl
-any_default (v ∷ held) (suc g) d e lt = any_default held g d e (omega (arith, lt))
-
 module _ (s : StoreValue) (bodies : List PartsValue) (seen : Image) (leaves : Image → Type 0) (on : IsOn s bodies seen leaves) where
   pub agrees_kept : (c : Config) → s.head.setup ≡ c.setup → Agrees c s.held (kept_figures c s.held bodies)
   agrees_kept c setup g d lt rules =
       let is = held_is s.head.setup.grid g bodies (get_or s.held g d) (on.held g d lt) in
       agree_by c.setup.grid (get_or s.held g d) (get_or s.held g (empty_at c.setup.grid 0 0 1)) (bodies_of g bodies)
-      (any_default s.held g d (empty_at c.setup.grid 0 0 1) lt) (is.grid_is ∙ ap (λ (x : Setup). x.grid) setup) is.from
+      (get_or_default s.held g d (empty_at c.setup.grid 0 0 1) lt) (is.grid_is ∙ ap (λ (x : Setup). x.grid) setup) is.from
       (held_keep s bodies seen leaves on g d lt rules)
 
 -- where nothing is printed
