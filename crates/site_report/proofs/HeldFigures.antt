@@ -1,22 +1,11 @@
 -- The figures of held segments: their own, or those of the samples that they stand for.
-use Rattle.std.proofs.Common.{◌≡◌, ◌<◌, ℕ, List, length, refl, sym, subst}
+use Rattle.std.proofs.Common.{◌≡◌, ◌<◌, ℕ, List, length, sym, subst}
 use Rattle.std.specs.Prelude.{slice_index_or}
 use Rattle.segment.specs.Segment.{SegmentValue, IsSegment}
 use Rattle.report.specs.Figures.{Agree, Figures, figures_of}
 use Rattle.calibration.specs.Grid.{GridValue}
 use Rattle.site_config.specs.declared.config.Config.{Config}
 use Rattle.site_report.specs.Report.{Agrees}
-
-pub agree_own : (v : SegmentValue) → Agree v.grid (figures_of v) (figures_of v)
-agree_own v = record {
-  samples = refl;
-  half_units = λ k from to. refl;
-  pairs = λ lo hi from to. refl;
-  crossings = λ l from to. refl;
-  peaks = λ l to. refl;
-  valleys = λ l to. refl;
-  ranges = λ k from to. refl;
-}
 
 pub agree_held : (c : Config) (held : List SegmentValue) (figures : ℕ → Figures) (g k : ℕ) (seg : SegmentValue) → Agrees c held figures
     → k ≡ g → g < length held → seg ≡ slice_index_or held k seg → seg.grid ≡ c.setup.grid → IsSegment seg
