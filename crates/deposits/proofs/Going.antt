@@ -17,13 +17,9 @@ use Rattle.deposits.specs.Deposited.{Each, unit_name, unit_names, IsOfPool, IsGo
 use Rattle.deposits.specs.Deposited.Each.{none, both}
 
 -- the front of a list, and its last item
-each_front : {A : Type 0} {P : A → Type 0} → (l : List A) (x : A) → Each P (l ++ x ∷ []) → Each P l
-each_front [] x h = none
-each_front (y ∷ l) x (both p d) = both p (each_front l x d)
-
-each_last : {A : Type 0} {P : A → Type 0} → (l : List A) (x : A) → Each P (l ++ x ∷ []) → P x
-each_last [] x (both p d) = p
-each_last (y ∷ l) x (both p d) = each_last l x d
+pub each_before : {A : Type 0} {P : A → Type 0} → (l : List A) (x : A) → Each P (l ++ x ∷ []) → Each P l × P x
+each_before [] x (both p d) = (none, p)
+each_before (y ∷ l) x (both q d) = let (front, p) = each_before l x d in (both q front, p)
 
 pub unit_names-push : (us : List CountedValue) (u : CountedValue) → unit_names (us ++ u ∷ []) ≡ unit_names us ++ unit_name u ∷ []
 unit_names-push [] u = refl
@@ -56,8 +52,8 @@ fits_still b c n s f =
 -- a prefix of good units is good
 good_front : (b : BoardValue) (p : PoolValue) (us : List CountedValue) (u : CountedValue) → IsGood b p (us ++ u ∷ []) → IsGood b p us
 good_front b p us u h = record {
-  blocks = each_front us u h.blocks;
-  units = each_front us u h.units;
+  blocks = (each_before us u h.blocks).0;
+  units = (each_before us u h.units).0;
   once = λ g i. (
       let all : hits g i (b.arrivals ++ unit_names (us ++ u ∷ [])) ≡ hits g i (b.arrivals ++ unit_names us) + hits g i (unit_name u ∷ []) =
       ap (λ l. hits g i (b.arrivals ++ l)) (unit_names-push us u)
@@ -72,7 +68,7 @@ free_last : (b : BoardValue) (p : PoolValue) (us : List CountedValue) (u : Count
     → hits u.segment.gauge u.segment.from (b.arrivals ++ unit_names us) ≡ 0
 free_last b p us u h =
     let g = u.segment.gauge in let i = u.segment.from in
-    let f = each_last us u h.blocks in
+    let f = (each_before us u h.blocks).1 in
     let all : hits g i (b.arrivals ++ unit_names (us ++ u ∷ [])) ≡ hits g i (b.arrivals ++ unit_names us) + (has g i (unit_name u) + 0) =
     ap (λ l. hits g i (b.arrivals ++ l)) (unit_names-push us u)
     ∙ ap (hits g i) (sym (append_assoc b.arrivals (unit_names us) (unit_name u ∷ [])))
@@ -94,9 +90,9 @@ deposited_more b c d p q r us u h s = record {
   pool = same_pool p q r h.pool s.pool;
   came = λ k. (
       let before = h.came (good_front b p us u k) in
-      let unit = each_last us u k.units in
+      let unit = (each_before us u k.units).1 in
       let n : length (us ++ u ∷ []) ≡ length us + 1 = length-append us (u ∷ []) in
-      let step = s.came (fits_still b c (unit_name u) h.board (each_last us u k.blocks))
+      let step = s.came (fits_still b c (unit_name u) h.board (each_before us u k.blocks).1)
       (ap (hits u.segment.gauge u.segment.from) before.arrivals ∙ free_last b p us u k)
       (unit.0 ∙ sym h.pool.block, unit.1 ∙ sym h.pool.grid) (let e = before.inside in let m = h.pool.units in let t = k.room in
       omega (arith, e, m, t, n)) in
@@ -104,7 +100,7 @@ deposited_more b c d p q r us u h s = record {
         arrivals = step.arrivals ∙ ap (λ l. l ++ unit_name u ∷ []) before.arrivals
             ∙ append_assoc b.arrivals (unit_names us) (unit_name u ∷ []) ∙ ap (λ l. b.arrivals ++ l) (sym (unit_names-push us u));
         inside = let e = before.inside in let f = step.inside in omega (arith, e, f, n);
-        carries = λ gain w a e. step.carries gain w (before.carries gain w a (each_front us u e)) (both (each_last us u e) none);
+        carries = λ gain w a e. step.carries gain w (before.carries gain w a (each_before us u e).0) (both (each_before us u e).1 none);
       });
 }
 

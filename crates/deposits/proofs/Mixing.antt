@@ -10,6 +10,7 @@ use Rattle.flow.proofs.Counting.{over_one, over_none, hits-append, changed_same,
 use Rattle.deposits.specs.Deposited.{Each}
 use Rattle.deposits.specs.Deposited.Each.{none, both}
 use Rattle.deposits.specs.Mixed.{Mixed}
+use Rattle.deposits.proofs.Going.{each_before}
 use Rattle.deposits.specs.Mixed.Mixed.{nothing, next}
 
 -- a sample is named as often as in all the workers' lists
@@ -90,10 +91,6 @@ mixed_long n h _ (next {f = f} {l = l} x v m k same others) =
 each_end : {A : Type 0} {P : A → Type 0} → (l : List A) (x : A) → Each P l → P x → Each P (l ++ x ∷ [])
 each_end [] x none p = both p none
 each_end (y ∷ l) x (both q d) p = both q (each_end l x d p)
-
-each_before : {A : Type 0} {P : A → Type 0} → (l : List A) (x : A) → Each P (l ++ x ∷ []) → Each P l × P x
-each_before [] x (both p d) = (none, p)
-each_before (y ∷ l) x (both q d) = let (front, p) = each_before l x d in (both q front, p)
 
 each_still : {A : Type 0} {P : A → Type 0} → (f h : ℕ → List A) (x : A) (v u : ℕ) → Each P (h u) → h v ≡ f v ++ x ∷ []
     → ((w : ℕ) → w ≢ v → h w ≡ f w) → ((u ≡ v) ⊎ (u ≡ v → ⊥)) → Each P (f u)
