@@ -1,5 +1,5 @@
 -- Recordings that were read so far, and the first that is refused.
-use Rattle.std.proofs.Common.{◌≡◌, ◌≢◌, ◌<◌, ◌≤◌, ℕ, ℤ, ◌+◌, List, [], ◌∷◌, ◌++◌, length, drop, get_or, sym, ◌∙◌, ap, subst, append_assoc, append-nil}
+use Rattle.std.proofs.Common.{◌≡◌, ◌≢◌, ◌<◌, ◌≤◌, ℕ, ℤ, ◌+◌, List, [], ◌∷◌, ◌++◌, length, drop, get_or, sym, ◌∙◌, ap, subst, append_assoc}
 use Rattle.std.proofs.lemmas.List.{at_drop_more, drop_all}
 use Rattle.outside.specs.Site.{Files}
 use Rattle.site_config.specs.declared.config.Gauge.{Gauge}
@@ -71,12 +71,6 @@ module _ (gauges : List Gauge) (files : Files) (g : ℕ) (gauge : Gauge) (lt : g
   refused asked s was k may =
       subst (λ (a : Status). MayAnswer a s) (sym (ap (λ (l : List Gauge). answer_from g (states_of l files)) next) ∙ was)
       (refused_here g s (file_state (files gauge.file)) (states_of (drop (g + 1) gauges) files) k may)
-
-pub read_all : (gauges : List Gauge) (files : Files) (g : ℕ) (read : List (List ℤ)) → length gauges ≤ g →
-    read ++ recordings_of (drop g gauges) files ≡ recordings_of gauges files
-    → read ≡ recordings_of gauges files
-read_all gauges files g read le was =
-    sym (append-nil read) ∙ ap (λ (l : List Gauge). read ++ recordings_of l files) (sym (drop_all g gauges le)) ∙ was
 
 pub sound_all : (gauges : List Gauge) (files : Files) (g : ℕ) (asked : Status) → length gauges ≤ g →
     answer_from g (states_of (drop g gauges) files) ≡ asked → asked ≡ Done
