@@ -1,7 +1,8 @@
 -- Over a sound store and sound recordings the answer is `Done` or want of memory, unless a count of the outside rose.
-use Rattle.std.proofs.Common.{◌≡◌, ◌≤◌, ◌<◌, ◌⊎◌, inl, inr, ℕ, ◌+◌, ◌-◌, ℤ, List, [], length, take, drop, get_or, set, refl, sym, ◌∙◌, ap, subst, arith}
-use Rattle.std.specs.Prelude.{Option, Some, None, Result, Ok, Err, slice_index, slice_index_or}
+use Rattle.std.proofs.Common.{◌≡◌, ◌≤◌, ◌<◌, ◌⊎◌, inl, inr, ℕ, ◌+◌, ◌-◌, ℤ, List, length, take, drop, get_or, set, refl, sym, ◌∙◌, ap, subst, arith}
+use Rattle.std.specs.Prelude.{Option, Some, Result, Ok, Err, slice_index, slice_index_or}
 use Rattle.std.proofs.lemmas.Bool.{cases_eq, cases_lt}
+use Rattle.std.proofs.lemmas.Option.{none-some}
 use Rattle.std.proofs.lemmas.List.{get_or-set_same, get_or-set_other, get_or_past, length-drop, length-take, length-set}
 use Rattle.station.specs.Station.{Image}
 use Rattle.outside.specs.Site.{Files}
@@ -80,9 +81,6 @@ all_opened c files n heads within fit g lt =
           (subst (λ (o : Option (List ℕ)). slice_index n g ≤ length (samples (body_in o))) f.1 (within g)),
     )
 
-none_some : {o : Option Status} {s : Status} → o ≡ None → o ≡ Some s → ⊥
-none_some {o} {s} is also = let e : None ≡ Some s = sym is ∙ also in cc
-
 pub run_complete : (c : Config) (heads : List Head) (n : ℕ → ℕ) (files : Files) → AllOpened c heads n files (length c.gauges)
     → AllSound c files (length c.gauges) → (s : Status) → IsRunning s → RunAnswers c heads n files s → IsComplete s
 run_complete c heads n files opened sound Done k a = tt
@@ -91,8 +89,8 @@ run_complete c heads n files opened sound WriteFault k a = tt
 run_complete c heads n files opened sound DiskFault k a = tt
 run_complete c heads n files opened sound OutOfMemory k a = tt
 run_complete c heads n files opened sound (Recording g f) k a = not_both c heads n files g f (opened g a.0) a.2
-run_complete c heads n files opened sound (Torn g b) k a = let e = a.1 in none_some (sound g e.0) e.2
-run_complete c heads n files opened sound (TooLong g) k a = let e = a.1 in none_some (sound g e.0) e.2
+run_complete c heads n files opened sound (Torn g b) k a = let e = a.1 in none-some (Torn g b) (sym (sound g e.0) ∙ e.2)
+run_complete c heads n files opened sound (TooLong g) k a = let e = a.1 in none-some (TooLong g) (sym (sound g e.0) ∙ e.2)
 run_complete c heads n files opened sound Usage k a = k
 run_complete c heads n files opened sound (BadConfig f) k a = k
 run_complete c heads n files opened sound (BadStore f) k a = k
