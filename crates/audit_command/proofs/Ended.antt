@@ -1,5 +1,5 @@
 -- What each answer of `audit` says.
-use Rattle.std.proofs.Common.{◌≡◌, ◌≢◌, ◌<◌, ◌≤◌, ◌⊎◌, inl, inr, ℕ, ℤ, List, [], length, take, get_or, refl, sym, ap, subst, ◌∙◌, arith}
+use Rattle.std.proofs.Common.{◌≡◌, ◌≢◌, ◌<◌, ◌≤◌, ◌⊎◌, inl, inr, ℕ, ℤ, List, length, take, get_or, refl, sym, ap, subst, ◌∙◌, arith}
 use Rattle.std.proofs.lemmas.Bool.{cases_lt}
 use Rattle.std.proofs.lemmas.List.{get_or_past}
 use Rattle.std.specs.Prelude.{slice_index, Result, Ok, Err}
@@ -18,8 +18,6 @@ use Rattle.segment_store.specs.Held.{ends_of}
 use Rattle.segment_store.specs.Holds.{AllStand, gain_at}
 use Rattle.segment_store.specs.Image.{Reads}
 use Rattle.segment_store.specs.Moments.{IsOn, StoreValue}
-use Rattle.segment_store.specs.Opening.{Resumes}
-use Rattle.segment_store.specs.declared.fault.ResumeFault.{ResumeFault}
 use Rattle.segment_store.specs.declared.fault.ResumeFault.TheVariants as fault
 use Rattle.segment_store.proofs.HeldKeep.{held_keep}
 use Rattle.segment_store.proofs.HeldStand.{held_stand}
@@ -38,8 +36,6 @@ use Rattle.status.specs.declared.status.Status.{Status}
 use Rattle.status.specs.declared.status.Status.TheVariants.{Done, Usage, Config as BadConfig, Store as BadStore, Recording, Torn, ReadFault, WriteFault, DiskFault, OutOfMemory, TooLong, Differs}
 use Rattle.config_reading.specs.Reading.{MeansAs, IsRefusal}
 use Rattle.status.specs.Printing.{IsPrinting}
-use Rattle.status.specs.Refused.{store_status}
-use Rattle.status.proofs.AnswerCases.{by_store_status}
 use Rattle.report_command.specs.Printing.{held_of}
 use Rattle.report_command.specs.Answers.{ReadsAs}
 use Rattle.config_reading.proofs.Refusing.{by_refusal}
@@ -153,9 +149,6 @@ module _ (c : Config) (heads : List Head) (from to : Meant) (ends : List ℕ) (f
       by_auditing P (λ b. (b.0, found Done b.1)) (λ b. (b.0, found WriteFault b.1)) (by_recounting P (λ g f b. b) (λ b. tt) (λ b. tt))
       (by_other P (λ g v x y b. (b.0, found (Differs g v x y) b.1))) s is a
 
-pub finds_refused : (c : Config) (meant : Meant) (w : ℕ → List ℤ) (f : ResumeFault) → Finds c meant w (store_status f)
-finds_refused c meant w = by_store_status (Finds c meant w) (λ f. tt) tt tt
-
 pub finds_unread : (c : Config) (meant : Meant) (w : ℕ → List ℤ) (s : Status) → IsRefusal s → Finds c meant w s
 finds_unread c meant w = by_refusal (Finds c meant w) (λ f. tt) tt tt
 
@@ -179,18 +172,6 @@ module _ (s : StoreValue) (bodies : List PartsValue) (seen : Image) (leaves : Im
     of_setup = of_setup;
     reads = subst (Reads s.head bodies (ends_of s.held)) same on.reads;
   }
-
-pub refused_answers : {X : Type 0} (c : Config) (image : Image) (files : Files) (see : X → ℕ × List ℕ) (f : ResumeFault)
-    → Resumes {X = X} c.setup image see (Err f) → MayAnswerOver c image files (store_status f)
-refused_answers c image files see fault.NotAStore h = (fault.NotAStore, refl, h)
-refused_answers c image files see (fault.Version v) h = (fault.Version v, refl, h)
-refused_answers c image files see (fault.Differs field kept found) h = (fault.Differs field kept found, refl, h)
-refused_answers c image files see (fault.Damaged index damage) h = (fault.Damaged index damage, refl, h)
-refused_answers c image files see fault.DiskFault h = tt
-refused_answers c image files see fault.OutOfMemory h = tt
-
-pub refused_unprinted : (f : ResumeFault) (c : Config) (old : List ℕ) → Prints (store_status f) c old old
-refused_unprinted f c old = by_store_status (λ (x : Status). Prints x c old old) (λ s. refl) refl refl f
 
 pub held_complete : (c : Config) (heads : List Head) (bodies : List PartsValue) (ends : List ℕ) (files : Files) (s : Status)
     → HeldAnswers c heads (HasKept bodies) ends files s → AllOpened c heads (slice_index ends) files (length c.gauges)
