@@ -1,11 +1,11 @@
 -- Rounds over made recordings, and what was joined so far.
-use Rattle.std.proofs.Common.{◌≡◌, ◌≢◌, ◌≤◌, ◌<◌, ⊎_elim, ℕ, ◌+◌, ◌-◌, ◌*◌, ◌++◌, min, ℤ, List, [], ◌∷◌, length, take, drop, refl, sym, ◌∙◌, ap, subst, arith}
+use Rattle.std.proofs.Common.{◌≡◌, ◌≢◌, ◌≤◌, ◌<◌, ⊎_elim, ℕ, ◌+◌, ◌-◌, ◌*◌, ◌++◌, min, ℤ, List, length, take, drop, refl, sym, ◌∙◌, ap, subst, arith}
 use Rattle.std.proofs.Math.Seq.{take-add}
 use Rattle.std.proofs.lemmas.List.{get_or-replicate}
 use Rattle.std.specs.Prelude.{Some, slice_index_or}
 use Rattle.std.specs.List.{All}
 use Rattle.outside.specs.Fault.{Rose}
-use Rattle.recording.specs.Samples.{samples, torn_bytes, sample_bytes}
+use Rattle.recording.specs.Samples.{samples, sample_bytes}
 use Rattle.recording.specs.declared.TheConstants.{MAX_SAMPLES}
 use Rattle.calibration.specs.Gain.{GainValue}
 use Rattle.segment_rules.specs.declared.name.Name.{Name}
@@ -16,6 +16,7 @@ use Rattle.lane_ends.specs.declared.end.End.{End}
 use Rattle.lane_ends.specs.declared.end.End.TheVariants.{More, Ended, Torn, ReadFault, TooLong}
 use Rattle.lane_ends.proofs.Giving.{more_or_not}
 use Rattle.lane_loans.specs.declared.lane.Lane.{Lane}
+use Rattle.lane_loans.proofs.Walking.{some_of}
 use Rattle.round_making.specs.Resting.{PreparedValue}
 use Rattle.round_making.specs.Round.{LaneDone, FrontDone, RoundDone}
 use Rattle.site_lanes.specs.Lanes.{Stood, IsLane, AreReady, AreLanes, IsWhole}
@@ -212,13 +213,9 @@ module _ (seed all rounds : ℕ) (few : all ≤ 1000000) {p p2 : PreparedValue} 
   pub can_join_all : (g : ℕ) (e : SegmentValue) → g < 4 → CanJoin p2.board g (slice_index_or totals g e)
   can_join_all g e here =
       let there : g < length lanes = omega (arith, here, was.lanes_long) in
-      let d = any_of lanes g there in
+      let d = some_of lanes (omega (arith, there)) in
       can_join seed all g here (lane_done g d here) (was.are g d there) (slice_index_or totals g e) (was.counted g d e here) p2.board
       (done.board.0 ∙ was.grid) (λ front is. done.front g d front (omega (arith, here, was.gauges)) is) (within g d here)
-    where
-      any_of : (xs : List DemoLane) (g : ℕ) → g < length xs → DemoLane
-      any_of [] g lt = absurd (omega (arith, lt))
-      any_of (x ∷ xs) g lt = x
 
   pub counted_more : (totals2 : List SegmentValue) → length totals2 ≡ 4
       → ((g : ℕ) (e : SegmentValue) → g < 4 → HasJoined p2.board g (slice_index_or totals g e) (slice_index_or totals2 g e))
@@ -252,13 +249,9 @@ pub counted_all : (seed all rounds : ℕ) (p : PreparedValue) (lanes : List Demo
     → IsCounted seed all rounds p lanes totals → (g : ℕ) (e : SegmentValue) → g < 4 → IsTotal seed all g all (slice_index_or totals g e)
 counted_all seed all rounds p lanes totals enough c g e lt =
     let there : g < length lanes = omega (arith, lt, c.lanes_long) in
-    let d = any_of lanes g there in
+    let d = some_of lanes (omega (arith, there)) in
     subst (λ (n : ℕ). IsTotal seed all g n (slice_index_or totals g e)) (c.at g d there ∙ reached _ _ enough (length-made all (seed + g)))
     (c.counted g d e lt)
   where
-    any_of : (xs : List DemoLane) (g : ℕ) → g < length xs → DemoLane
-    any_of [] g lt = absurd (omega (arith, lt))
-    any_of (x ∷ xs) g lt = x
-
     reached : (a len : ℕ) → all ≤ a → len ≡ all → min a len ≡ all
     reached a len le is = grind (arith, le, is)

@@ -1,16 +1,16 @@
 -- The text of all gauges, line by line.
-use Rattle.std.proofs.Common.{◌≡◌, ◌<◌, ℕ, zero, suc, ◌+◌, List, [], ◌∷◌, ◌++◌, length, map, take, refl, sym, ap, ◌∙◌, subst, arith, append_assoc, append-nil}
+use Rattle.std.proofs.Common.{◌≡◌, ◌<◌, ℕ, suc, ◌+◌, List, [], ◌++◌, length, map, sym, ap, ◌∙◌, subst, arith, append_assoc, append-nil}
 use Rattle.std.proofs.lemmas.List.{take_all}
 use Rattle.std.specs.Prelude.{ℤ, slice_index_or}
 use Rattle.calibration.specs.Grid.{GridValue}
 use Rattle.calibration.specs.History.{history}
 use Rattle.turning_points.specs.Points.{points}
 use Rattle.four_point.specs.Reduction.{IsFourPointResult}
-use Rattle.lane_loans.proofs.Walking.{map_at}
+use Rattle.lane_loans.proofs.Walking.{map_at, some_of}
 use Rattle.segment.specs.Segment.{SegmentValue, Stands}
 use Rattle.tally.specs.Counts.{count_of}
 use Rattle.demo_command.specs.Made.{demo_grid, demo_gain, levels_at, made_at}
-use Rattle.demo_command.specs.Summary.{IsResidueOf, IsSummary, gauge_line, gauge_lines, table_halves, head_line, summary}
+use Rattle.demo_command.specs.Summary.{IsResidueOf, IsSummary, gauge_line, gauge_lines, table_halves, head_line}
 use Rattle.demo_command.specs.Totals.{IsTotal}
 use Rattle.demo_command.proofs.MadeBytes.{length-made}
 
@@ -55,7 +55,7 @@ module _ (seed samples : ℕ) (totals : List SegmentValue) (long : length totals
       → IsSummary seed samples text
   text_all text k four is = record {
     residue = residue_at totals;
-    residues = λ g lt. let d = any_of totals g (omega (arith, lt, long)) in
+    residues = λ g lt. let d = some_of totals (omega (arith, long)) in
         let s = stands_at g d lt in
         let t = all g d lt in
         subst (IsResidueOf (levels_at seed samples g)) (sym (residue_is g d lt)) (record {
@@ -65,7 +65,4 @@ module _ (seed samples : ℕ) (totals : List SegmentValue) (long : length totals
               (ap (λ (x : GridValue). history x demo_gain (made_at seed samples g)) t.grid) s.history.result;
         });
     is = is ∙ ap (λ (n : ℕ). head_line seed samples ++ gauge_lines (line_at seed samples totals) n) four;
-  } where
-    any_of : (xs : List SegmentValue) (g : ℕ) → g < length xs → SegmentValue
-    any_of [] g lt = absurd (omega (arith, lt))
-    any_of (x ∷ xs) g lt = x
+  }

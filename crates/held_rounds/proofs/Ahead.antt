@@ -4,13 +4,14 @@ use Rattle.std.specs.List.{All}
 use Rattle.std.specs.Prelude.{slice_index, slice_index_or}
 use Rattle.station.specs.Station.{Lines}
 use Rattle.lane_loans.specs.declared.lane.Lane.{Lane}
+use Rattle.lane_loans.proofs.Walking.{some_of}
 use Rattle.round_making.specs.Resting.{PreparedValue}
 use Rattle.round_making.specs.Round.{RoundDone}
 use Rattle.recorded.specs.Recorded.{Recorded}
 use Rattle.held_samples.specs.Told.{round_lines, held_lines, held_after}
 use Rattle.site_lanes.specs.Lanes.{AreLanes, AreHeldTo, IsWhole}
 use Rattle.held_rounds.specs.Telling.{HasTold}
-use Rattle.held_rounds.proofs.RoundOf.{any_of, at_next, lines_more}
+use Rattle.held_rounds.proofs.RoundOf.{at_next, lines_more}
 
 pub record IsAhead {C : Type 0} (block : ℕ) (r : Recorded) (n : List ℕ) (told told2 : Lines) (ends : List ℕ)
     (lanes : List (Lane C)) : Type 0 where
@@ -25,7 +26,7 @@ held_at : {C : Type 0} (block : ℕ) (r : Recorded) (n : List ℕ) (k : ℕ) (en
     → (g : ℕ) → g < r.gauges → slice_index ends g ≡ held_after block r n k g
 held_at block r n k ends lanes many held at g lt =
     let within : g < length lanes = omega (arith, lt, many) in
-    let d = any_of lanes g within in (held g d within).1 ∙ at g d within
+    let d = some_of lanes (omega (arith, within)) in (held g d within).1 ∙ at g d within
 
 module _ {C : Type 0} {tells : Type 0} {left : C → List ℕ} {faults : C → ℕ} {old new : PreparedValue} {lanes lanes2 : List (Lane C)}
     (done : RoundDone tells left faults old new lanes lanes2) (count : length lanes ≡ old.gauges) (r : Recorded)

@@ -13,6 +13,7 @@ use Rattle.segment_rules.specs.declared.name.Name.{Name}
 use Rattle.recording.specs.Samples.{samples}
 use Rattle.lane_loans.specs.declared.lane.Lane.{Lane}
 use Rattle.lane_loans.specs.Lent.{at_of}
+use Rattle.lane_loans.proofs.Walking.{some_of}
 use Rattle.round_making.specs.Resting.{PreparedValue}
 use Rattle.round_making.specs.Round.{RoundDone}
 use Rattle.recorded.specs.Recorded.{Recorded}
@@ -23,10 +24,6 @@ use Rattle.held_samples.proofs.Going.{round_both}
 use Rattle.site_lanes.proofs.AfterRound.{stood_more}
 use Rattle.site_lanes.proofs.AllLanes.{all_reached}
 use Rattle.lane_ends.proofs.Giving.{more_or_not}
-
-pub any_of : {A : Type 0} (xs : List A) (g : ℕ) → g < length xs → A
-any_of [] g lt = absurd (omega (arith, lt))
-any_of (x ∷ xs) g lt = x
 
 pub at_is : {C : Type 0} (lanes : List (Lane C)) (g : ℕ) (d : Lane C) → g < length lanes → at_of lanes g ≡ (slice_index_or lanes g d).at
 at_is [] g d lt = absurd (omega (arith, lt))
@@ -67,7 +64,7 @@ module _ {C : Type 0} {tells : Type 0} {left : C → List ℕ} {faults : C → �
   pub fronts_next : (setup : Setup) (gauges : ℕ) → gauges ≡ old.gauges → old.grid ≡ setup.grid → AreFronts setup ends new.board gauges
   fronts_next setup gauges many grid g front lt is =
       let within : g < length lanes = omega (arith, lt, many, count) in
-      let d = any_of lanes g within in
+      let d = some_of lanes (omega (arith, within)) in
       let done_front = done.front g d front (omega (arith, lt, many)) is in
       let was = held g d within in
       record {
@@ -85,13 +82,13 @@ module _ {C : Type 0} {tells : Type 0} {left : C → List ℕ} {faults : C → �
   pub fronts_end : (gauges : ℕ) → gauges ≡ old.gauges → FrontsEnd (at_of lanes2) new.board gauges
   fronts_end gauges many g front lt is =
       let within : g < length lanes2 = omega (arith, lt, many, count, done.long) in
-      let d = any_of lanes2 g within in
+      let d = some_of lanes2 (omega (arith, within)) in
       ap (λ (x : Name). x.to) (done.front g d front (omega (arith, lt, many)) is).name ∙ sym (at_is lanes2 g d within)
 
   pub fronts_stand : (r : Recorded) → r.gauges ≡ old.gauges → tells → AreLanes tells left r lanes → FrontsStand r new.board
   fronts_stand r many t are g front lt is some =
       let within : g < length lanes = omega (arith, lt, many, count) in
-      let d = any_of lanes g within in
+      let d = some_of lanes (omega (arith, within)) in
       let f = done.front g d front (omega (arith, lt, many)) is in
       let l = done.lane g d (omega (arith, lt, many)) in
       let was = are g d within in
