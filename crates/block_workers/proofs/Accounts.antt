@@ -1,51 +1,54 @@
 -- The blocks of a round, counted over its workers.
-use Rattle.std.proofs.Common.{◌≡◌, ◌≤◌, ◌<◌, ◌+◌, ◌%◌, ℕ, List, [], ◌∷◌, ◌++◌, refl, sym, ap, ◌∙◌, arith, append_assoc, Bool, true, false, cond, eqb}
+use Rattle.std.proofs.Common.{◌≡◌, ◌≢◌, ◌≤◌, ◌<◌, ◌+◌, ◌%◌, ℕ, List, [], ◌∷◌, ◌++◌, map, refl, sym, ap, ◌∙◌, arith, append_assoc, Bool, true, false, cond, eqb}
 use Rattle.std.proofs.lemmas.Bool.{eq-eqb, ne_eqb}
 use Rattle.std.proofs.lemmas.List.{append_cancel_left}
 use Rattle.segment_rules.specs.declared.name.Name.{Name}
 use Rattle.flow.specs.Flow.{name_of_samples, has, hits}
 use Rattle.flow.specs.Kept.{over, between}
 use Rattle.flow.proofs.Counting.{over_same, over_one, over_none, over_sum, between_parts, nothing_between}
-use Rattle.block_pool.specs.Units.{FilledValue}
+use Rattle.block_pool.specs.Units.{FilledValue, CountedValue}
 use Rattle.block_workers.specs.declared.item.Item.{Item}
-use Rattle.block_workers.specs.declared.item.Item.TheVariants.{Block, Mark}
+use Rattle.block_workers.specs.declared.item.Item.TheVariants.{Mark}
+use Rattle.block_workers.specs.declared.item.Back.{Back}
+use Rattle.block_workers.specs.declared.item.Back.TheVariants.{Over}
 use Rattle.block_workers.specs.declared.desk.Desk.{Desk}
-use Rattle.block_workers.specs.Dealing.{round_of, dealt}
+use Rattle.block_workers.specs.Dealing.{block_of, round_of, dealt}
+use Rattle.block_workers.specs.Working.{back_of, return_round}
 use Rattle.block_workers.specs.Reading.{AreBlocks}
 use Rattle.block_workers.specs.Reading.AreBlocks.{none, last, more}
 use Rattle.arrivals.specs.Arrivals.{names_of}
 
--- two rounds of a ring that begin alike are one, and nothing is behind it
-abbrev rest_of : List Item → List Item
-rest_of [] = []
-rest_of (x ∷ xs) = xs
+-- rounds of a ring: each puts some items, and then the mark, which is none of them
+module _ {A I : Type 0} (put : A → I) (mark : I) (same : (x y : A) → put x ≡ put y → x ≡ y) (other : (x : A) → put x ≢ mark) where
+  abbrev marked : List A → List I
+  marked us = map put us ++ mark ∷ []
 
-abbrev block_in : FilledValue → List Item → FilledValue
-block_in d [] = d
-block_in d (Block u ∷ l) = u
-block_in d (Mark ∷ l) = d
+  -- two that begin alike are one, and nothing is behind it
+  same_round : (us vs : List A) (rest : List I) → marked us ≡ marked vs ++ rest → (vs ≡ us) × (rest ≡ [])
+  same_round [] [] rest e = (refl, let no_more : [] ≡ rest = cc in sym no_more)
+  same_round [] (v ∷ vs) rest e = absurd (other v (let head : put v ≡ mark = cc in head))
+  same_round (u ∷ us) [] rest e = absurd (other u (let head : put u ≡ mark = cc in head))
+  same_round (u ∷ us) (v ∷ vs) rest e =
+      let head : put v ≡ put u = cc in
+      let behind : marked us ≡ marked vs ++ rest = cc in
+      let tail_is = same_round us vs rest behind in
+      (ap (λ x. x ∷ vs) (same v u head) ∙ ap (λ l. u ∷ l) tail_is.0, tail_is.1)
 
-abbrev kind_of : List Item → ℕ
-kind_of [] = 0
-kind_of (Block u ∷ l) = 1
-kind_of (Mark ∷ l) = 2
+  -- a ring that was even before a round is even after it, and what was taken is what was fed
+  even : (f fed taken left : List I) (us vs : List A) → fed ≡ f ++ marked us → taken ≡ f ++ marked vs → fed ≡ taken ++ left
+      → (vs ≡ us) × (fed ≡ taken)
+  even f fed taken left us vs a b e =
+      let both_ends : f ++ marked us ≡ f ++ (marked vs ++ left) = sym a ∙ e ∙ ap (λ t. t ++ left) b ∙ append_assoc f (marked vs) left in
+      let (is, no_more) = same_round us vs left (append_cancel_left f (marked us) (marked vs ++ left) both_ends) in
+      (is, rw (a, b, is) refl)
 
-pub same_round : (us vs : List FilledValue) (rest : List Item) → round_of us ≡ round_of vs ++ rest → (vs ≡ us) × (rest ≡ [])
-same_round [] [] rest e = (refl, sym (ap rest_of e))
-same_round [] (v ∷ vs) rest e = let k : 2 ≡ 1 = ap kind_of e in absurd (omega (arith, k))
-same_round (u ∷ us) [] rest e = let k : 1 ≡ 2 = ap kind_of e in absurd (omega (arith, k))
-same_round (u ∷ us) (v ∷ vs) rest e =
-    let tail_is = same_round us vs rest (ap rest_of e) in
-    let head : u ≡ v = ap (block_in u) e in
-    (ap (λ x. x ∷ vs) (sym head) ∙ ap (λ l. u ∷ l) tail_is.0, tail_is.1)
-
--- a ring that was even before a round is even after it, and what was taken is what was dealt
-pub even : (f fed taken left : List Item) (us vs : List FilledValue) → fed ≡ f ++ round_of us → taken ≡ f ++ round_of vs
+pub even_round : (f fed taken left : List Item) (us vs : List FilledValue) → fed ≡ f ++ round_of us → taken ≡ f ++ round_of vs
     → fed ≡ taken ++ left → (vs ≡ us) × (fed ≡ taken)
-even f fed taken left us vs a b e =
-    let both_ends : f ++ round_of us ≡ f ++ (round_of vs ++ left) = sym a ∙ e ∙ ap (λ t. t ++ left) b ∙ append_assoc f (round_of vs) left in
-    let (same, no_more) = same_round us vs left (append_cancel_left f (round_of us) (round_of vs ++ left) both_ends) in
-    (same, rw (a, b, same) refl)
+even_round = even block_of Mark (λ x y e. cc) (λ x e. absurd cc)
+
+pub even_return : (f fed taken left : List Back) (us vs : List CountedValue) → fed ≡ f ++ return_round us → taken ≡ f ++ return_round vs
+    → fed ≡ taken ++ left → (vs ≡ us) × (fed ≡ taken)
+even_return = even back_of Over (λ x y e. cc) (λ x e. absurd cc)
 
 dealt_test : (g i : ℕ) (u : FilledValue) (l : List FilledValue) (b : Bool)
     → hits g i (names_of (cond b (u ∷ l) l)) ≡ cond b (has g i u.name) 0 + hits g i (names_of l)

@@ -27,7 +27,7 @@ use Rattle.block_workers.specs.Reading.{IsUnit, AreBlocks, AreWhole, samples_of,
 use Rattle.block_workers.specs.Reading.AreBlocks.{none, last, more}
 use Rattle.block_workers.specs.Reading.AreWhole.{empty, whole}
 use Rattle.block_workers.specs.Jobs.{NotRead}
-use Rattle.block_workers.proofs.Settling.{same_feeders}
+use Rattle.gauge_ring.proofs.Ends.{same_feeders}
 use Rattle.lemmas.proofs.Lists.{all_written}
 
 pub unit_is : (d : Desk) (n : ℕ) (kind : GridValue) (buf out : List ℤ) (u : FilledValue)

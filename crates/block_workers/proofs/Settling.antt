@@ -2,11 +2,7 @@
 use Rattle.std.proofs.Common.{◌≡◌, ◌⊎◌, inl, inr, ◌<◌, ℕ, List, ◌++◌, length, get_or, set, refl, sym, ap, ◌∙◌, subst, rules}
 use Rattle.std.proofs.lemmas.List.{get_or-set_same, get_or-set_other}
 use Rattle.std.proofs.lemmas.Bool.{cases_eq}
-use Rattle.gauge_ring.specs.declared.taker.Taker.{Taker}
-use Rattle.gauge_ring.specs.declared.feeder.Feeder.{Feeder}
-use Rattle.gauge_ring.specs.Ends.{AreOneRing, IsSameFeeder, IsSameTaker}
-use Rattle.block_workers.specs.declared.item.Item.{Item}
-use Rattle.block_workers.specs.declared.item.Back.{Back}
+use Rattle.gauge_ring.proofs.Ends.{same_feeders, same_takers, still_one}
 use Rattle.block_workers.specs.declared.worker.Worker.{Worker}
 use Rattle.block_workers.specs.declared.jobs.Reader.{Reader}
 use Rattle.block_workers.specs.Jobs.{SameRead, SameWork, RingAt, Fifo}
@@ -23,22 +19,10 @@ pub set_related : {A : Type 0} → (R : A → A → Type 0) (xs ys : List A) (k 
     → R (get_or xs i d) (get_or (set ys k y) i d)
 set_related R xs ys k y l h new i d = set_or R xs ys k y i d l (h i d) (new d) (cases_eq i k)
 
-pub same_takers : (a b c : Taker Item) → IsSameTaker a b → IsSameTaker b c → IsSameTaker a c
-same_takers a b c h k = search (rules, h, k)
-
-pub same_feeders : (a b c : Feeder Item) → IsSameFeeder a b → IsSameFeeder b c → IsSameFeeder a c
-same_feeders a b c h k = search (rules, h, k)
-
-pub same_backs : (a b c : Feeder Back) → IsSameFeeder a b → IsSameFeeder b c → IsSameFeeder a c
-same_backs a b c h k = search (rules, h, k)
-
-pub still_one : (f f' : Feeder Item) (t t' : Taker Item) → AreOneRing f t → IsSameFeeder f f' → IsSameTaker t t' → AreOneRing f' t'
-still_one f f' t t' h a b = search (rules, h, a, b)
-
 pub work_on : (a b c : Worker) → SameWork a b → SameWork b c → SameWork a c
 work_on a b c h k = record {
   number = k.number ∙ h.number;
-  back = (k.back.0 ∙ h.back.0, same_backs a.back b.back c.back h.back.1 k.back.1);
+  back = (k.back.0 ∙ h.back.0, same_feeders a.back b.back c.back h.back.1 k.back.1);
   takers = k.takers ∙ h.takers;
   taken = λ g d. k.taken g d ∙ h.taken g d;
   ends = λ g d. same_takers (get_or a.takers.items g d) (get_or b.takers.items g d) (get_or c.takers.items g d) (h.ends g d) (k.ends g d);

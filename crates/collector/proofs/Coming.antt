@@ -5,6 +5,7 @@ use Rattle.std.proofs.lemmas.Bool.{cases_eq}
 use Rattle.std.proofs.Math.ListN.{length-set}
 use Rattle.gauge_ring.specs.declared.taker.Taker.{Taker}
 use Rattle.gauge_ring.specs.Ends.{taken, IsSameTaker}
+use Rattle.gauge_ring.proofs.Ends.{same_takers}
 use Rattle.block_pool.specs.Units.{CountedValue, PoolValue}
 use Rattle.board.specs.Board.{BoardValue}
 use Rattle.flow.specs.Flow.{with_value}
@@ -20,9 +21,6 @@ use Rattle.block_workers.proofs.Blocks.{no_both}
 use Rattle.collector.specs.declared.collecting.Return.{Return}
 use Rattle.collector.specs.Collecting.{IsAwaited, NoUnit, OneUnit, Looked, Coming, Collecting, Collected}
 
-same_returns : (a b c : Taker Back) → IsSameTaker a b → IsSameTaker b c → IsSameTaker a c
-same_returns a b c h k = search (rules, h, k)
-
 same_return : (a : Taker Back) → IsSameTaker a a
 same_return a = search rules
 
@@ -31,12 +29,12 @@ still_coming : (old now new : Return) (us : List CountedValue) → Coming old no
     → (((new.awaited ≡ now.awaited) × (taken new.taker ≡ taken now.taker)) ⊎
     (IsAwaited now × (new.awaited ≡ false) × (taken new.taker ≡ taken now.taker ++ Over ∷ []))) → Coming old new us
 still_coming old now new us h s (inl e) = record {
-  same = same_returns old.taker now.taker new.taker h.same s;
+  same = same_takers old.taker now.taker new.taker h.same s;
   awaited = λ o. e.1 ∙ h.awaited (sym e.0 ∙ o);
   marked = λ o. e.1 ∙ h.marked (sym e.0 ∙ o);
 }
 still_coming old now new us h s (inr e) = record {
-  same = same_returns old.taker now.taker new.taker h.same s;
+  same = same_takers old.taker now.taker new.taker h.same s;
   awaited = λ o. absurd (no_both new.awaited o e.1);
   marked = λ o. e.2 ∙ ap (λ l. l ++ Over ∷ []) (h.awaited e.0) ∙ append_assoc (taken old.taker) (map back_of us) (Over ∷ []);
 }
@@ -45,7 +43,7 @@ still_coming old now new us h s (inr e) = record {
 more_coming : (old now new : Return) (us : List CountedValue) (u : CountedValue) → Coming old now us → IsSameTaker now.taker new.taker
     → IsAwaited now × IsAwaited new → taken new.taker ≡ taken now.taker ++ back_of u ∷ [] → Coming old new (us ++ u ∷ [])
 more_coming old now new us u h s o t = record {
-  same = same_returns old.taker now.taker new.taker h.same s;
+  same = same_takers old.taker now.taker new.taker h.same s;
   awaited = λ k. t ∙ ap (λ l. l ++ back_of u ∷ []) (h.awaited o.0) ∙ append_assoc (taken old.taker) (map back_of us) (back_of u ∷ [])
       ∙ ap (λ l. taken old.taker ++ l) (sym (map-append back_of us (u ∷ [])));
   marked = λ k. absurd (no_both new.awaited o.1 k);

@@ -1,5 +1,5 @@
 -- What a round does to a reader and to a worker, from lending to settling.
-use Rattle.std.proofs.Common.{rules, ◌≡◌, ◌≢◌, inl, inr, ◌≤◌, ◌<◌, ◌+◌, ◌*◌, ◌-◌, ℕ, zero, suc, List, [], ◌∷◌, ◌++◌, length, take, get_or, vec_len, vec_capacity, refl, sym, ap, ◌∙◌, subst, arith, append_assoc, Some}
+use Rattle.std.proofs.Common.{◌≡◌, ◌≢◌, inl, inr, ◌≤◌, ◌<◌, ◌+◌, ◌*◌, ◌-◌, ℕ, zero, suc, List, [], ◌∷◌, ◌++◌, length, take, get_or, vec_len, vec_capacity, refl, sym, ap, ◌∙◌, subst, arith, append_assoc, Some}
 use Rattle.recording.specs.declared.TheConstants.{MAX_SAMPLES}
 use Rattle.flow.specs.declared.TheConstants.{BLOCKS_PER_WINDOW}
 use Rattle.std.specs.List.{All}
@@ -14,10 +14,9 @@ use Rattle.lane_ends.specs.Ends.{Gives}
 use Rattle.lane_ends.proofs.Giving.{more_or_not}
 use Rattle.gauge_ring.specs.declared.taker.Taker.{Taker}
 use Rattle.gauge_ring.specs.declared.feeder.Feeder.{Feeder}
-use Rattle.gauge_ring.specs.Ends.{fed, taken, AreOneRing, IsSameFeeder, IsSameTaker}
+use Rattle.gauge_ring.specs.Ends.{fed, taken, IsSameFeeder, IsSameTaker}
 use Rattle.block_pool.specs.Units.{FilledValue, CountedValue, BlankValue, IsBlank}
 use Rattle.block_workers.specs.declared.item.Item.{Item}
-use Rattle.block_workers.specs.declared.item.Back.{Back}
 use Rattle.block_workers.specs.declared.desk.Desk.{Desk}
 use Rattle.block_workers.specs.declared.jobs.Reader.{Reader}
 use Rattle.block_workers.specs.declared.worker.Worker.{Worker}
@@ -27,16 +26,13 @@ use Rattle.block_workers.specs.Reading.AreBlocks.{none}
 use Rattle.block_workers.specs.Working.{AreCounts, all_new, new_blocks, return_round}
 use Rattle.block_workers.specs.Jobs.{RingAt, CanRead, ReadJob, NotRead, SameRead, WorkJob, SameWork}
 use Rattle.block_workers.proofs.Blocks.{gives_as}
-use Rattle.block_workers.proofs.Settling.{same_feeders, same_takers, same_backs, still_one}
+use Rattle.gauge_ring.proofs.Ends.{same_feeders, same_takers, still_one}
 use Rattle.collector.specs.declared.collecting.Return.{Return}
 use Rattle.collector.specs.Settling.{SameFeeding, ReturnAt}
 use Rattle.lane_loans.specs.declared.lane.Lane.{Lane}
 use Rattle.lane_loans.specs.Lent.{Lent}
 use Rattle.round_accounts.proofs.Lists.{in_turn}
 use Rattle.lane_loans.proofs.Walking.{some_of}
-
-still_return : (f f' : Feeder Back) (t t' : Taker Back) → AreOneRing f t → IsSameFeeder f f' → IsSameTaker t t' → AreOneRing f' t'
-still_return f f' t t' h a b = search (rules, h, a, b)
 
 fit_as : (b c : ℕ) (g k : GridValue) (xs : List BlankValue) → b ≡ c → g ≡ k → All (IsBlank b g) xs → All (IsBlank c k) xs
 fit_as b c g k xs e f h = subst (λ x. All (IsBlank c x) xs) f (subst (λ x. All (IsBlank x g) xs) e h)
@@ -230,8 +226,8 @@ pub back_so_far : (w0 w1 w2 : Worker) (b0 b1 : Return) → ReturnAt w0 b0 → Wo
     → ReturnAt w2 b1
 back_so_far w0 w1 w2 b0 b1 ring job same taker =
     record {
-      one = still_return w0.back w2.back b0.taker b1.taker ring.one
-          (same_backs w0.back w1.back w2.back job.worked.same same.back.1) taker;
+      one = still_one w0.back w2.back b0.taker b1.taker ring.one
+          (same_feeders w0.back w1.back w2.back job.worked.same same.back.1) taker;
     }
 
 -- a worker after a round, what it took of each gauge and what it fed back
@@ -287,5 +283,5 @@ worker_ran w0 w1 w2 w3 some job same feeding =
       units = job.worked.units;
       counts = subst (λ fs. AreCounts fs job.worked.units) all job.worked.counts;
       fed = feeding.fed ∙ same.back.0 ∙ job.worked.fed;
-      same = same_backs w0.back w2.back w3.back (same_backs w0.back w1.back w2.back job.worked.same same.back.1) feeding.same;
+      same = same_feeders w0.back w2.back w3.back (same_feeders w0.back w1.back w2.back job.worked.same same.back.1) feeding.same;
     }

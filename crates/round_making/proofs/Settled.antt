@@ -1,5 +1,5 @@
 -- A round, from its beginning to its end: everything rests again, and the lanes' fronts stand on the board.
-use Rattle.std.proofs.Common.{rules, ◌≡◌, ◌⊎◌, inl, inr, ◌≤◌, ◌<◌, ◌+◌, ◌*◌, ◌-◌, ℕ, zero, suc, List, [], ◌∷◌, ◌++◌, length, map, take, get_or, vec_len, refl, sym, ap, ◌∙◌, subst, arith, append_assoc, drop, length-append, mul-le-mul_right}
+use Rattle.std.proofs.Common.{◌≡◌, ◌⊎◌, inl, inr, ◌≤◌, ◌<◌, ◌+◌, ◌*◌, ◌-◌, ℕ, zero, suc, List, [], ◌∷◌, ◌++◌, length, map, take, get_or, vec_len, refl, sym, ap, ◌∙◌, subst, arith, drop, length-append, mul-le-mul_right}
 use Rattle.recording.specs.declared.TheConstants.{MAX_SAMPLES}
 use Rattle.flow.specs.declared.TheConstants.{BLOCKS_PER_WINDOW}
 use Rattle.std.specs.List.{All}
@@ -7,23 +7,21 @@ use Rattle.std.specs.declared.vec.Vec.{Vec}
 use Rattle.std.specs.declared.alloc.Global.{Global}
 use Rattle.std.proofs.lemmas.Bool.{cases_lt}
 use Rattle.std.proofs.lemmas.Bool.Decides.{nat_tests}
-use Rattle.std.proofs.lemmas.List.{append_cancel_left, get_or_default, take_all, length-replicate}
+use Rattle.std.proofs.lemmas.List.{get_or_default, take_all, length-replicate}
 use Rattle.gauge_ring.specs.declared.taker.Taker.{Taker}
 use Rattle.gauge_ring.specs.declared.feeder.Feeder.{Feeder}
-use Rattle.gauge_ring.specs.Ends.{fed, taken, IsSameFeeder, IsSameTaker, AreOneRing}
+use Rattle.gauge_ring.specs.Ends.{fed, taken, AreOneRing}
 use Rattle.segment_rules.specs.declared.name.Name.{Name}
 use Rattle.flow.specs.Flow.{hits}
 use Rattle.flow.specs.Kept.{over, between}
 use Rattle.flow.proofs.Counting.{over_same, over_sum, hits_other, every_map}
-use Rattle.block_pool.specs.Units.{FilledValue, CountedValue, PoolValue, IsBlank}
+use Rattle.block_pool.specs.Units.{FilledValue, PoolValue, IsBlank}
 use Rattle.board.specs.Board.{BoardValue, IsBegun, IsBlockOf, start_of, IsFront, Carries}
 use Rattle.board.proofs.Counts.{over_most}
 use Rattle.deposits.specs.Deposited.{unit_name, unit_names, IsGood, SamePool, Came}
 use Rattle.deposits.specs.Mixed.{Mixed}
 use Rattle.deposits.proofs.Going.{good_at_first}
 use Rattle.block_workers.specs.declared.item.Item.{Item}
-use Rattle.block_workers.specs.declared.item.Back.{Back}
-use Rattle.block_workers.specs.declared.item.Back.TheVariants.{Unit, Over}
 use Rattle.block_workers.specs.declared.desk.Desk.{Desk}
 use Rattle.block_workers.specs.declared.jobs.Reader.{Reader}
 use Rattle.block_workers.specs.declared.worker.Worker.{Worker}
@@ -31,7 +29,7 @@ use Rattle.block_workers.specs.Dealing.{round_of, dealt}
 use Rattle.block_workers.specs.Reading.{AreBlocks, samples_of}
 use Rattle.block_workers.specs.Working.{AreCounts, return_round}
 use Rattle.block_workers.specs.Jobs.{CanRead, ReadJob, SameRead, WorkJob, SameWork, Fifo}
-use Rattle.block_workers.proofs.Accounts.{even, blocks_ascend}
+use Rattle.block_workers.proofs.Accounts.{even_round, even_return, blocks_ascend}
 use Rattle.collector.specs.declared.collecting.Return.{Return}
 use Rattle.collector.specs.Collecting.{Collected}
 use Rattle.collector.specs.Settling.{SameFeeding, Opened, BackFifo}
@@ -55,42 +53,10 @@ use Rattle.segment.specs.Segment.{Stands}
 use Rattle.flow.specs.Flow.{name_of_samples}
 use Rattle.deposits.proofs.Fronting.{front_name}
 use Rattle.block_workers.specs.Reading.AreBlocks.{none, last, more}
-use Rattle.block_workers.proofs.Settling.{still_one}
+use Rattle.gauge_ring.proofs.Ends.{same_takers, still_one}
 use Rattle.arrivals.specs.Arrivals.{Round as RoundOfFlow, AreArrivals, IsRound}
 use Rattle.round_accounts.proofs.Arrived.{arrived, ring_is_fed}
 use Rattle.block_workers.proofs.Blocks.{gives_as}
-
--- two rounds of a return ring that begin alike are one, and nothing is behind it
-abbrev rest_of : List Back → List Back
-rest_of [] = []
-rest_of (x ∷ xs) = xs
-
-abbrev unit_in : CountedValue → List Back → CountedValue
-unit_in d [] = d
-unit_in d (Unit u ∷ l) = u
-unit_in d (Over ∷ l) = d
-
-abbrev kind_of : List Back → ℕ
-kind_of [] = 0
-kind_of (Unit u ∷ l) = 1
-kind_of (Over ∷ l) = 2
-
-same_back : (us vs : List CountedValue) (rest : List Back) → return_round us ≡ return_round vs ++ rest → (vs ≡ us) × (rest ≡ [])
-same_back [] [] rest e = (refl, sym (ap rest_of e))
-same_back [] (v ∷ vs) rest e = let k : 2 ≡ 1 = ap kind_of e in absurd (omega (arith, k))
-same_back (u ∷ us) [] rest e = let k : 1 ≡ 2 = ap kind_of e in absurd (omega (arith, k))
-same_back (u ∷ us) (v ∷ vs) rest e =
-    let tail_is = same_back us vs rest (ap rest_of e) in
-    let head_is : v ≡ u = sym (ap (unit_in u) e) in
-    (ap (λ x. x ∷ vs) head_is ∙ ap (λ l. u ∷ l) tail_is.0, tail_is.1)
-
-even_back : (f fed taken left : List Back) (us vs : List CountedValue) → fed ≡ f ++ return_round us → taken ≡ f ++ return_round vs
-    → fed ≡ taken ++ left → (vs ≡ us) × (fed ≡ taken)
-even_back f fed taken left us vs a b e =
-    let both_ends : f ++ return_round us ≡ f ++ (return_round vs ++ left) = sym a ∙ e ∙ ap (λ t. t ++ left) b
-    ∙ append_assoc f (return_round vs) left in
-    let (same, no_more) = same_back us vs left (append_cancel_left f (return_round us) (return_round vs ++ left) both_ends) in
-    (same, rw (a, b, same) refl)
 
 between_one : (a b i : ℕ) → between a b i ≤ 1
 between_one a b i = grind (arith, nat_tests)
@@ -123,10 +89,6 @@ beyond : {A : Type 0} → (f : A → ℕ) (xs : List A) (g z : ℕ) → length x
 beyond f [] g z h = refl
 beyond f (x ∷ xs) zero z h = absurd (omega (arith, h))
 beyond f (x ∷ xs) (suc g) z h = beyond f xs g z (omega (arith, h))
-
-still_back : (f f' : Feeder Back) (t u t' : Taker Back) → AreOneRing f t → IsSameFeeder f f' → IsSameTaker t u → IsSameTaker u t'
-    → AreOneRing f' t'
-still_back f f' t u t' h a b c = search (rules, h, a, b, c)
 
 -- what is seen of a ring
 ring_value : (ws : List Worker) (v g : ℕ) (w : Worker) (d : Taker Item) → v < length ws → g < vec_len (get_or ws v w).takers
@@ -234,7 +196,7 @@ module _ {C : Type 0} (tells : Type 0) (left : C → List ℕ) (faults : C → �
       let back : taken (get_or (get_or ws3 v w).takers.items g d) ≡ taken (get_or (get_or ws1 v w).takers.items g d) =
       ap (λ (x : Vec (Taker Item) Global). taken (get_or x.items g d))
       (s.fed_back v w (omega (arith, m, s.ran_long.1, s.still_long.1))).takers ∙ (s.still_work v w).taken g d in
-      even f0 (fed (get_or (get_or rs3 g r).desk.feeders.items v e)) (taken (get_or (get_or ws3 v w).takers.items g d)) line.left
+      even_round f0 (fed (get_or (get_or rs3 g r).desk.feeders.items v e)) (taken (get_or (get_or ws3 v w).takers.items g d)) line.left
       (dealt workers v 0 (given g)) (wr.blocks g)
       (q.run.fed v e m ∙ ap (λ us. f0 ++ round_of (dealt workers v 0 us)) (sym q.is.1))
       (wr.took g d (let x = wide v m in omega (arith, h, x)) ∙ ap (λ x. x ++ round_of (wr.blocks g)) (sym start))
@@ -249,7 +211,7 @@ module _ {C : Type 0} (tells : Type 0) (left : C → List ℕ) (faults : C → �
       let f0 = fed (get_or ws0 v w).back in
       let few : v < length ws2 = omega (arith, m, s.ran_long.1, s.still_long.1) in
       let line = s.back_fifo v w k few in
-      even_back f0 (fed (get_or ws3 v w).back) (taken (get_or bs1 v k).taker) line.left wr.units (s.collected.lists v)
+      even_return f0 (fed (get_or ws3 v w).back) (taken (get_or bs1 v k).taker) line.left wr.units (s.collected.lists v)
       wr.fed
       (s.collected.taken v k (omega (arith, m, s.resting.returns_long)) ∙ ap (λ x. x ++ return_round (s.collected.lists v)) (sym start))
       ((s.fed_back v w few).fed ∙ line.fifo)
@@ -423,9 +385,10 @@ module _ {C : Type 0} (tells : Type 0) (left : C → List ℕ) (faults : C → �
         let start = s.resting.each_return v w k m in
         record {
           one = record {
-            one = still_back (get_or ws0 v w).back (get_or ws3 v w).back (get_or bs0 v k).taker (get_or bs1 v k).taker
-                (get_or bs2 v k).taker start.one.one (worker_at v m).same
-                (s.collected.same v k (omega (arith, m, s.resting.returns_long))) o.same;
+            one = still_one (get_or ws0 v w).back (get_or ws3 v w).back (get_or bs0 v k).taker (get_or bs2 v k).taker
+                start.one.one (worker_at v m).same
+                (same_takers (get_or bs0 v k).taker (get_or bs1 v k).taker (get_or bs2 v k).taker
+                (s.collected.same v k (omega (arith, m, s.resting.returns_long))) o.same);
           };
           even = (back_even v m).1 ∙ sym o.taken;
           awaited = o.awaited;
