@@ -7,6 +7,7 @@ use Rattle.std.specs.List.{All}
 use Rattle.outside.specs.Fault.{Rose}
 use Rattle.recording.specs.Samples.{samples, sample_bytes}
 use Rattle.recording.specs.declared.TheConstants.{MAX_SAMPLES}
+use Rattle.flow.specs.declared.TheConstants.{BLOCKS_PER_WINDOW}
 use Rattle.calibration.specs.Gain.{GainValue}
 use Rattle.segment_rules.specs.declared.name.Name.{Name}
 use Rattle.segment.specs.Segment.{SegmentValue, Stands, empty_at}
@@ -22,6 +23,8 @@ use Rattle.round_making.specs.Round.{LaneDone, FrontDone, RoundDone}
 use Rattle.site_lanes.specs.Lanes.{Stood, IsLane, AreReady, AreLanes, IsWhole}
 use Rattle.site_lanes.proofs.AfterRound.{stood_more}
 use Rattle.site_lanes.proofs.AllLanes.{ready_after, lanes_after, all_reached}
+use Rattle.demo_command.specs.declared.TheConstants.{MAX_DEMO_SAMPLES}
+use Rattle.demo_command.specs.declared.made.TheConstants.{GAUGES, BLOCK}
 use Rattle.demo_command.specs.Made.{demo_grid, demo_gain, made_at, demo_recordings, IsStart}
 use Rattle.demo_command.specs.Totals.{IsTotal, CanJoin, HasJoined}
 use Rattle.demo_command.proofs.MadeBytes.{length-made, samples-made, torn_bytes-made}
@@ -32,21 +35,21 @@ DemoLane = Lane (List ℕ)
 
 -- so many rounds were made of the recordings, and joined
 pub record IsCounted (seed all rounds : ℕ) (p : PreparedValue) (lanes : List DemoLane) (totals : List SegmentValue) : Type 0 where
-  pub gauges : p.gauges ≡ 4
-  pub block : p.block ≡ 1024
+  pub gauges : p.gauges ≡ GAUGES
+  pub block : p.block ≡ BLOCK
   pub grid : p.grid ≡ demo_grid
-  pub lanes_long : length lanes ≡ 4
-  pub totals_long : length totals ≡ 4
+  pub lanes_long : length lanes ≡ GAUGES
+  pub totals_long : length totals ≡ GAUGES
   pub ready : AreReady lanes
   pub are : AreLanes (Unit {0}) (λ (left : List ℕ). left) (demo_recordings seed all) lanes
   pub whole : All IsWhole lanes
   pub at : (g : ℕ) (d : DemoLane) → g < length lanes →
-      (slice_index_or lanes g d).at ≡ min (16 * 1024 * rounds) (length (made_at seed all g))
-  pub counted : (g : ℕ) (d : DemoLane) (e : SegmentValue) → g < 4 →
+      (slice_index_or lanes g d).at ≡ min (BLOCKS_PER_WINDOW * BLOCK * rounds) (length (made_at seed all g))
+  pub counted : (g : ℕ) (d : DemoLane) (e : SegmentValue) → g < GAUGES →
       IsTotal seed all g (slice_index_or lanes g d).at (slice_index_or totals g e)
 
 -- a lane at the start
-module _ (seed all g : ℕ) (lt : g < 4) (lane : DemoLane) (start : IsStart seed all g lane) where
+module _ (seed all g : ℕ) (lt : g < GAUGES) (lane : DemoLane) (start : IsStart seed all g lane) where
   start_stood : (left : List ℕ) → lane.src ≡ Some left → Stood (made_at seed all g) 0 left lane.at lane.end
   start_stood left has =
       let is : left ≡ sample_bytes (made_at seed all g) = same_some has start.src in
@@ -57,7 +60,7 @@ module _ (seed all g : ℕ) (lt : g < 4) (lane : DemoLane) (start : IsStart seed
 
   pub start_lane : IsLane (Unit {0}) (λ (left : List ℕ). left) (demo_recordings seed all) g lane
   start_lane = record {
-    gain = λ d. start.gain ∙ sym (get_or-replicate 4 g demo_gain d lt);
+    gain = λ d. start.gain ∙ sym (get_or-replicate GAUGES g demo_gain d lt);
     within = λ t. omega (arith, start.at);
     stood = λ t. start_stood;
   }
@@ -74,7 +77,7 @@ module _ (seed all g : ℕ) (lt : g < 4) (lane : DemoLane) (start : IsStart seed
 -- a lane after a round
 module _ (seed all g : ℕ) {block : ℕ} {old new : DemoLane}
     (done : LaneDone (Unit {0}) (λ (left : List ℕ). left) (λ (left : List ℕ). 0) block old new) where
-  short : all ≤ 1000000 → length (made_at seed all g) < MAX_SAMPLES
+  short : all ≤ MAX_DEMO_SAMPLES → length (made_at seed all g) < MAX_SAMPLES
   short few = omega (arith, few, length-made all (seed + g))
 
   not_too_long : (w : List ℤ) (left : List ℕ) (at : ℕ) (end : End) → length w < MAX_SAMPLES → Stood w 0 left at end → end ≢ TooLong
@@ -84,7 +87,8 @@ module _ (seed all g : ℕ) {block : ℕ} {old new : DemoLane}
   not_too_long w left at ReadFault less s = λ e. absurd cc
   not_too_long w left at TooLong less s = λ e. omega (arith, less, s.1)
 
-  pub whole_after : all ≤ 1000000 → IsLane (Unit {0}) (λ (left : List ℕ). left) (demo_recordings seed all) g new → IsWhole old → IsWhole new
+  pub whole_after : all ≤ MAX_DEMO_SAMPLES → IsLane (Unit {0}) (λ (left : List ℕ). left) (demo_recordings seed all) g new → IsWhole old
+      → IsWhole new
   whole_after few lane was = (
     (λ e. ⊎_elim (λ more. never (done.cause more e)) (λ other. was.0 (sym (done.ended other).1 ∙ e)) (more_or_not old.end)),
     not_too_long (made_at seed all g) done.now new.at new.end (short few) (lane.stood tt done.now done.has),
@@ -104,14 +108,14 @@ module _ (seed all g : ℕ) {block : ℕ} {old new : DemoLane}
       (more_or_not old.end)
 
 -- a front that comes next, and is joined
-module _ (seed all g : ℕ) (lt : g < 4) {block : ℕ} {old new : DemoLane}
+module _ (seed all g : ℕ) (lt : g < GAUGES) {block : ℕ} {old new : DemoLane}
     (done : LaneDone (Unit {0}) (λ (left : List ℕ). left) (λ (left : List ℕ). 0) block old new)
     (lane : IsLane (Unit {0}) (λ (left : List ℕ). left) (demo_recordings seed all) g old) (v : SegmentValue)
     (total : IsTotal seed all g old.at v)
     (board : BoardValue) (over : board.grid ≡ demo_grid)
     (fronts : (front : SegmentValue) → IsFront board g front → FrontDone (Unit {0}) (λ (left : List ℕ). left) old new front) where
   gain_is : old.gain ≡ demo_gain
-  gain_is = lane.gain demo_gain ∙ get_or-replicate 4 g demo_gain demo_gain lt
+  gain_is = lane.gain demo_gain ∙ get_or-replicate GAUGES g demo_gain demo_gain lt
 
   pub can_join : new.at ≤ all → CanJoin board g v
   can_join within = record {
@@ -163,10 +167,11 @@ nothing_counted seed all g v is = subst (λ (x : SegmentValue). IsTotal seed all
 })
 
 -- before the first round
-pub counted_starts : (seed all : ℕ) (p : PreparedValue) (lanes : List DemoLane) (totals : List SegmentValue) → p.gauges ≡ 4 → p.block ≡ 1024
-    → p.grid ≡ demo_grid → length lanes ≡ 4 → length totals ≡ 4 →
-    ((g : ℕ) (d : DemoLane) → g < 4 → IsStart seed all g (slice_index_or lanes g d))
-    → ((g : ℕ) (d : SegmentValue) → g < 4 → slice_index_or totals g d ≡ empty_at demo_grid g 0 all) → IsCounted seed all 0 p lanes totals
+pub counted_starts : (seed all : ℕ) (p : PreparedValue) (lanes : List DemoLane) (totals : List SegmentValue) → p.gauges ≡ GAUGES
+    → p.block ≡ BLOCK → p.grid ≡ demo_grid → length lanes ≡ GAUGES → length totals ≡ GAUGES →
+    ((g : ℕ) (d : DemoLane) → g < GAUGES → IsStart seed all g (slice_index_or lanes g d))
+    → ((g : ℕ) (d : SegmentValue) → g < GAUGES → slice_index_or totals g d ≡ empty_at demo_grid g 0 all)
+    → IsCounted seed all 0 p lanes totals
 counted_starts seed all p lanes totals gauges block grid lanes_long totals_long start nothing = record {
   gauges = gauges;
   block = block;
@@ -179,20 +184,20 @@ counted_starts seed all p lanes totals gauges block grid lanes_long totals_long 
     gauge = s.gauge;
     at = omega (arith, s.at);
   };
-  are = λ g d lt. let here : g < 4 = omega (arith, lt, lanes_long) in start_lane seed all g here (slice_index_or lanes g d)
+  are = λ g d lt. let here : g < GAUGES = omega (arith, lt, lanes_long) in start_lane seed all g here (slice_index_or lanes g d)
       (start g d here);
-  whole = λ g d lt. let here : g < 4 = omega (arith, lt, lanes_long) in start_whole seed all g here (slice_index_or lanes g d)
+  whole = λ g d lt. let here : g < GAUGES = omega (arith, lt, lanes_long) in start_whole seed all g here (slice_index_or lanes g d)
       (start g d here);
   at = λ g d lt. none_read _ _ (start g d (omega (arith, lt, lanes_long))).at;
   counted = λ g d e lt. subst (λ (n : ℕ). IsTotal seed all g n (slice_index_or totals g e)) (sym (start g d lt).at)
       (nothing_counted seed all g (slice_index_or totals g e) (nothing g e lt));
 } where
-  none_read : (at len : ℕ) → at ≡ 0 → at ≡ min (16 * 1024 * 0) len
+  none_read : (at len : ℕ) → at ≡ 0 → at ≡ min (BLOCKS_PER_WINDOW * BLOCK * 0) len
   none_read at len is = grind (arith, is)
 
 -- a round more
-module _ (seed all rounds : ℕ) (few : all ≤ 1000000) {p p2 : PreparedValue} {lanes lanes2 : List DemoLane} {totals : List SegmentValue}
-    (was : IsCounted seed all rounds p lanes totals)
+module _ (seed all rounds : ℕ) (few : all ≤ MAX_DEMO_SAMPLES) {p p2 : PreparedValue} {lanes lanes2 : List DemoLane}
+    {totals : List SegmentValue} (was : IsCounted seed all rounds p lanes totals)
     (done : RoundDone (Unit {0}) (λ (left : List ℕ). left) (λ (left : List ℕ). 0) p p2 lanes lanes2) where
   count : length lanes ≡ p.gauges
   count = was.lanes_long ∙ sym was.gauges
@@ -200,25 +205,25 @@ module _ (seed all rounds : ℕ) (few : all ≤ 1000000) {p p2 : PreparedValue} 
   are_lanes : AreLanes (Unit {0}) (λ (left : List ℕ). left) (demo_recordings seed all) lanes2
   are_lanes = lanes_after done count was.ready (demo_recordings seed all) was.are
 
-  lane_done : (g : ℕ) (d : DemoLane) → g < 4
+  lane_done : (g : ℕ) (d : DemoLane) → g < GAUGES
       → LaneDone (Unit {0}) (λ (left : List ℕ). left) (λ (left : List ℕ). 0) p.block (slice_index_or lanes g d) (slice_index_or lanes2 g d)
   lane_done g d lt = done.lane g d (omega (arith, lt, was.gauges))
 
-  within : (g : ℕ) (d : DemoLane) → g < 4 → (slice_index_or lanes2 g d).at ≤ all
+  within : (g : ℕ) (d : DemoLane) → g < GAUGES → (slice_index_or lanes2 g d).at ≤ all
   within g d lt =
       let e : (slice_index_or lanes2 g d).at ≤ length (made_at seed all g) =
       (are_lanes g d (omega (arith, lt, done.long, was.lanes_long))).within tt in
       omega (arith, e, length-made all (seed + g))
 
-  pub can_join_all : (g : ℕ) (e : SegmentValue) → g < 4 → CanJoin p2.board g (slice_index_or totals g e)
+  pub can_join_all : (g : ℕ) (e : SegmentValue) → g < GAUGES → CanJoin p2.board g (slice_index_or totals g e)
   can_join_all g e here =
       let there : g < length lanes = omega (arith, here, was.lanes_long) in
       let d = some_of lanes (omega (arith, there)) in
       can_join seed all g here (lane_done g d here) (was.are g d there) (slice_index_or totals g e) (was.counted g d e here) p2.board
       (done.board.0 ∙ was.grid) (λ front is. done.front g d front (omega (arith, here, was.gauges)) is) (within g d here)
 
-  pub counted_more : (totals2 : List SegmentValue) → length totals2 ≡ 4
-      → ((g : ℕ) (e : SegmentValue) → g < 4 → HasJoined p2.board g (slice_index_or totals g e) (slice_index_or totals2 g e))
+  pub counted_more : (totals2 : List SegmentValue) → length totals2 ≡ GAUGES
+      → ((g : ℕ) (e : SegmentValue) → g < GAUGES → HasJoined p2.board g (slice_index_or totals g e) (slice_index_or totals2 g e))
       → IsCounted seed all (rounds + 1) p2 lanes2 totals2
   counted_more totals2 long joined = record {
     gauges = done.gauges ∙ was.gauges;
@@ -229,7 +234,8 @@ module _ (seed all rounds : ℕ) (few : all ≤ 1000000) {p p2 : PreparedValue} 
     ready = ready_after done count was.ready;
     are = are_lanes;
     whole = all_whole;
-    at = λ g d lt. all_reached done count was.ready (demo_recordings seed all) (λ h. 16 * 1024 * rounds) tt was.are all_whole was.at g d lt
+    at = λ g d lt. all_reached done count was.ready (demo_recordings seed all) (λ h. BLOCKS_PER_WINDOW * BLOCK * rounds) tt was.are
+        all_whole was.at g d lt
         ∙ ap (λ (n : ℕ). min n (length (made_at seed all g))) (further p.block was.block);
     counted = λ g d e lt. joined_total seed all g lt (lane_done g d lt) (was.are g d (omega (arith, lt, was.lanes_long)))
         (slice_index_or totals g e)
@@ -238,15 +244,17 @@ module _ (seed all rounds : ℕ) (few : all ≤ 1000000) {p p2 : PreparedValue} 
   } where
     all_whole : All IsWhole lanes2
     all_whole g d lt =
-        let here : g < 4 = omega (arith, lt, done.long, was.lanes_long) in
+        let here : g < GAUGES = omega (arith, lt, done.long, was.lanes_long) in
         whole_after seed all g (lane_done g d here) few (are_lanes g d lt) (was.whole g d (omega (arith, lt, done.long)))
 
-    further : (block : ℕ) → block ≡ 1024 → 16 * 1024 * rounds + 16 * block ≡ 16 * 1024 * (rounds + 1)
+    further : (block : ℕ) → block ≡ BLOCK
+        → BLOCKS_PER_WINDOW * BLOCK * rounds + BLOCKS_PER_WINDOW * block ≡ BLOCKS_PER_WINDOW * BLOCK * (rounds + 1)
     further block is = omega (arith, is)
 
 -- after all rounds
-pub counted_all : (seed all rounds : ℕ) (p : PreparedValue) (lanes : List DemoLane) (totals : List SegmentValue) → all ≤ 16 * 1024 * rounds
-    → IsCounted seed all rounds p lanes totals → (g : ℕ) (e : SegmentValue) → g < 4 → IsTotal seed all g all (slice_index_or totals g e)
+pub counted_all : (seed all rounds : ℕ) (p : PreparedValue) (lanes : List DemoLane) (totals : List SegmentValue)
+    → all ≤ BLOCKS_PER_WINDOW * BLOCK * rounds → IsCounted seed all rounds p lanes totals → (g : ℕ) (e : SegmentValue) → g < GAUGES
+    → IsTotal seed all g all (slice_index_or totals g e)
 counted_all seed all rounds p lanes totals enough c g e lt =
     let there : g < length lanes = omega (arith, lt, c.lanes_long) in
     let d = some_of lanes (omega (arith, there)) in

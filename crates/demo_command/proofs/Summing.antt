@@ -9,6 +9,7 @@ use Rattle.four_point.specs.Reduction.{IsFourPointResult}
 use Rattle.lane_loans.proofs.Walking.{map_at, some_of}
 use Rattle.segment.specs.Segment.{SegmentValue, Stands}
 use Rattle.tally.specs.Counts.{count_of}
+use Rattle.demo_command.specs.declared.made.TheConstants.{GAUGES}
 use Rattle.demo_command.specs.Made.{demo_grid, demo_gain, levels_at, made_at}
 use Rattle.demo_command.specs.Summary.{IsResidueOf, IsSummary, gauge_line, gauge_lines, table_halves, head_line}
 use Rattle.demo_command.specs.Totals.{IsTotal}
@@ -24,19 +25,19 @@ pub text_starts : (seed samples : ℕ) (totals : List SegmentValue) (text : List
     → text ≡ head_line seed samples ++ gauge_lines (line_at seed samples totals) 0
 text_starts seed samples totals text is = is ∙ sym (append-nil (head_line seed samples))
 
-module _ (seed samples : ℕ) (totals : List SegmentValue) (long : length totals ≡ 4)
-    (all : (g : ℕ) (d : SegmentValue) → g < 4 → IsTotal seed samples g samples (slice_index_or totals g d)) where
-  stands_at : (g : ℕ) (d : SegmentValue) → g < 4 → Stands (slice_index_or totals g d) demo_gain (made_at seed samples g)
+module _ (seed samples : ℕ) (totals : List SegmentValue) (long : length totals ≡ GAUGES)
+    (all : (g : ℕ) (d : SegmentValue) → g < GAUGES → IsTotal seed samples g samples (slice_index_or totals g d)) where
+  stands_at : (g : ℕ) (d : SegmentValue) → g < GAUGES → Stands (slice_index_or totals g d) demo_gain (made_at seed samples g)
   stands_at g d lt =
       let t = all g d lt in
       subst (λ (l : List ℤ). Stands (slice_index_or totals g d) demo_gain l)
       (take_all samples (made_at seed samples g) (omega (arith, length-made samples (seed + g)))) t.stands
 
-  residue_is : (g : ℕ) (d : SegmentValue) → g < 4 → residue_at totals g ≡ (slice_index_or totals g d).reducer.residue
+  residue_is : (g : ℕ) (d : SegmentValue) → g < GAUGES → residue_at totals g ≡ (slice_index_or totals g d).reducer.residue
   residue_is g d lt = map_at (λ (v : SegmentValue). v.reducer.residue) totals g [] d (omega (arith, lt, long))
 
   -- one line more, which is that of the segment v
-  pub text_more : (g : ℕ) (v : SegmentValue) (text text2 : List ℕ) → g < 4 → v ≡ slice_index_or totals g v
+  pub text_more : (g : ℕ) (v : SegmentValue) (text text2 : List ℕ) → g < GAUGES → v ≡ slice_index_or totals g v
       → ((w : List ℤ) → Stands v demo_gain w
       → text2 ≡ text ++ gauge_line g (table_halves (history demo_grid demo_gain w)) (length v.reducer.residue))
       → text ≡ head_line seed samples ++ gauge_lines (line_at seed samples totals) g
@@ -51,7 +52,7 @@ module _ (seed samples : ℕ) (totals : List SegmentValue) (long : length totals
       ∙ ap (λ (l : List ℕ). l ++ line) was ∙ append_assoc (head_line seed samples) (gauge_lines (line_at seed samples totals) g) line
       ∙ ap (λ (k : ℕ). head_line seed samples ++ gauge_lines (line_at seed samples totals) k) (let e : suc g ≡ g + 1 = omega arith in e)
 
-  pub text_all : (text : List ℕ) (k : ℕ) → k ≡ 4 → text ≡ head_line seed samples ++ gauge_lines (line_at seed samples totals) k
+  pub text_all : (text : List ℕ) (k : ℕ) → k ≡ GAUGES → text ≡ head_line seed samples ++ gauge_lines (line_at seed samples totals) k
       → IsSummary seed samples text
   text_all text k four is = record {
     residue = residue_at totals;

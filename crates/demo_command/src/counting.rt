@@ -7,6 +7,7 @@ ghost use Rattle.demo_command.specs.declared.made.TheConstants.{GAUGES};
 use crate::made::{BLOCK, GAUGES, grid_of_demo, made_lanes};
 use crate::totals::{join_fronts, new_totals};
 use count_workers::{OutOfMemory, Plan, Prepared};
+use flow::BLOCKS_PER_WINDOW;
 use outside::Gate;
 use recording::Synth;
 use segment::Segment;
@@ -37,7 +38,7 @@ pub fn count_made<R: AllocGlobal + Threads + Wait + Sync, G: Gate + Sync>(
     let mut totals = new_totals(rt.alloc(), samples)?;
     let mut prepared = Prepared::new(rt.alloc(), &plan)?;
     let mut lanes = made_lanes(seed, samples);
-    for _ in 0..samples / (16 * BLOCK as u64) + 1 {
+    for _ in 0..samples / (BLOCKS_PER_WINDOW as u64 * BLOCK as u64) + 1 {
         prepared.round(rt, &mut lanes, gate);
         join_fronts(&prepared, &mut totals);
     }
