@@ -7,6 +7,7 @@ use Rattle.flow.specs.Kept.Every.{none, both}
 use Rattle.flow.specs.Kept.Ascends.{empty}
 use Rattle.flow.proofs.Counting.{every_append, every_map, ascends_push}
 use Rattle.arrivals.specs.Arrivals.{Round, name_at, fed_to, AreArrivals, through, ArrivalsAscend}
+use Rattle.flow.specs.declared.TheConstants.{BLOCKS_PER_WINDOW}
 
 every_cond : {P : Name → Type 0} → (t : Bool) (m : Name) → P m → Every P (cond t (m ∷ []) [])
 every_cond true m p = both p none
@@ -34,4 +35,5 @@ module _ (block workers : ℕ) (r : Round) (pos : 0 < block) where
       (name_at block workers r g k) (fed_ascends g v k) (fed_below g v k)
 
 pub ascends : ArrivalsAscend
-ascends block workers gauges r l pos h g v m n = subst Ascends (sym (h.through g v m n)) (fed_ascends block workers r pos g v 16)
+ascends block workers gauges r l pos h g v m n = subst Ascends (sym (h.through g v m n))
+    (fed_ascends block workers r pos g v BLOCKS_PER_WINDOW)

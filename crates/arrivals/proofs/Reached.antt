@@ -14,12 +14,13 @@ use Rattle.flow.proofs.Counting.{every_append, every_map, every_drop, every_take
 use Rattle.arrivals.specs.Arrivals.{Round, name_at, fed_to, worker_of, through, AreArrivals, IsRound, start, IsRoundEvent, AreRoundEvents, IsDone, ReachedAreArrivals}
 use Rattle.arrivals.specs.Arrivals.IsRoundEvent.{feed, count, deposit}
 use Rattle.arrivals.specs.Arrivals.AreRoundEvents.{none as no_event, both as one_event}
+use Rattle.flow.specs.declared.TheConstants.{BLOCKS_PER_WINDOW}
 
 module _ (block workers : ℕ) (r : Round) where
   pub record Line (gauges : ℕ) (s : Flow) : Type 0 where
     pub samples : (g : ℕ) → s.samples g ≡ r.samples g
     pub read : (g : ℕ) → s.read g ≡ min (r.at g + s.fed g * block) (length (r.samples g))
-    pub few : (g : ℕ) → s.fed g ≤ 16
+    pub few : (g : ℕ) → s.fed g ≤ BLOCKS_PER_WINDOW
     pub line : (g v : ℕ) → v < workers → through block workers r g v s.placed ++ (through block workers r g v (s.counted v) ++ s.rings g v)
         ≡ fed_to block workers r g v (s.fed g)
     pub rings : (g v : ℕ) → v < workers → Every (λ n. (n.gauge ≡ g) × (worker_of block workers r n ≡ v) × (n.gauge < gauges)) (s.rings g v)
@@ -132,12 +133,12 @@ module _ (block workers : ℕ) (r : Round) where
       let long : length (s.samples g) ≡ n = ap length (l.samples g) in
       let stands : s.read g ≡ r.at g + s.fed g * block = omega (arith, l.read g, h, long) in
       let left : r.at g + s.fed g * block < n = omega (arith, stands, h, long) in
-      let below : s.fed g < 16 = elim (cases_lt (s.fed g) 16) [
+      let below : s.fed g < BLOCKS_PER_WINDOW = elim (cases_lt (s.fed g) BLOCKS_PER_WINDOW) [
         | inl a ↦ a
-        | inr a ↦ (let far : 16 * block ≤ s.fed g * block =
+        | inr a ↦ (let far : BLOCKS_PER_WINDOW * block ≤ s.fed g * block =
             mul-le-mul_right block a in absurd (omega (arith, ok.few g, left, far)))
       ] in
-      let small : s.fed g % 16 ≡ s.fed g = omega (arith, below) in
+      let small : s.fed g % BLOCKS_PER_WINDOW ≡ s.fed g = omega (arith, below) in
       let at : (s.fed g) % workers ≡ w = ap (λ k. k % workers) (sym small) in
       let is : m ≡ name_at block workers r g (s.fed g) = ap (λ k. name_of_samples g k (min (k + block) (length (s.samples g)))) stands
       ∙ ap (λ k. name_of_samples g (r.at g + s.fed g * block) (min (r.at g + s.fed g * block + block) k)) long in
@@ -154,7 +155,7 @@ module _ (block workers : ℕ) (r : Round) where
           | inr q ↦ changed_other s.read g m.to i q ∙ l.read i
               ∙ ap (λ k. min (r.at i + k * block) (length (r.samples i))) (sym (changed_other s.fed g (s.fed g + 1) i q))
         ];
-        few = changed_all (λ i k. k ≤ 16) s.fed g (s.fed g + 1) l.few (omega (arith, below));
+        few = changed_all (λ i k. k ≤ BLOCKS_PER_WINDOW) s.fed g (s.fed g + 1) l.few (omega (arith, below));
         line = λ i v b. fed_or s g w m gauges l is at left i v b (cases_eq i g);
         rings = changed_at_all (λ i j x. j < workers
             → Every (λ n. (n.gauge ≡ i) × (worker_of block workers r n ≡ j) × (n.gauge < gauges)) x) s.rings g w
@@ -308,8 +309,8 @@ module _ (block workers : ℕ) (r : Round) where
         ∙ append-nil p in
         let long : length (s.samples g) ≡ length (r.samples g) = ap length (l.samples g) in
         let far : length (r.samples g) ≤ r.at g + s.fed g * block = omega (arith, l.read g, done.read g a, long) in
-        let sum : s.fed g + (16 - s.fed g) ≡ 16 = omega (arith, l.few g) in
-        sym all ∙ l.line g v b ∙ sym (past_end g v (s.fed g) (16 - s.fed g) far) ∙ ap (fed_to block workers r g v) sum;
+        let sum : s.fed g + (BLOCKS_PER_WINDOW - s.fed g) ≡ BLOCKS_PER_WINDOW = omega (arith, l.few g) in
+        sym all ∙ l.line g v b ∙ sym (past_end g v (s.fed g) (BLOCKS_PER_WINDOW - s.fed g) far) ∙ ap (fed_to block workers r g v) sum;
   }
 
 pub are_arrivals : ReachedAreArrivals

@@ -11,6 +11,7 @@ use Rattle.flow.specs.Kept.Every.{none, both}
 use Rattle.flow.proofs.Counting.{changed_same, changed_other, changed_at_same, changed_at_gauge, changed_at_worker}
 use Rattle.arrivals.specs.Arrivals.{Round, fed_to, worker_of, through, AreArrivals, IsRound, start, feeds_of, feeds, counts, IsDone, ArrivalsAreReached}
 use Rattle.arrivals.proofs.Reached.{Line, step_feed, line_at_start, past_end, test_both, test_gauge, test_worker}
+use Rattle.flow.specs.declared.TheConstants.{BLOCKS_PER_WINDOW}
 
 module _ (block workers : ℕ) (r : Round) where
   run_both : (es fs : List Event) (s : Flow) → run block workers (es ++ fs) s ≡ run block workers fs (run block workers es s)
@@ -119,12 +120,13 @@ module _ (block workers : ℕ) (r : Round) where
             subst (λ n. FedSo gauges g n (run block workers (feeds_of block workers r g (suc k)) s)) (omega arith) both_parts.1;
       }
 
-  all_read : (gauges g : ℕ) (s : Flow) → IsRound block workers r gauges → FedSo gauges g 16 s → s.read g ≡ length (s.samples g)
+  all_read : (gauges g : ℕ) (s : Flow) → IsRound block workers r gauges → FedSo gauges g BLOCKS_PER_WINDOW s
+      → s.read g ≡ length (s.samples g)
   all_read gauges g s ok f =
       let l = f.feeding.line in
       let long : length (s.samples g) ≡ length (r.samples g) = ap length (l.samples g) in
       elim f.here [
-        | inl e ↦ (let same : s.fed g * block ≡ 16 * block = ap (λ n. n * block) e in
+        | inl e ↦ (let same : s.fed g * block ≡ BLOCKS_PER_WINDOW * block = ap (λ n. n * block) e in
             omega (arith, l.read g, same, ok.few g, long))
         | inr e ↦ omega (arith, l.read g, e.1, long)
       ]
@@ -138,11 +140,12 @@ module _ (block workers : ℕ) (r : Round) where
   fed_all gauges (suc n) s pos many ok f =
       let first = fed_all gauges n s pos many ok f in
       let u = run block workers (feeds block workers r n) s in
-      let t = tried gauges n 16 u pos many ok first.so in
-      let w = run block workers (feeds_of block workers r n 16) u in
+      let t = tried gauges n BLOCKS_PER_WINDOW u pos many ok first.so in
+      let more = feeds_of block workers r n BLOCKS_PER_WINDOW in
+      let w = run block workers more u in
       record {
-        allowed = allowed_both (feeds block workers r n) (feeds_of block workers r n 16) s first.allowed t.allowed;
-        so = subst (FedSo gauges (suc n) 0) (sym (run_both (feeds block workers r n) (feeds_of block workers r n 16) s)) (record {
+        allowed = allowed_both (feeds block workers r n) more s first.allowed t.allowed;
+        so = subst (FedSo gauges (suc n) 0) (sym (run_both (feeds block workers r n) more s)) (record {
           feeding = t.so.feeding;
           here = inl (t.so.later (suc n) (omega arith));
           before = λ h less. elim (cases_eq h n) [
@@ -255,8 +258,8 @@ module _ (block workers : ℕ) (r : Round) where
             ∙ ap (λ x. through block workers r g v x ++ s.rings g v) (f.feeding.counted v) in
             let long : length (s.samples g) ≡ length (r.samples g) = ap length (line.samples g) in
             let far : length (r.samples g) ≤ r.at g + s.fed g * block = omega (arith, line.read g, f.before g a, long) in
-            let sum : s.fed g + (16 - s.fed g) ≡ 16 = omega (arith, line.few g) in
-            sym whole ∙ line.line g v b ∙ sym (past_end block workers r g v (s.fed g) (16 - s.fed g) far)
+            let sum : s.fed g + (BLOCKS_PER_WINDOW - s.fed g) ≡ BLOCKS_PER_WINDOW = omega (arith, line.few g) in
+            sym whole ∙ line.line g v b ∙ sym (past_end block workers r g v (s.fed g) (BLOCKS_PER_WINDOW - s.fed g) far)
             ∙ ap (fed_to block workers r g v) sum ∙ sym (are.through g v a b);
         counted = f.feeding.counted;
         placed = f.feeding.placed;
