@@ -5,4 +5,5 @@
 //! the flow of blocks. There is no code but the law.
 #![tactic(auto)]
 
+/// The law of the arrivals.
 pub mod laws;

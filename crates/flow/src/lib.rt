@@ -6,6 +6,7 @@
 //! events. There is no code but the law.
 #![tactic(auto)]
 
+/// The law of the flow.
 pub mod laws;
 
 /// The blocks that a round reads of a gauge at most: its window.

@@ -15,6 +15,7 @@
 ghost use Rattle.std.specs.Prelude.{◌≡◌, ◌≤◌, length, sum};
 ghost use Rattle.miner.specs.Damage.{IsDamage};
 
+/// Laws over the definitions alone.
 pub mod laws;
 
 use calibration::Grid;
