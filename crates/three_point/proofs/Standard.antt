@@ -24,7 +24,7 @@ idle z (y ∷ x ∷ v) w = idle_by z y x v w (cases_lt (range y z) (range x y))
 -- the run from live points of which z is the newest
 from : {z : ℕ} {live left : List ℕ} {l : List CountedRange} → Counting (z ∷ live) left l →
     l ≡ ranges_counted z live ++ run (live_after z live) left
-from {z} {left = left} (steps_2_to_5 (step_4 {x} {y} {s = s} {live = v} h) c) =
+from {z} {left = left} (steps_2_to_5 (step_4 {x} {y} {w = s} {live = v} h) c) =
     ap (λ k. counted_range x y 2 ∷ k) (from c) ∙ sym (ap₂ (λ k m. k ++ run m left) (ranges_counted_cycle z y x s v h)
     (live_after_cycle z y x s v h))
 from {z} {left = left} (steps_2_to_5 (step_5 {s} {y} h) c) =

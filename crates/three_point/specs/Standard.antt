@@ -12,8 +12,8 @@ use Rattle.three_point.specs.Run.{CountedRange, counted_range, ranges_left, run}
 -- X >= Y. Step 4: Y doesn't contain S. It is one cycle, and its two points are discarded.
 -- Step 5: Y contains S. It is one half cycle; its first point is discarded, and S moves to its second.
 pub data Step : List ℕ → CountedRange → List ℕ → Type 0 where
-  step_4 : {x y z s : ℕ} {live : List ℕ} → range x y ≤ range y z →
-      Step (z ∷ y ∷ x ∷ s ∷ live) (counted_range x y 2) (z ∷ s ∷ live)
+  step_4 : {x y z w : ℕ} {live : List ℕ} → range x y ≤ range y z →
+      Step (z ∷ y ∷ x ∷ w ∷ live) (counted_range x y 2) (z ∷ w ∷ live)
   step_5 : {s y z : ℕ} → range s y ≤ range y z → Step (z ∷ y ∷ s ∷ []) (counted_range s y 1) (z ∷ y ∷ [])
 
 -- Step 2: there are fewer than three points. Step 3: X < Y.
