@@ -6,8 +6,8 @@ ghost use Rattle.three_point.specs.Ranges.{counted_range_of};
 use crate::counter::RangeCounter;
 use crate::ranges::Range;
 
-// Reads the next point, where the first `len` places are live, the newest last: steps 2 to 5. Says
-// how many are live then.
+/// Reads the next point, where the first `len` places are live, the newest last: steps 2 to 5. Says
+/// how many are live then.
 #[inline(always)]
 pub fn read<C: RangeCounter>(live: &mut [u16], mut len: usize, point: u16, counter: &mut C) -> usize
     requires within { len < length live.old }
@@ -38,8 +38,8 @@ pub fn read<C: RangeCounter>(live: &mut [u16], mut len: usize, point: u16, count
     len + 1
 }
 
-// Counts the ranges between the first `len` places, which are live when no point is left to read:
-// step 6.
+/// Counts the ranges between the first `len` places, which are live when no point is left to read:
+/// step 6.
 pub fn count_left<C: RangeCounter>(live: &[u16], len: usize, counter: &mut C)
     requires within { len ≤ length live.now }
     requires below { All (λ x. x < C.classes counter.old) (take len live.now) }
