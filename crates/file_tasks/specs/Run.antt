@@ -1,9 +1,10 @@
 -- What a run of a command did, by what the site and the output show before it and after it.
---   Outside    what they show at one moment
---   Task       what a command has to do
---   Runs       that a run did it
---   usage_task    the task of words that are no command
---   no_memory_task    what is left where memory ran out while the words were read
+--   Outside          what they show at one moment
+--   outside          the same of a site and an output, by what their traits tell of them
+--   Task             what a command has to do
+--   Runs             that a run did it
+--   usage_task       the task of words that are no command
+--   no_memory_task   what is left where memory ran out while the words were read
 use Rattle.std.specs.Prelude.{◌≡◌, ◌≢◌, ℕ, List, [], ◌++◌, Option, None, IsSomeAnd}
 use Rattle.outside.specs.Fault.{Rose}
 use Rattle.outside.specs.Sink.{AppendsPrefix}
