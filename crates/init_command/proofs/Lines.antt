@@ -3,15 +3,17 @@ use Rattle.std.proofs.Common.{◌≡◌, ◌≤◌, ℕ, [], ◌∷◌, length, 
 use Rattle.std.specs.Fmt.{decimal}
 use Rattle.std.proofs.lemmas.Fmt.{length-decimal-le}
 use Rattle.std.proofs.lemmas.List.{length-append}
+use Rattle.calibration.specs.declared.limits.TheConstants.{MAX_GAUGES}
+use Rattle.init_command.specs.declared.making.TheConstants.{MAX_LINE_BYTES}
 use Rattle.line_room.specs.Room.{RoomValue, Fits, with_text}
 
 -- the number of gauges has two digits at most
-few_digits : (n : ℕ) → n ≤ 32 → length (decimal n) ≤ 2
+few_digits : (n : ℕ) → n ≤ MAX_GAUGES → length (decimal n) ≤ 2
 few_digits n few = length-decimal-le 2 n (omega arith) (omega (arith, few)) (omega (arith, few))
 
-module _ (n : ℕ) (few : n ≤ 32) (empty word number : RoomValue) (fresh : empty ≡ record { room = 16; bytes = [] })
+module _ (n : ℕ) (few : n ≤ MAX_GAUGES) (empty word number : RoomValue) (fresh : empty ≡ record { room = MAX_LINE_BYTES; bytes = [] })
     (first : word ≡ with_text empty (codes "init ")) where
-  room : word.room ≡ 16
+  room : word.room ≡ MAX_LINE_BYTES
   room = omega (arith, ap (λ (l : RoomValue). l.room) first, ap (λ (l : RoomValue). l.room) fresh)
 
   many : length word.bytes ≡ 5

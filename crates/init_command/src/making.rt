@@ -17,6 +17,9 @@ use status::{Status, StoreFault};
 use std::alloc::{AllocError, Global};
 use store_head::StoreHead;
 
+// No line is longer: the number has at most two digits.
+const MAX_LINE_BYTES: usize = 16;
+
 /// Makes the store, and tells it.
 pub(crate) fn make_store<K: Station>(alloc: Global, head: &StoreHead, station: &mut K) -> Status
     requires few { length head.now.setup.gains ≤ MAX_GAUGES }
@@ -62,7 +65,7 @@ fn line_of(alloc: Global, gauges: usize) -> Result<LineRoom, AllocError>
     requires few { gauges ≤ MAX_GAUGES }
     ensures { IfOk result (λ line. line.bytes ≡ init_line gauges) }
 {
-    let mut line = LineRoom::new(alloc, 16)?;
+    let mut line = LineRoom::new(alloc, MAX_LINE_BYTES)?;
     line.push(b"init ");
     line.push_number(gauges as u64);
     line.push(b"\n");
