@@ -222,18 +222,21 @@ pub fn fill(
     fill_slices(begins, stops, extremes, reference, list);
 }
 
+/// Whether a list of points has one.
 pub fn has_some(list: &[u16]) -> bool
     ensures { result ≡ has_level list.now }
 {
     !list.is_empty()
 }
 
+/// The first point of a list, or 0 where there is none.
 pub fn first_level(list: &[u16]) -> u16
     ensures { result ≡ first_of list.now }
 {
     if list.is_empty() { 0 } else { list[0] }
 }
 
+/// The last point of a list, or 0 where there is none.
 pub fn last_level(list: &[u16]) -> u16
     ensures { result ≡ last_point list.now }
 {
