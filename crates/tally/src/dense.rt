@@ -62,6 +62,7 @@ impl Dense {
         })
     }
 
+    /// The number of classes.
     pub fn classes(&self) -> u16
         ensures classes { result ≡ self.now.classes }
         ensures counts { IsCounts self.now }
@@ -69,6 +70,7 @@ impl Dense {
         self.classes
     }
 
+    /// How many different cells there is room for.
     pub fn room(&self) -> u32
         ensures room { result ≡ self.now.room }
         ensures counts { IsCounts self.now }
@@ -76,6 +78,7 @@ impl Dense {
         self.room
     }
 
+    /// The number of pairs whose count is not 0.
     pub fn cells(&self) -> u32
         ensures cells { result ≡ length self.now.cells }
         ensures counts { IsCounts self.now }
@@ -83,6 +86,7 @@ impl Dense {
         self.used as u32
     }
 
+    /// The sum of all counts.
     pub fn total(&self) -> u64
         ensures total { result ≡ total_of self.now.cells }
         ensures counts { IsCounts self.now }
@@ -90,6 +94,7 @@ impl Dense {
         self.total
     }
 
+    /// Adds `n` to the count of a pair.
     #[inline(always)]
     pub fn add(&mut self, lo: u16, hi: u16, n: u64)
         requires ordered { lo < hi }
@@ -109,6 +114,7 @@ impl Dense {
         self.total += n;
     }
 
+    /// The count of a pair, 0 where it has no place.
     pub fn get(&self, lo: u16, hi: u16) -> u64
         ensures { result ≡ count_of self.now.cells lo hi }
     {
@@ -119,6 +125,7 @@ impl Dense {
         }
     }
 
+    /// Copies the counts of the pairs of a lower level to a buffer.
     pub fn write_row(&self, lo: u16, out: &mut [u64])
         requires row { lo + 1 + length out.old ≡ self.now.classes }
         ensures { (k : ℕ) → k < length out.new →
@@ -127,6 +134,7 @@ impl Dense {
         write_row(&self.counts, self.classes, lo, out);
     }
 
+    /// The first cell at or after a pair. Looks from the place of the pair on.
     pub fn next(&self, lo: u16, hi: u16) -> Option<Cell>
         ensures { result ≡ find (is_from lo hi) self.now.cells }
     {
@@ -184,6 +192,7 @@ impl Dense {
         self.total += total;
     }
 
+    /// Adds each count of another table. Takes a step for each listed place.
     pub fn merge(&mut self, other: &Dense)
         requires classes { self.old.classes ≡ other.now.classes }
         requires total { total_of self.old.cells + total_of other.now.cells ≤ MAX_TOTAL }
@@ -209,6 +218,7 @@ impl Dense {
         self.total += other.total;
     }
 
+    /// Makes all counts 0. Takes a step for each listed place.
     pub fn clear(&mut self)
         ensures empty { self.new ≡
             record { classes = self.old.classes; room = self.old.room; cells = [] } }

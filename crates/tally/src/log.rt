@@ -68,6 +68,7 @@ impl Log {
         })
     }
 
+    /// The number of classes.
     pub fn classes(&self) -> u16
         ensures classes { result ≡ self.now.classes }
         ensures counts { IsCounts self.now }
@@ -75,6 +76,7 @@ impl Log {
         self.classes
     }
 
+    /// How many different cells there is room for.
     pub fn room(&self) -> u32
         ensures room { result ≡ self.now.room }
         ensures counts { IsCounts self.now }
@@ -82,6 +84,7 @@ impl Log {
         self.room
     }
 
+    /// The number of pairs whose count is not 0. Reads the log once for each pair.
     pub fn cells(&self) -> u32
         ensures cells { result ≡ length self.now.cells }
         ensures counts { IsCounts self.now }
@@ -89,6 +92,7 @@ impl Log {
         pairs_in(&self.entries) as u32
     }
 
+    /// The sum of all counts.
     pub fn total(&self) -> u64
         ensures total { result ≡ total_of self.now.cells }
         ensures counts { IsCounts self.now }
@@ -119,6 +123,7 @@ impl Log {
         self.entries.len()
     }
 
+    /// Adds `n` to the count of a pair.
     #[inline(always)]
     pub fn add(&mut self, lo: u16, hi: u16, n: u64)
         requires ordered { lo < hi }
@@ -167,12 +172,14 @@ impl Log {
         true
     }
 
+    /// The count of a pair. Reads the log once.
     pub fn get(&self, lo: u16, hi: u16) -> u64
         ensures { result ≡ count_of self.now.cells lo hi }
     {
         amount_in(&self.entries, lo, hi)
     }
 
+    /// Writes the counts of the pairs of a lower level to a buffer. Reads the log once.
     pub fn write_row(&self, lo: u16, out: &mut [u64])
         requires row { lo + 1 + length out.old ≡ self.now.classes }
         ensures { (k : ℕ) → k < length out.new →
@@ -181,12 +188,14 @@ impl Log {
         put_row(&self.entries, lo, out);
     }
 
+    /// The first cell at or after a pair. Reads the log to its end.
     pub fn next(&self, lo: u16, hi: u16) -> Option<Cell>
         ensures { result ≡ find (is_from lo hi) self.now.cells }
     {
         first_in(&self.entries, lo, hi)
     }
 
+    /// Makes all counts 0, and keeps the places.
     pub fn clear(&mut self)
         ensures empty { self.new ≡
             record { classes = self.old.classes; room = self.old.room; cells = [] } }
