@@ -3,7 +3,6 @@
 --   first_differs     so the first of them differs from the one before, and the rest are changes too
 --   turns_by          the turns by directions: whether the history rises to x, which stands before the levels
 --   turns_by_changes  they are the turns
---   turns_step        one step of the pass that keeps turns in place
 use Rattle.std.proofs.Common.{◌≡◌, ◌≢◌, ℕ, ◌≤◌, Bool, true, false, cond, ltb, not, ◌==◌, List, [], ◌∷◌, length, drop, refl, sym, ap, ◌∙◌, arith}
 use Rattle.std.proofs.lemmas.Bool.Decides.{nat_tests}
 use Rattle.turning_points.specs.Points.{changes, is_turn}

@@ -1,8 +1,8 @@
 -- Levels that come in pieces. The idea: levels that repeat change no points, and behind a history a piece in which neighbours differ gives
 -- its turns, whether the level before its last one is a point or lies between two.
---   last_of-index, last_of-take   the last level of a list, by its place
---   piece                         what a piece gives behind the last two points of a history
---   first_piece                   the same of a history that begins
+--   last_of-index   the last level of a list, by its place
+--   piece           what a piece gives behind the last two points of a history
+--   first_piece     the same of a history that begins
 use Rattle.std.proofs.Common.{◌≡◌, ◌≢◌, ℕ, suc, ◌+◌, ◌-◌, ◌<◌, ◌≤◌, ◌⊎◌, inl, inr, Bool, true, false, if◌then◌else◌, List, [], ◌∷◌, ◌++◌, length, take, get_or, refl, sym, ap, ◌∙◌, subst, arith, append_assoc, append-nil}
 use Rattle.std.proofs.lemmas.Bool.{cases_eq}
 use Rattle.std.proofs.lemmas.Bool.Decides.{nat_tests}
