@@ -18,6 +18,7 @@ use Rattle.block_pool.specs.Units.{PoolValue}
 use Rattle.board.specs.Board.{BoardValue}
 use Rattle.collector.specs.declared.collecting.Return.{Return}
 use Rattle.count_workers.specs.Preparing.{IsFreshReader, NewReaders, Connected, NewWorker}
+use Rattle.flow.specs.declared.TheConstants.{BLOCKS_PER_WINDOW}
 
 pushed_by : {A : Type 0} → (P : ℕ → A → Type 0) (xs : List A) (x : A) (k u : ℕ) (d : A) → length xs ≡ k → (u < k → P u (get_or xs u d))
     → P k x → u < k + 1 → ((u ≡ k) ⊎ (u ≡ k → ⊥)) → P u (get_or (xs ++ x ∷ []) u d)
@@ -151,14 +152,19 @@ module _ {C : Type 0} where
   -- with all workers everything rests
   pub rests_first : (plan : Plan) (p : PoolValue) (b : BoardValue) (k : ℕ) (rs : List (Reader C)) (ws : List Worker) (bs : List Return)
       → IsPlan plan → k ≡ plan.workers → Preparing plan k rs ws bs
-      → p ≡ record { units = 16 * plan.gauges; block = plan.block; grid = plan.grid; inside = 16 * plan.gauges }
+      → p ≡ record {
+        units = BLOCKS_PER_WINDOW * plan.gauges;
+        block = plan.block;
+        grid = plan.grid;
+        inside = BLOCKS_PER_WINDOW * plan.gauges;
+      }
       → (b.grid ≡ plan.grid) × (b.block ≡ plan.block) × (length b.rows ≡ plan.gauges)
       → IsResting p b rs ws bs
   rests_first plan p b k rs ws bs ok all h pool board =
       let size : p.block ≡ plan.block = ap (λ (x : PoolValue). x.block) pool in
       let kind : p.grid ≡ plan.grid = ap (λ (x : PoolValue). x.grid) pool in
-      let units : p.units ≡ 16 * plan.gauges = ap (λ (x : PoolValue). x.units) pool in
-      let inside : p.inside ≡ 16 * plan.gauges = ap (λ (x : PoolValue). x.inside) pool in
+      let units : p.units ≡ BLOCKS_PER_WINDOW * plan.gauges = ap (λ (x : PoolValue). x.units) pool in
+      let inside : p.inside ≡ BLOCKS_PER_WINDOW * plan.gauges = ap (λ (x : PoolValue). x.inside) pool in
       record {
         gauges_few = let x = ok.gauges in (omega (arith, x.0, h.long), omega (arith, x.1, h.long));
         block = let x = ok.block in (omega (arith, x.0, size), omega (arith, x.1, size));

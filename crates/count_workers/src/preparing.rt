@@ -54,7 +54,7 @@ fn connect<C: Source>(alloc: Global, reader: &mut Reader<C>) -> Result<Taker<Ite
     requires { vec_len reader.old.desk.feeders < vec_capacity reader.old.desk.feeders }
     ensures { IfOk result (λ taker. Connected reader.old reader.new taker) }
 {
-    let (feeder, taker) = ring(alloc, 17)?;
+    let (feeder, taker) = ring(alloc, BLOCKS_PER_WINDOW + 1)?;
     reader.desk.feeders.push_reserved(feeder);
     Ok(taker)
 }
