@@ -1,8 +1,8 @@
 -- What is read meets the limits of a site.
 --   both_ok, passes, untaken    what a step that came to a value says
 --   gauges_named                the names of gauges that were read
---   details_on                  details are on gauges
---   config_valid                the whole
+--   details_named               the names of details that were read, which are on gauges
+--   config_in-valid             the whole
 use Rattle.std.proofs.Common.{◌≡◌, ◌≢◌, ◌+◌, ◌-◌, ◌<◌, ◌≤◌, ◌⊎◌, inl, inr, ℕ, zero, suc, ℤ, pos, negsuc, Bool, if◌then◌else◌, true, false, List, [], ◌∷◌, ◌++◌, length, map, get_or, Option, Some, None, Result, Ok, Err, refl, sym, ap, subst, ◌∙◌, ◌==◌, arith}
 use Rattle.std.specs.Prelude.{int_lt, unsigned_abs, nat_lt, nat_le}
 use Rattle.std.specs.Cmp.Lexicographic.{pointwise, same_text, other_text}
