@@ -33,6 +33,7 @@ impl Model for Classes {
 }
 
 impl Classes {
+    /// The classes of a grid. No gain was asked for yet.
     pub fn new(grid: &Grid) -> Classes
         ensures { result ≡ grid.now }
     {
@@ -42,6 +43,7 @@ impl Classes {
         }
     }
 
+    /// The grid that the classes are of.
     pub fn grid(&self) -> Grid
         ensures { result ≡ self.now }
     {
