@@ -1,6 +1,6 @@
 -- Raw values outside the bounds of a classifier have no level.
 --   placed          a raw value as a number from the least one on
---   first_before, behind_last   a raw value whose stress is from the lower end to the limit lies within the bounds
+--   within_bounds   a raw value whose stress is from the lower end to the limit lies within the bounds
 --   outside_bounds  one that lies outside them has no level
 --   no_level_more   values without a level leave the history as it is
 use Rattle.std.proofs.Common.{◌≡◌, ℕ, ◌+◌, ◌-◌, ◌*◌, ◌/◌, ◌<◌, ◌≤◌, ◌∙◌, refl, sym, ap, true, false, Bool, List, [], ◌∷◌, ◌++◌, length, take, drop, get_or, min, inl, inr, length-append, arith}
