@@ -4,7 +4,7 @@
 --   half_live, half_counted      X >= Y, and Y contains the starting point: the second of its points is the start
 --   open_live, open_counted      X < Y, or there are fewer than three points: the point is live, and nothing is counted
 --   left_next, left_few          step 6, one range after the other
---   All-first_few, All-start, All-read   what holds of each live point
+--   All-first_few, All-start     what holds of each live point
 use Rattle.std.proofs.Common.{◌≡◌, ℕ, zero, suc, ◌+◌, ◌-◌, ◌<◌, ◌≤◌, ◌⊎◌, inl, inr, List, [], ◌∷◌, ◌++◌, length, take, set, get_or, reverse, sym, ap, ◌∙◌, arith, get_or-take}
 use Rattle.std.specs.Prelude.{All}
 use Rattle.std.proofs.lemmas.List.{take_more_set, reverse-append, length-reverse, length-take, length-take-le}
