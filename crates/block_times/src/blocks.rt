@@ -4,6 +4,7 @@ ghost use Rattle.tally.specs.Counts.{HasGreatestRoom, total_of};
 ghost use Rattle.calibration.specs.declared.grid.TheConstants.{MAX_CLASSES};
 
 use crate::plan::{Form, Plan};
+use calibration::MAX_BLOCK;
 use four_point::Reducer;
 use std::alloc::{AllocError, Global};
 use tally::{Tally, room_for};
@@ -117,7 +118,7 @@ fn fill(levels: &[u16], unit: &mut Unit) {
     unit.reducer.clear();
     let classes = unit.tally.classes();
     if unit.reducer.classes() == classes
-        && levels.len() <= 4096
+        && levels.len() <= MAX_BLOCK as usize
         && has_room(&unit.tally, levels.len())
     {
         push_all(levels, classes, &mut unit.reducer, &mut unit.tally);
@@ -136,7 +137,7 @@ fn has_room(tally: &Tally, samples: usize) -> bool
 
 #[inline(never)]
 fn push_all(levels: &[u16], classes: u16, reducer: &mut Reducer, tally: &mut Tally)
-    requires short { length levels.now ≤ 4096 }
+    requires short { length levels.now ≤ MAX_BLOCK }
     requires classes { reducer.old.classes ≡ classes }
     requires same { tally.old.classes ≡ classes }
     requires none { reducer.old.residue ≡ [] }

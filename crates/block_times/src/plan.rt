@@ -1,7 +1,13 @@
 ghost use Rattle.std.specs.Prelude.{◌≤◌};
+ghost use Rattle.calibration.specs.declared.grid.TheConstants.{MAX_CLASSES};
+ghost use Rattle.calibration.specs.declared.limits.TheConstants.{MAX_BLOCK};
 
+use calibration::{MAX_BLOCK, MAX_CLASSES};
 use std::alloc::{AllocError, Global};
 use std::fmt;
+
+/// A block that is shorter than the greatest one.
+const SHORT_BLOCK: u32 = 1024;
 
 /// What the history looks like: every level as likely as another, or steps of less than one class.
 #[derive(Clone, Copy, Debug, PartialEq, Eq)]
@@ -26,9 +32,9 @@ pub struct Plan {
     pub block: u32,
     pub form: Form,
     ghost some: { 64 ≤ classes },
-    ghost limit: { classes ≤ 1024 },
+    ghost limit: { classes ≤ MAX_CLASSES },
     ghost full: { 1 ≤ block },
-    ghost longest: { block ≤ 4096 },
+    ghost longest: { block ≤ MAX_BLOCK },
 }
 
 impl Plan {
@@ -37,7 +43,7 @@ impl Plan {
         let mut plans = Vec::new(alloc);
         for history in [History::Noise, History::Walk] {
             for units in [1, 512] {
-                for block in [1024, 4096] {
+                for block in [SHORT_BLOCK, MAX_BLOCK] {
                     push_plans(&mut plans, history, units, block)?;
                 }
             }
@@ -55,23 +61,23 @@ fn push_plans(
     block: u32,
 ) -> Result<(), AllocError>
     requires full { 1 ≤ block }
-    requires longest { block ≤ 4096 }
+    requires longest { block ≤ MAX_BLOCK }
 {
     plans.push(plan_of(history, 64, units, block, Form::Table))?;
-    if block == 1024 {
+    if block == SHORT_BLOCK {
         plans.push(plan_of(history, 64, units, block, Form::Log))?;
     }
     plans.push(plan_of(history, 128, units, block, Form::Table))?;
     plans.push(plan_of(history, 128, units, block, Form::Log))?;
-    plans.push(plan_of(history, 1024, units, block, Form::Log))?;
+    plans.push(plan_of(history, MAX_CLASSES, units, block, Form::Log))?;
     Ok(())
 }
 
 fn plan_of(history: History, classes: u16, units: u32, block: u32, form: Form) -> Plan
     requires some { 64 ≤ classes }
-    requires limit { classes ≤ 1024 }
+    requires limit { classes ≤ MAX_CLASSES }
     requires full { 1 ≤ block }
-    requires longest { block ≤ 4096 }
+    requires longest { block ≤ MAX_BLOCK }
 {
     Plan {
         history,
