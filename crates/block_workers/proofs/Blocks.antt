@@ -29,6 +29,7 @@ use Rattle.block_workers.specs.Reading.AreWhole.{empty, whole}
 use Rattle.block_workers.specs.Jobs.{NotRead}
 use Rattle.gauge_ring.proofs.Ends.{same_feeders}
 use Rattle.lemmas.proofs.Lists.{all_written}
+use Rattle.flow.specs.declared.TheConstants.{BLOCKS_PER_WINDOW}
 
 pub unit_is : (d : Desk) (n : ℕ) (kind : GridValue) (buf out : List ℤ) (u : FilledValue)
     → u ≡ record {
@@ -282,7 +283,7 @@ whole_step tells left_old left_mid left_new old mid new number answer sure r o =
       end,
     ))
 
-done_or : (tells : Type 0) (left_old left_mid left_new : List ℕ) (old mid new : Desk) (number : ℕ) → number < 16
+done_or : (tells : Type 0) (left_old left_mid left_new : List ℕ) (old mid new : Desk) (number : ℕ) → number < BLOCKS_PER_WINDOW
     → Reading tells left_old left_mid old mid (number * old.block) (WholeSoFar old mid number) → SameDesk mid new → new.at ≤ MAX_SAMPLES
     → (tells → Gives mid.block (most mid) left_mid (new.at - mid.at) new.end left_new)
     → (Nothing mid new ⊎ OneBlock tells left_mid mid new number)
@@ -296,21 +297,21 @@ done_or tells left_old left_mid left_new old mid new number few r s limit k (inr
       whole_last old old.at mid.at new.at r.units b.unit r.are.1 (unit_from old mid mid.at new.at b.unit r.same b.is),
     )
 
-pub done_with : (tells : Type 0) (left_old left_mid left_new : List ℕ) (old mid new : Desk) (number : ℕ) (answer : Bool) → number < 16
-    → answer ≡ false → Reading tells left_old left_mid old mid (number * old.block) (WholeSoFar old mid number)
+pub done_with : (tells : Type 0) (left_old left_mid left_new : List ℕ) (old mid new : Desk) (number : ℕ) (answer : Bool)
+    → number < BLOCKS_PER_WINDOW → answer ≡ false → Reading tells left_old left_mid old mid (number * old.block) (WholeSoFar old mid number)
     → OneRead tells left_mid left_new mid new number answer
-    → Reading tells left_old left_new old new (16 * old.block) (BlocksOfRound old new)
+    → Reading tells left_old left_new old new (BLOCKS_PER_WINDOW * old.block) (BlocksOfRound old new)
 done_with tells left_old left_mid left_new old mid new number answer few over r o =
     let d = done_or tells left_old left_mid left_new old mid new number few r o.same o.limit o.gives o.did in
-    let up : (number + 1) * old.block ≤ 16 * old.block = mul-le-mul_right old.block (omega (arith, few)) in
+    let up : (number + 1) * old.block ≤ BLOCKS_PER_WINDOW * old.block = mul-le-mul_right old.block (omega (arith, few)) in
     let sum : number * old.block + old.block ≡ (number + 1) * old.block = omega arith in
-    wanting tells left_old left_new old new (number * old.block + old.block) (16 * old.block) (BlocksOfRound old new) d
-    (λ t. gives_wider (number * old.block + old.block) (16 * old.block) (most old) (new.at - old.at) left_old left_new new.end
-    (o.ended over) (omega (arith, up, sum)) (d.gives t))
+    wanting tells left_old left_new old new (number * old.block + old.block) (BLOCKS_PER_WINDOW * old.block) (BlocksOfRound old new) d
+    (λ t. gives_wider (number * old.block + old.block) (BLOCKS_PER_WINDOW * old.block) (most old) (new.at - old.at) left_old left_new
+    new.end (o.ended over) (omega (arith, up, sum)) (d.gives t))
 
-pub done_all : (tells : Type 0) (left_old left_new : List ℕ) (old new : Desk) (number : ℕ) → number ≡ 16
+pub done_all : (tells : Type 0) (left_old left_new : List ℕ) (old new : Desk) (number : ℕ) → number ≡ BLOCKS_PER_WINDOW
     → Reading tells left_old left_new old new (number * old.block) (WholeSoFar old new number)
-    → Reading tells left_old left_new old new (16 * old.block) (BlocksOfRound old new)
+    → Reading tells left_old left_new old new (BLOCKS_PER_WINDOW * old.block) (BlocksOfRound old new)
 done_all tells left_old left_new old new number few r = record {
   same = r.same;
   limit = r.limit;
@@ -325,7 +326,8 @@ done_all tells left_old left_new old new number few r = record {
   are = (omega (arith, r.are.0, few), whole_are old old.at new.at r.units r.are.1);
 }
 
-pub none_yet : (tells : Type 0) (l : List ℕ) (d : Desk) → IsReady d 16 → Reading tells l l d d (0 * d.block) (WholeSoFar d d 0)
+pub none_yet : (tells : Type 0) (l : List ℕ) (d : Desk) → IsReady d BLOCKS_PER_WINDOW
+    → Reading tells l l d d (0 * d.block) (WholeSoFar d d 0)
 none_yet tells l d h =
     let zero_at : d.at - d.at ≡ 0 = omega arith in
     let none_wanted : 0 ≡ 0 * d.block = omega arith in
@@ -345,8 +347,8 @@ none_yet tells l d h =
       fit = h.fit;
     }
 
-pub still_ready : (tells : Type 0) (l m : List ℕ) (old new : Desk) (number : ℕ) → IsReady old 16 → number < 16
-    → Reading tells l m old new (number * old.block) (WholeSoFar old new number) → IsReady new (16 - number)
+pub still_ready : (tells : Type 0) (l m : List ℕ) (old new : Desk) (number : ℕ) → IsReady old BLOCKS_PER_WINDOW → number < BLOCKS_PER_WINDOW
+    → Reading tells l m old new (number * old.block) (WholeSoFar old new number) → IsReady new (BLOCKS_PER_WINDOW - number)
 still_ready tells l m old new number h few r = record {
   blanks = omega (arith, r.blanks, r.are.0, h.blanks, few);
   fit = subst (λ k. All (IsBlank k new.grid) new.blanks.items) (sym r.same.block)
@@ -358,7 +360,7 @@ still_ready tells l m old new number h few r = record {
 }
 
 pub marked : (tells : Type 0) (left_old left_new : List ℕ) (old mid new : Desk)
-    → Reading tells left_old left_new old mid (16 * old.block) (BlocksOfRound old mid) → SameDesk mid new → new.at ≡ mid.at
+    → Reading tells left_old left_new old mid (BLOCKS_PER_WINDOW * old.block) (BlocksOfRound old mid) → SameDesk mid new → new.at ≡ mid.at
     → new.end ≡ mid.end → new.blanks ≡ mid.blanks → MarksAll mid.feeders.items new.feeders.items → ReadDone tells left_old left_new old new
 marked tells left_old left_new old mid new r s at end b m = record {
   same = same_desk old mid new r.same s;
@@ -367,8 +369,8 @@ marked tells left_old left_new old mid new r s at end b m = record {
   few = r.are.0;
   blocks = subst (AreBlocks old old.at r.units) (sym at) r.are.1;
   samples = λ t. r.samples t ∙ ap (λ a. take (a - old.at) (samples left_old)) (sym at);
-  gives = λ t. subst (λ e. Gives (16 * old.block) (most old) left_old (new.at - old.at) e left_new) (sym end)
-      (subst (λ a. Gives (16 * old.block) (most old) left_old (a - old.at) mid.end left_new) (sym at) (r.gives t));
+  gives = λ t. subst (λ e. Gives (BLOCKS_PER_WINDOW * old.block) (most old) left_old (new.at - old.at) e left_new) (sym end)
+      (subst (λ a. Gives (BLOCKS_PER_WINDOW * old.block) (most old) left_old (a - old.at) mid.end left_new) (sym at) (r.gives t));
   fed = λ v d h. m.marked v d (omega (arith, h, r.same.feeders, mid.feeders.ok.0)) ∙ ap (λ l. l ++ Mark ∷ []) (r.fed v d h)
       ∙ append_assoc (fed (get_or old.feeders.items v d)) (map block_of (dealt (vec_len old.feeders) v 0 r.units)) (Mark ∷ []);
   ends = λ v d h. same_feeders (get_or old.feeders.items v d) (get_or mid.feeders.items v d) (get_or new.feeders.items v d) (r.ends v d h)

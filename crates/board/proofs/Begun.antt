@@ -15,15 +15,16 @@ use Rattle.board.specs.Board.{BoardValue, Row, IsRow, IsBoard, IsBegun, StandsIn
 use Rattle.board.specs.Clearing.{IsFresh, RowBegun, RowsBegun}
 use Rattle.board.proofs.Placing.{between_off, spans_none, none_stand}
 use Rattle.lemmas.proofs.Lists.{all_written}
+use Rattle.flow.specs.declared.TheConstants.{BLOCKS_PER_WINDOW}
 
 module _ (block gauge start : ℕ) (kind : GridValue) (r : Row) (h : IsFresh block kind gauge start r) where
-  from_is : (k : ℕ) (d : SegmentValue) → k < 16 → (get_or r.slots k d).from ≡ start
+  from_is : (k : ℕ) (d : SegmentValue) → k < BLOCKS_PER_WINDOW → (get_or r.slots k d).from ≡ start
   from_is k d m = ap (λ (z : SegmentValue). z.from) (h.each k d m)
 
-  to_is : (k : ℕ) (d : SegmentValue) → k < 16 → (get_or r.slots k d).to ≡ start
+  to_is : (k : ℕ) (d : SegmentValue) → k < BLOCKS_PER_WINDOW → (get_or r.slots k d).to ≡ start
   to_is k d m = ap (λ (z : SegmentValue). z.to) (h.each k d m)
 
-  pub fresh_empty : (k : ℕ) (d : SegmentValue) → k < 16 → (get_or r.slots k d).from < (get_or r.slots k d).to → ⊥
+  pub fresh_empty : (k : ℕ) (d : SegmentValue) → k < BLOCKS_PER_WINDOW → (get_or r.slots k d).from < (get_or r.slots k d).to → ⊥
   fresh_empty k d m some = omega (arith, from_is k d m, to_is k d m, some)
 
   pub fresh_row : IsRow block kind gauge r
@@ -44,10 +45,11 @@ module _ (block gauge start : ℕ) (kind : GridValue) (r : Row) (h : IsFresh blo
   fresh_spans i = spans_none i r.slots (λ k d m. between_off (get_or r.slots k d).from (get_or r.slots k d).to i
       (λ some. absurd (fresh_empty k d (omega (arith, m, h.long)) some)))
 
-  pub fresh_stands : (gain : GainValue) (w : List ℤ) (k : ℕ) (d : SegmentValue) → k < 16 → StandsIn (get_or r.slots k d) gain w
+  pub fresh_stands : (gain : GainValue) (w : List ℤ) (k : ℕ) (d : SegmentValue) → k < BLOCKS_PER_WINDOW →
+      StandsIn (get_or r.slots k d) gain w
   fresh_stands gain w k d m =
       none_stand gain w (get_or r.slots k d) (to_is k d m ∙ sym (from_is k d m))
-      (subst (λ (z : SegmentValue). Stands z gain []) (sym (h.each k d m)) (empty_stands kind gauge start (16 * block) gain))
+      (subst (λ (z : SegmentValue). Stands z gain []) (sym (h.each k d m)) (empty_stands kind gauge start (BLOCKS_PER_WINDOW * block) gain))
 
 no_hits : (g i : ℕ) (l : List Name) → l ≡ [] → hits g i l ≡ 0
 no_hits g i l e = ap (hits g i) e
@@ -66,7 +68,7 @@ module _ (b : BoardValue) (starts : ℕ → ℕ) (none : b.arrivals ≡ [])
     rows = λ g d m. fresh_row b.block g (starts g) b.grid (get_or b.rows g d) (fresh g d m);
     intervals = λ g i d m. fresh_spans b.block g (starts g) b.grid (get_or b.rows g d) (fresh g d m) i ∙ sym (no_hits g i b.arrivals none);
     count = ap length none ∙ sym (over_none (length b.rows) _
-        (λ g m. over_none 16 _ (λ k h. no_hits g (start_of b g + k * b.block) b.arrivals none)));
+        (λ g m. over_none BLOCKS_PER_WINDOW _ (λ k h. no_hits g (start_of b g + k * b.block) b.arrivals none)));
   }
 
   pub fresh_begun : IsBegun b starts

@@ -11,6 +11,7 @@ use Rattle.flow.specs.Kept.{between, over}
 use Rattle.flow.proofs.Counting.{over_same, over_none, has_other, has_past, has_inside, hits-append, over_sum}
 use Rattle.board.specs.Board.{spans, IsRow, Row}
 use Rattle.board.proofs.Placing.{between_off, spans_none}
+use Rattle.flow.specs.declared.TheConstants.{BLOCKS_PER_WINDOW}
 
 pub over_most : (n c : ℕ) (f : ℕ → ℕ) → ((v : ℕ) → v < n → f v ≤ c) → over n f ≤ n * c
 over_most zero c f h = omega arith
@@ -49,31 +50,33 @@ other_block g start block k b n pos from short ne = elim (cases_lt k b) [
 ]
 
 -- the windows begin alike: one block more
-pub one_block_more : (gauges block b : ℕ) (starts : ℕ → ℕ) (l : List Name) (n : Name) → 0 < block → n.gauge < gauges → b < 16
+pub one_block_more : (gauges block b : ℕ) (starts : ℕ → ℕ) (l : List Name) (n : Name) → 0 < block → n.gauge < gauges → b < BLOCKS_PER_WINDOW
     → n.from ≡ starts n.gauge + b * block → n.from < n.to → n.to ≤ n.from + block
-    → over gauges (λ g. over 16 (λ k. hits g (starts g + k * block) (l ++ n ∷ []))) ≡ over gauges
-    (λ g. over 16 (λ k. hits g (starts g + k * block) l)) + 1
+    → over gauges (λ g. over BLOCKS_PER_WINDOW (λ k. hits g (starts g + k * block) (l ++ n ∷ []))) ≡ over gauges
+    (λ g. over BLOCKS_PER_WINDOW (λ k. hits g (starts g + k * block) l)) + 1
 one_block_more gauges block b starts l n pos known few from some short =
     let one : (g k : ℕ) → hits g (starts g + k * block) (l ++ n ∷ []) ≡ hits g (starts g + k * block) l + has g (starts g + k * block) n =
     λ g k. (let e : hits g (starts g + k * block) (l ++ n ∷ []) ≡ hits g (starts g + k * block) l + (has g (starts g + k * block) n + 0) =
     hits-append g (starts g + k * block) l (n ∷ []) in omega (arith, e)) in
-    let inner : (g : ℕ) → over 16 (λ k. hits g (starts g + k * block) (l ++ n ∷ [])) ≡ over 16
-    (λ k. hits g (starts g + k * block) l) + over 16 (λ k. has g (starts g + k * block) n) =
-    λ g. over_same 16 _ (λ k. hits g (starts g + k * block) l + has g (starts g + k * block) n) (λ k m. one g k) ∙ over_sum 16
-    (λ k. hits g (starts g + k * block) l) (λ k. has g (starts g + k * block) n) in
-    let outer : over gauges (λ g. over 16 (λ k. hits g (starts g + k * block) (l ++ n ∷ []))) ≡ over gauges
-    (λ g. over 16 (λ k. hits g (starts g + k * block) l)) + over gauges (λ g. over 16 (λ k. has g (starts g + k * block) n)) =
-    over_same gauges _ (λ g. over 16 (λ k. hits g (starts g + k * block) l) + over 16 (λ k. has g (starts g + k * block) n))
-    (λ g m. inner g) ∙ over_sum gauges (λ g. over 16 (λ k. hits g (starts g + k * block) l))
-    (λ g. over 16 (λ k. has g (starts g + k * block) n)) in
+    let inner : (g : ℕ) → over BLOCKS_PER_WINDOW (λ k. hits g (starts g + k * block) (l ++ n ∷ [])) ≡ over BLOCKS_PER_WINDOW
+    (λ k. hits g (starts g + k * block) l) + over BLOCKS_PER_WINDOW (λ k. has g (starts g + k * block) n) =
+    λ g. over_same BLOCKS_PER_WINDOW _ (λ k. hits g (starts g + k * block) l + has g (starts g + k * block) n) (λ k m. one g k)
+    ∙ over_sum BLOCKS_PER_WINDOW (λ k. hits g (starts g + k * block) l) (λ k. has g (starts g + k * block) n) in
+    let outer : over gauges (λ g. over BLOCKS_PER_WINDOW (λ k. hits g (starts g + k * block) (l ++ n ∷ []))) ≡ over gauges
+    (λ g. over BLOCKS_PER_WINDOW (λ k. hits g (starts g + k * block) l))
+    + over gauges (λ g. over BLOCKS_PER_WINDOW (λ k. has g (starts g + k * block) n)) = over_same gauges _
+    (λ g. over BLOCKS_PER_WINDOW (λ k. hits g (starts g + k * block) l) + over BLOCKS_PER_WINDOW (λ k. has g (starts g + k * block) n))
+    (λ g m. inner g) ∙ over_sum gauges (λ g. over BLOCKS_PER_WINDOW (λ k. hits g (starts g + k * block) l))
+    (λ g. over BLOCKS_PER_WINDOW (λ k. has g (starts g + k * block) n)) in
     let here : has n.gauge (starts n.gauge + b * block) n ≡ 1 = has_inside n.gauge (starts n.gauge + b * block) n refl
     (omega (arith, from)) (omega (arith, from, some)) in
-    let block_sum : over 16 (λ k. has n.gauge (starts n.gauge + k * block) n) ≡ 1 = over_only 16 b 1
+    let block_sum : over BLOCKS_PER_WINDOW (λ k. has n.gauge (starts n.gauge + k * block) n) ≡ 1 = over_only BLOCKS_PER_WINDOW b 1
     (λ k. has n.gauge (starts n.gauge + k * block) n) few here
     (λ k m ne. other_block n.gauge (starts n.gauge) block k b n pos from short ne) in
-    let sums : over gauges (λ g. over 16 (λ k. has g (starts g + k * block) n)) ≡ 1 =
-    over_only gauges n.gauge 1 (λ g. over 16 (λ k. has g (starts g + k * block) n)) known block_sum
-    (λ g m ne. over_none 16 (λ k. has g (starts g + k * block) n) (λ k h. has_other g (starts g + k * block) n (λ q. ne (sym q)))) in
+    let sums : over gauges (λ g. over BLOCKS_PER_WINDOW (λ k. has g (starts g + k * block) n)) ≡ 1 =
+    over_only gauges n.gauge 1 (λ g. over BLOCKS_PER_WINDOW (λ k. has g (starts g + k * block) n)) known block_sum
+    (λ g m ne. over_none BLOCKS_PER_WINDOW (λ k. has g (starts g + k * block) n) (λ k h.
+    has_other g (starts g + k * block) n (λ q. ne (sym q)))) in
     omega (arith, outer, sums)
 
 between_means : (a b i : ℕ) → (between a b i ≡ 0) ⊎ ((between a b i ≡ 1) × (a ≤ i) × (i < b))

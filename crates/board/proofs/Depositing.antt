@@ -17,6 +17,7 @@ use Rattle.board.specs.Deposits.{Numbered, HasSample}
 use Rattle.board.proofs.Lists.{at_set}
 use Rattle.board.proofs.Counts.{one_block_more, over_most, row_once}
 use Rattle.std.specs.Prelude.{Some}
+use Rattle.flow.specs.declared.TheConstants.{BLOCKS_PER_WINDOW}
 
 no_row : Row
 no_row = record { start = 0; slots = [] }
@@ -26,12 +27,12 @@ hits_push g i l m n e = let a : hits g i m ≡ hits g i (l ++ n ∷ []) = ap (hi
     (has g i n + 0) = hits-append g i l (n ∷ []) in omega (arith, a, b)
 
 -- a board has at most 16 names for each gauge
-pub board_few : (b : BoardValue) → IsBoard b → length b.arrivals ≤ length b.rows * 16
+pub board_few : (b : BoardValue) → IsBoard b → length b.arrivals ≤ length b.rows * BLOCKS_PER_WINDOW
 board_few b h =
-    let most : blocks_placed b ≤ length b.rows * 16 = over_most (length b.rows) 16
-    (λ g. over 16 (λ k. hits g (start_of b g + k * b.block) b.arrivals)) (λ g m.
-    let sums : over 16 (λ k. hits g (start_of b g + k * b.block) b.arrivals) ≤ 16 * 1 = over_most 16 1
-    (λ k. hits g (start_of b g + k * b.block) b.arrivals) (λ k u.
+    let most : blocks_placed b ≤ length b.rows * BLOCKS_PER_WINDOW = over_most (length b.rows) BLOCKS_PER_WINDOW
+    (λ g. over BLOCKS_PER_WINDOW (λ k. hits g (start_of b g + k * b.block) b.arrivals)) (λ g m.
+    let sums : over BLOCKS_PER_WINDOW (λ k. hits g (start_of b g + k * b.block) b.arrivals) ≤ BLOCKS_PER_WINDOW * 1 =
+    over_most BLOCKS_PER_WINDOW 1 (λ k. hits g (start_of b g + k * b.block) b.arrivals) (λ k u.
     let e = h.intervals g (start_of b g + k * b.block) (record { start = 0; slots = [] }) m in
     let f = row_once b.block g (start_of b g + k * b.block) b.grid (get_or b.rows g (record { start = 0; slots = [] }))
     (h.rows g (record { start = 0; slots = [] }) m) in omega (arith, e, f)) in
@@ -76,16 +77,17 @@ module _ (b : BoardValue) (k : ℕ) (seg : SegmentValue) (new d : Row) (arrivals
       counted : length arrivals ≡ blocks_placed placed_in
       counted =
           let long : length arrivals ≡ length (b.arrivals ++ (name_of seg) ∷ []) = ap length grown in
-          let grew : over (length b.rows) (λ i. over 16 (λ j. hits i (start_of b i + j * b.block)
+          let grew : over (length b.rows) (λ i. over BLOCKS_PER_WINDOW (λ j. hits i (start_of b i + j * b.block)
           (b.arrivals ++ (name_of seg) ∷ []))) ≡ blocks_placed b + 1 =
           one_block_more (length b.rows) b.block k (start_of b) b.arrivals (name_of seg) fits.some_block known fits.place
           (fits.from ∙ ap (λ r. r.start + k * b.block) (get_or_default b.rows g d
           (record { start = 0; slots = [] }) known)) fits.some fits.short in
           let same : blocks_placed placed_in ≡ over (length b.rows)
-          (λ i. over 16 (λ j. hits i (start_of b i + j * b.block) (b.arrivals ++ (name_of seg) ∷ []))) =
-          ap (λ n. over n (λ i. over 16 (λ j. hits i (start_of placed_in i + j * b.block) arrivals))) (length-set b.rows g new)
-          ∙ over_same (length b.rows) _ (λ i. over 16 (λ j. hits i (start_of b i + j * b.block) (b.arrivals ++ (name_of seg) ∷ [])))
-          (λ i m. over_same 16 _ (λ j. hits i (start_of b i + j * b.block) (b.arrivals ++ (name_of seg) ∷ []))
+          (λ i. over BLOCKS_PER_WINDOW (λ j. hits i (start_of b i + j * b.block) (b.arrivals ++ (name_of seg) ∷ []))) =
+          ap (λ n. over n (λ i. over BLOCKS_PER_WINDOW (λ j. hits i (start_of placed_in i + j * b.block) arrivals)))
+          (length-set b.rows g new) ∙ over_same (length b.rows) _
+          (λ i. over BLOCKS_PER_WINDOW (λ j. hits i (start_of b i + j * b.block) (b.arrivals ++ (name_of seg) ∷ [])))
+          (λ i m. over_same BLOCKS_PER_WINDOW _ (λ j. hits i (start_of b i + j * b.block) (b.arrivals ++ (name_of seg) ∷ []))
           (λ j u. ap (λ s. hits i (s + j * b.block) arrivals) (starts_same i) ∙ ap (hits i (start_of b i + j * b.block)) grown)) in
           let plus : length (b.arrivals ++ (name_of seg) ∷ []) ≡ length b.arrivals + 1 = length_push b.arrivals (name_of seg) in
           omega (arith, long, plus, grew, same, h.count)
@@ -105,7 +107,7 @@ module _ (b : BoardValue) (k : ℕ) (seg : SegmentValue) (new d : Row) (arrivals
             count = counted;
           }
 
-      pub placed_room : length b.arrivals + 1 ≤ 16 * length b.rows
+      pub placed_room : length b.arrivals + 1 ≤ BLOCKS_PER_WINDOW * length b.rows
       placed_room =
           let few = board_few placed_in placed_board in let size : length (set b.rows g new) ≡ length b.rows = length-set b.rows g new in
           let n : length arrivals ≡ length b.arrivals + 1 = ap length grown ∙ length_push b.arrivals (name_of seg) in omega

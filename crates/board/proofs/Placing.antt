@@ -18,15 +18,16 @@ use Rattle.board.specs.Board.{spans, IsRow, IsSlot, StandsIn}
 use Rattle.board.specs.Rows.{IsEmpty, IsCopy, IsJoin, Put, Extended, Closes, CanPlace, Placed, AllStand}
 use Rattle.board.proofs.Lists.{at_set}
 use Rattle.board.proofs.Slots.{spans-set}
+use Rattle.flow.specs.declared.TheConstants.{BLOCKS_PER_WINDOW}
 
 -- a row in which the interval at t may touch the one at n, and no others touch
 pub record Loose (start block gauge : ℕ) (kind : GridValue) (t n : ℕ) (l : List SegmentValue) : Type 0 where
-  pub long : length l ≡ 16
-  pub each : (k : ℕ) (d : SegmentValue) → k < 16 → IsSlot block kind gauge (get_or l k d)
+  pub long : length l ≡ BLOCKS_PER_WINDOW
+  pub each : (k : ℕ) (d : SegmentValue) → k < BLOCKS_PER_WINDOW → IsSlot block kind gauge (get_or l k d)
   pub first : (d : SegmentValue) → (get_or l 0 d).from ≡ start
-  pub shape : (k : ℕ) (d : SegmentValue) → k < 16 → (get_or l k d).from < (get_or l k d).to → ((get_or l k d).from ≡ start + k * block) ×
-      ((get_or l k d).to ≤ start + 16 * block)
-  pub apart : (j k : ℕ) (d : SegmentValue) → j < k → k < 16 → (get_or l j d).from < (get_or l j d).to → (get_or l k d).from <
+  pub shape : (k : ℕ) (d : SegmentValue) → k < BLOCKS_PER_WINDOW → (get_or l k d).from < (get_or l k d).to →
+      ((get_or l k d).from ≡ start + k * block) × ((get_or l k d).to ≤ start + BLOCKS_PER_WINDOW * block)
+  pub apart : (j k : ℕ) (d : SegmentValue) → j < k → k < BLOCKS_PER_WINDOW → (get_or l j d).from < (get_or l j d).to → (get_or l k d).from <
       (get_or l k d).to → ((get_or l j d).to ≤ (get_or l k d).from) × ((get_or l j d).to ≡ (get_or l k d).from → (j ≡ t) × (k ≡ n))
 
 -- a later block begins where a block ends, or behind it
@@ -65,8 +66,8 @@ put_loose start block k old new seg r c before p =
       });
       first = λ d. at_set (λ i s. i ≡ 0 → s.from ≡ start) old k x 0 d l (λ e z. r.first d)
           (λ e z. let none : k * block ≡ 0 * block = ap (λ n. n * block) z in omega (arith, from, c.from, none)) refl;
-      shape = λ i d h. at_set (λ i s. s.from < s.to → (s.from ≡ start + i * block) × (s.to ≤ start + 16 * block)) old k x i d l
-          (λ e. r.shape i d h) (λ e some. (from ∙ c.from, omega (arith, to, c.window)));
+      shape = λ i d h. at_set (λ i s. s.from < s.to → (s.from ≡ start + i * block) × (s.to ≤ start + BLOCKS_PER_WINDOW * block))
+          old k x i d l (λ e. r.shape i d h) (λ e some. (from ∙ c.from, omega (arith, to, c.window)));
       apart = λ i j d h m. at_set (λ i s. i < j → s.from < s.to → (get_or (set old k x) j d).from < (get_or (set old k x) j d).to →
           (s.to ≤ (get_or (set old k x) j d).from) × (s.to ≡ (get_or (set old k x) j d).from → (i ≡ k) × (j ≡ k + 1))) old k x i d l
           (λ e. at_set (λ j s. i < j → (get_or old i d).from < (get_or old i d).to → s.from < s.to → ((get_or old i d).to ≤ s.from) ×
@@ -95,7 +96,7 @@ extend_loose start block j k old new seg r c less full empties touch p =
     let from : x.from ≡ p.was.from = ap (λ n. n.from) p.join.name in
     let to : x.to ≡ seg.to = ap (λ n. n.to) p.join.name in
     let was_from : (d : SegmentValue) → (get_or old j d).from ≡ x.from = λ d. ap (λ s. s.from) (p.at d) ∙ sym from in
-    let js : j < 16 = omega (arith, less, c.place) in
+    let js : j < BLOCKS_PER_WINDOW = omega (arith, less, c.place) in
     record {
       long = length-set old j x ∙ r.long;
       each = λ i d h. at_set (λ i s. IsSlot block seg.grid seg.gauge s) old j x i d l (λ e. r.each i d h) (λ e. record {
@@ -106,8 +107,8 @@ extend_loose start block j k old new seg r c less full empties touch p =
       });
       first = λ d. at_set (λ i s. i ≡ 0 → s.from ≡ start) old j x 0 d l (λ e z. r.first d)
           (λ e z. sym (was_from d) ∙ ap (λ i. (get_or old i d).from) z ∙ r.first d) refl;
-      shape = λ i d h. at_set (λ i s. s.from < s.to → (s.from ≡ start + i * block) × (s.to ≤ start + 16 * block)) old j x i d l
-          (λ e. r.shape i d h) (λ e some. (sym (was_from d) ∙ (r.shape j d js (full d)).0, omega (arith, to, c.window)));
+      shape = λ i d h. at_set (λ i s. s.from < s.to → (s.from ≡ start + i * block) × (s.to ≤ start + BLOCKS_PER_WINDOW * block))
+          old j x i d l (λ e. r.shape i d h) (λ e some. (sym (was_from d) ∙ (r.shape j d js (full d)).0, omega (arith, to, c.window)));
       apart = λ a b d h m. at_set (λ i s. i < b → s.from < s.to → (get_or (set old j x) b d).from < (get_or (set old j x) b d).to →
           (s.to ≤ (get_or (set old j x) b d).from) × (s.to ≡ (get_or (set old j x) b d).from → (i ≡ j) × (b ≡ k + 1))) old j x a d l
           (λ e. at_set (λ i s. a < i → (get_or old a d).from < (get_or old a d).to → s.from < s.to → ((get_or old a d).to ≤ s.from) ×
@@ -150,7 +151,7 @@ close_row start block gauge kind j n old new less full_j r (inl (p, (inside, tou
     let lj : j < length old = omega (arith, inside, less) in
     let long : length (set old j x) ≡ length old = length-set old j x in
     let ln : n < length (set old j x) = omega (arith, long, inside) in
-    let n16 : n < 16 = omega (arith, inside, r.long) in let j16 : j < 16 = omega (arith, n16, less) in
+    let n16 : n < BLOCKS_PER_WINDOW = omega (arith, inside, r.long) in let j16 : j < BLOCKS_PER_WINDOW = omega (arith, n16, less) in
     let gauge_x : x.gauge ≡ p.was.gauge = ap (λ m. m.gauge) p.join.name in
     let from_x : (d : SegmentValue) → x.from ≡ (get_or old j d).from = λ d. ap (λ m. m.from) p.join.name ∙ ap (λ s. s.from)
     (sym (p.at d)) in
@@ -177,11 +178,12 @@ close_row start block gauge kind j n old new less full_j r (inl (p, (inside, tou
           });
       first = λ d. place (λ i s. i ≡ 0 → s.from ≡ start) 0 d (λ e f z. r.first d)
           (λ e z. from_x d ∙ ap (λ i. (get_or old i d).from) z ∙ r.first d) (λ e z. absurd (omega (arith, z, less))) refl;
-      shape = λ i d h. place (λ i s. s.from < s.to → (s.from ≡ start + i * block) × (s.to ≤ start + 16 * block)) i d (λ e f. r.shape i d h)
+      shape = λ i d h. place (λ i s. s.from < s.to → (s.from ≡ start + i * block) × (s.to ≤ start + BLOCKS_PER_WINDOW * block))
+          i d (λ e f. r.shape i d h)
           (λ e s. (from_x d ∙ (r.shape j d j16 (full_j d)).0, omega (arith, to_x d, (r.shape n d n16 (full d)).1)))
           (λ e s. absurd (omega (arith, s, gone)));
       apart = λ a b d h m.
-          let Pair : ℕ → SegmentValue → ℕ → SegmentValue → Type 0 = λ i s k z. i < k → k < 16 → s.from < s.to → z.from < z.to
+          let Pair : ℕ → SegmentValue → ℕ → SegmentValue → Type 0 = λ i s k z. i < k → k < BLOCKS_PER_WINDOW → s.from < s.to → z.from < z.to
           → s.to < z.from in
           place (λ i s. Pair i s b (get_or final b d)) a d
           (λ na ja. place (λ k z. Pair a (get_or old a d) k z) b d
@@ -323,15 +325,16 @@ put_stands : (gain : GainValue) (k : ℕ) (w : List ℤ) (old : List SegmentValu
 put_stands gain k w old n seg x l c h s i d m = at_set (λ i z. StandsIn z gain w) old k x i d l (λ e. h i d m)
     (λ e. copy_stands gain w n seg x c s)
 
-extend_stands : (gain : GainValue) (j : ℕ) (w : List ℤ) (old new : List SegmentValue) (seg : SegmentValue) → j < length old → j < 16 →
-    ((d : SegmentValue) → (get_or old j d).from < (get_or old j d).to) → ((d : SegmentValue) → (get_or old j d).to ≡ seg.from)
+extend_stands : (gain : GainValue) (j : ℕ) (w : List ℤ) (old new : List SegmentValue) (seg : SegmentValue) → j < length old →
+    j < BLOCKS_PER_WINDOW → ((d : SegmentValue) → (get_or old j d).from < (get_or old j d).to)
+    → ((d : SegmentValue) → (get_or old j d).to ≡ seg.from)
     → seg.from < seg.to → (p : Extended old new j seg) → AllStand gain w old → StandsIn seg gain w → AllStand gain w (set old j p.now)
 extend_stands gain j w old new seg l j16 full touch some p h s i d m = at_set (λ i z. StandsIn z gain w) old j p.now i d l (λ e. h i d m)
     (λ e. join_stands gain w p.was seg p.now p.join (ap (λ z. z.to) (sym (p.at d)) ∙ touch d)
     (subst (λ (z : SegmentValue). z.from ≤ z.to) (p.at d) (omega (arith, full d))) (omega (arith, some))
     (subst (λ z. StandsIn z gain w) (p.at d) (h j d j16)) s)
 
-close_stands : (gain : GainValue) (j n : ℕ) (w : List ℤ) (old new : List SegmentValue) → j < n → length old ≡ 16 →
+close_stands : (gain : GainValue) (j n : ℕ) (w : List ℤ) (old new : List SegmentValue) → j < n → length old ≡ BLOCKS_PER_WINDOW →
     ((d : SegmentValue) → (get_or old j d).from < (get_or old j d).to) → Closes old new j n → AllStand gain w old → AllStand gain w new
 close_stands gain j n w old new less long full_j (inr (same, open_there)) h = subst (AllStand gain w) (sym same) h
 close_stands gain j n w old new less long full_j (inl (p, (inside, touch, full))) h =
@@ -394,7 +397,7 @@ pub placed_extend : (start block j k : ℕ) (old mid new : List SegmentValue) (s
     → Extended old mid j seg → Closes mid new j (k + 1) → Placed start block old new seg
 placed_extend start block j k old mid new seg r c upto full empties touch p close =
     let x = p.now in
-    let j16 : j < 16 = omega (arith, upto, c.place) in
+    let j16 : j < BLOCKS_PER_WINDOW = omega (arith, upto, c.place) in
     let l : j < length old = omega (arith, r.long, j16) in
     let less : j < k = elim (cases_lt j k) [
       | inl a ↦ a
@@ -427,10 +430,10 @@ placed_extend start block j k old mid new seg r c upto full empties touch p clos
     }
 
 pub alike : (start block gauge : ℕ) (kind : GridValue) (t n a b : ℕ) (l mid : List SegmentValue) (d : SegmentValue)
-    → Loose start block gauge kind t n l → mid ≡ l → a < 16 → b < length mid → ((get_or mid a d).grid ≡ (get_or mid b d).grid) ×
-    ((get_or mid b d).gauge ≡ (get_or mid a d).gauge)
+    → Loose start block gauge kind t n l → mid ≡ l → a < BLOCKS_PER_WINDOW → b < length mid →
+    ((get_or mid a d).grid ≡ (get_or mid b d).grid) × ((get_or mid b d).gauge ≡ (get_or mid a d).gauge)
 alike start block gauge kind t n a b l mid d r e h m =
-    let b16 : b < 16 = omega (arith, m, ap length e, r.long) in (
+    let b16 : b < BLOCKS_PER_WINDOW = omega (arith, m, ap length e, r.long) in (
       ap (λ z. (get_or z a d).grid) e ∙ (r.each a d h).grid ∙ sym (r.each b d b16).grid ∙ ap (λ z. (get_or z b d).grid) (sym e),
       ap (λ z. (get_or z b d).gauge) e ∙ (r.each b d b16).gauge ∙ sym (r.each a d h).gauge ∙ ap (λ z. (get_or z a d).gauge) (sym e),
     )
@@ -440,7 +443,8 @@ pub none_before : (k from : ℕ) (old : List SegmentValue) → ((i : ℕ) (d : S
 none_before k from old h i d u s = let e : (get_or old i d).to ≤ (get_or old i d).from = h i d u in absurd (omega (arith, e, s))
 
 pub some_before : (start block gauge : ℕ) (kind : GridValue) (j k from : ℕ) (old : List SegmentValue) → IsRow block kind gauge
-    (record { start = start; slots = old }) → k < 16 → j ≤ k → ((d : SegmentValue) → (get_or old j d).from < (get_or old j d).to) →
+    (record { start = start; slots = old }) → k < BLOCKS_PER_WINDOW → j ≤ k →
+    ((d : SegmentValue) → (get_or old j d).from < (get_or old j d).to) →
     ((i : ℕ) (d : SegmentValue) → j < i → i ≤ k → IsEmpty (get_or old i d)) → ((d : SegmentValue) → (get_or old j d).to < from)
     → (i : ℕ) (d : SegmentValue) → i ≤ k → (get_or old i d).from < (get_or old i d).to → (get_or old i d).to < from
 some_before start block gauge kind j k from old r k16 upto full empties near i d u s = elim (cases_lt j i) [
@@ -474,15 +478,16 @@ strictly old j from a b l h k d =
 
 -- there is room for the samples of the window behind an interval
 pub window_room : (start block gauge : ℕ) (kind : GridValue) (t n a b : ℕ) (l mid : List SegmentValue) (d : SegmentValue)
-    → Loose start block gauge kind t n l → mid ≡ l → a < 16 → b < length mid
+    → Loose start block gauge kind t n l → mid ≡ l → a < BLOCKS_PER_WINDOW → b < length mid
     → (get_or mid a d).from < (get_or mid a d).to → (get_or mid b d).from < (get_or mid b d).to → (get_or mid b d).to -
     (get_or mid a d).from ≤ (get_or mid a d).longest
 window_room start block gauge kind t n a b l mid d r e h m some next =
-    let b16 : b < 16 = omega (arith, m, ap length e, r.long) in
+    let b16 : b < BLOCKS_PER_WINDOW = omega (arith, m, ap length e, r.long) in
     let same : (k : ℕ) → get_or mid k d ≡ get_or l k d = λ k. ap (λ z. get_or z k d) e in
     let first : (get_or l a d).from < (get_or l a d).to = subst (λ (z : SegmentValue). z.from < z.to) (same a) some in
     let last : (get_or l b d).from < (get_or l b d).to = subst (λ (z : SegmentValue). z.from < z.to) (same b) next in
-    let longest : (get_or mid a d).longest ≡ 16 * block = ap (λ (z : SegmentValue). z.longest) (same a) ∙ (r.each a d h).longest in
+    let longest : (get_or mid a d).longest ≡ BLOCKS_PER_WINDOW * block =
+    ap (λ (z : SegmentValue). z.longest) (same a) ∙ (r.each a d h).longest in
     omega (
       arith,
       (r.shape a d h first).0,

@@ -9,6 +9,7 @@ use Rattle.std.specs.Char.{digit_value}
 use Rattle.std.specs.Str.{bytes_eq}
 use Rattle.std.specs.Str.Parse.{digits_value}
 use Rattle.calibration.specs.Level.{is_missing}
+use Rattle.csv_recording.specs.declared.cells.TheConstants.{MAX_DIGITS, MAX_MAGNITUDE}
 
 -- what a logger writes for no reading: -2147483648
 abbrev pub missing : ℤ
@@ -37,11 +38,11 @@ without_blanks text = without_blanks_behind (without_blanks_before text)
 -- 1 to 10 decimal digits
 abbrev pub is_short_numeral : List ℕ → Bool
 is_short_numeral digits =
-    nat_lt 0 (length digits) && nat_le (length digits) 10 && list_all (λ d. nat_lt (digit_value d) 10) digits
+    nat_lt 0 (length digits) && nat_le (length digits) MAX_DIGITS && list_all (λ d. nat_lt (digit_value d) 10) digits
 
 -- the number that they spell, up to the greatest reading
 abbrev pub magnitude : List ℕ → Option ℕ
-magnitude digits = if is_short_numeral digits && nat_le (digits_value 10 digits) 2147483647
+magnitude digits = if is_short_numeral digits && nat_le (digits_value 10 digits) MAX_MAGNITUDE
     then Some (digits_value 10 digits) else None
 
 -- a reading, with its sign or without one

@@ -1,6 +1,7 @@
 ghost use Rattle.std.specs.Prelude.{◌≡◌, ◌≤ℤ◌, pos, option_map, IfSome};
 ghost use Rattle.csv_recording.specs.Cells as spec;
 
+// How many digits a reading has at most.
 const MAX_DIGITS: usize = 10;
 
 // The greatest reading. The least one has the same digits, behind a `-`.

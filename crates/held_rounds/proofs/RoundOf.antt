@@ -24,6 +24,7 @@ use Rattle.held_samples.proofs.Going.{round_both}
 use Rattle.site_lanes.proofs.AfterRound.{stood_more}
 use Rattle.site_lanes.proofs.AllLanes.{all_reached}
 use Rattle.lane_ends.proofs.Giving.{more_or_not}
+use Rattle.flow.specs.declared.TheConstants.{BLOCKS_PER_WINDOW}
 
 pub at_is : {C : Type 0} (lanes : List (Lane C)) (g : ℕ) (d : Lane C) → g < length lanes → at_of lanes g ≡ (slice_index_or lanes g d).at
 at_is [] g d lt = absurd (omega (arith, lt))
@@ -107,7 +108,8 @@ module _ {C : Type 0} {tells : Type 0} {left : C → List ℕ} {faults : C → �
       → ((g : ℕ) (d : Lane C) → g < length lanes → (slice_index_or lanes g d).at ≡ held_after old.block r n k g)
       → (g : ℕ) (d : Lane C) → g < length lanes2 → (slice_index_or lanes2 g d).at ≡ held_after old.block r n (suc k) g
   at_next r n k t are whole was g d lt =
-      let step = all_reached done count ready r (λ h. slice_index n h + 16 * old.block * k) t are whole was g d lt in
-      let more : 16 * old.block * suc k ≡ 16 * old.block * k + 16 * old.block = mul-suc (16 * old.block) k in
-      step ∙ ap (λ (m : ℕ). min m (length (r.samples g))) (let e : slice_index n g + 16 * old.block * k + 16 * old.block ≡ slice_index n g +
-      16 * old.block * suc k = omega (arith, more) in e)
+      let step = all_reached done count ready r (λ h. slice_index n h + BLOCKS_PER_WINDOW * old.block * k) t are whole was g d lt in
+      let window = BLOCKS_PER_WINDOW * old.block in
+      let more : window * suc k ≡ window * k + window = mul-suc window k in
+      step ∙ ap (λ (m : ℕ). min m (length (r.samples g))) (let e : slice_index n g + window * k + window ≡ slice_index n g +
+      window * suc k = omega (arith, more) in e)

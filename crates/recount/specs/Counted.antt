@@ -1,7 +1,7 @@
 -- What a running count and a recount have come to.
 --   HasCountedSamples   what is kept of samples that come in pieces
 --   IsRecount           what was found of samples when all were read
-use Rattle.std.specs.Prelude.{◌≡◌, ◌<◌, ◌≤◌, ◌+◌, ◌-◌, ◌^◌, ℕ, ℤ, List, length}
+use Rattle.std.specs.Prelude.{◌≡◌, ◌<◌, ◌≤◌, ◌+◌, ◌-◌, ℕ, ℤ, List, length}
 use Rattle.calibration.specs.Gain.{GainValue}
 use Rattle.calibration.specs.Grid.{GridValue}
 use Rattle.calibration.specs.History.{history}
@@ -30,7 +30,7 @@ pub record HasCountedSamples {C : Type 0} (classes room : C → ℕ) (holds : C 
   pub counted : HasCounted decided count.run.live (holds count.counter)
   pub levels : count.run.classes ≡ grid.classes
   pub takes : classes count.counter ≡ grid.classes
-  pub enough : 2 ^ 63 ≤ start
+  pub enough : MAX_TOTAL ≤ start
   pub places : start + length count.run.live ≤ room count.counter + count.counts.used
 
 -- the same of a counter by pair, which begins with nothing

@@ -22,4 +22,4 @@ mod tests;
 pub use compare::{Difference, What, first_difference};
 pub use count::{Recount, RecountFault, count_again};
 pub use piece::Piece;
-pub use running::RunningCount;
+pub use running::{MAX_TAKEN, RunningCount};

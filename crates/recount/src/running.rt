@@ -1,16 +1,20 @@
-ghost use Rattle.std.specs.Prelude.{◌≡◌, ◌≤◌, ◌<◌, ◌+◌, ◌^◌, ℕ, ℤ, List, [], ◌++◌, length, IfOk};
+ghost use Rattle.std.specs.Prelude.{◌≡◌, ◌≤◌, ◌<◌, ◌+◌, ℕ, ℤ, List, [], ◌++◌, length, IfOk};
 ghost use Rattle.calibration.specs.Gain.{GainValue};
 ghost use Rattle.calibration.specs.Grid.{GridValue};
 ghost use Rattle.calibration.specs.History.{history};
 ghost use Rattle.turning_points.specs.Points.{points};
 ghost use Rattle.three_point.specs.Run.{run};
 ghost use Rattle.recording.specs.declared.TheConstants.{MAX_SAMPLES};
+ghost use Rattle.tally.specs.declared.cells.TheConstants.{MAX_TOTAL};
 
 use calibration::Classifier;
 use report::SampleCounts;
 use std::alloc::{AllocError, Global};
 use three_point::{RangeCounter, Run};
 use turning_points::Turner;
+
+/// The most samples that a count takes at once.
+pub const MAX_TAKEN: usize = 1 << 20;
 
 /// What samples that come in pieces have come to: how many there are of each kind, and the ranges
 /// that the standard's run has handed to a counter so far. It takes memory once, 2 bytes for each
@@ -31,7 +35,7 @@ impl<C: RangeCounter + Drop> RunningCount<C> {
     /// room for the half units of any recording.
     pub fn new(alloc: Global, classes: u16, counter: C) -> Result<RunningCount<C>, AllocError>
         requires classes { C.classes counter ≡ classes }
-        requires room { 2 ^ 63 ≤ C.room counter }
+        requires room { MAX_TOTAL ≤ C.room counter }
         requires holds { C.holds counter [] }
         ensures { (grid : GridValue) (gain : GainValue) → grid.classes ≡ classes →
             IfOk result (λ count. HasCountedSamples C.classes C.room C.holds (C.room counter)
@@ -49,7 +53,7 @@ impl<C: RangeCounter + Drop> RunningCount<C> {
     /// memory.
     pub fn take(&mut self, classifier: &Classifier, raws: &[i32], levels: &mut [u16])
         requires samples { self.old.counts.samples ≤ MAX_SAMPLES }
-        requires few { length raws.now ≤ 2 ^ 20 }
+        requires few { length raws.now ≤ MAX_TAKEN }
         requires room { length raws.now ≤ length levels.old }
         requires counted { (start : ℕ) × ((w : List ℤ) ×
             HasCountedSamples C.classes C.room C.holds start

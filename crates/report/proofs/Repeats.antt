@@ -7,6 +7,7 @@ use Rattle.calibration.specs.Grid.{GridValue, IsGrid}
 use Rattle.three_point.specs.Sums.{sum_at_range}
 use Rattle.tally.specs.declared.cells.Cell.{Cell}
 use Rattle.tally.specs.Counts.{count_of, total_of}
+use Rattle.report.specs.Figures.{MAX_FIGURE}
 use Rattle.report.specs.Page.{PageValue, Fits, room_for}
 use Rattle.report.specs.Repeat.{cycle_lines, doubled_at, repeat_line, repeat_text}
 use Rattle.report.proofs.Fitting.{fits_empty, span}
@@ -15,19 +16,20 @@ use Rattle.report.proofs.SameCounts.{range_lines-same}
 use Rattle.report.proofs.SegmentFigures.{counts_at_range}
 use Rattle.lemmas.proofs.Lists.{length-append-le as appended}
 
-pub few_cycles : (cells : List Cell) (classes : ℕ) → 2 * total_of cells ≤ 2 ^ 41 → (k : ℕ) → doubled_at (count_of cells) classes k ≤ 2 ^ 41
+pub few_cycles : (cells : List Cell) (classes : ℕ) → 2 * total_of cells ≤ MAX_FIGURE
+    → (k : ℕ) → doubled_at (count_of cells) classes k ≤ MAX_FIGURE
 few_cycles cells classes few k = omega (arith, counts_at_range cells k (classes - k), few)
 
 -- the cycles at a range, so far, and with those of one pair more
-pub so_far : (cells : List Cell) (k n sum : ℕ) → 2 * total_of cells ≤ 2 ^ 41 → sum ≡ sum_at_range (count_of cells) k n → sum ≤ 2 ^ 40
+pub so_far : (cells : List Cell) (k n sum : ℕ) → 2 * total_of cells ≤ MAX_FIGURE → sum ≡ sum_at_range (count_of cells) k n → sum ≤ 2 ^ 40
 so_far cells k n sum few is = omega (arith, counts_at_range cells k n, is, few)
 
-pub one_more : (cells : List Cell) (k n sum more : ℕ) → 2 * total_of cells ≤ 2 ^ 41 → sum ≡ sum_at_range (count_of cells) k n
+pub one_more : (cells : List Cell) (k n sum more : ℕ) → 2 * total_of cells ≤ MAX_FIGURE → sum ≡ sum_at_range (count_of cells) k n
     → more ≡ count_of cells n (n + k) → sum + more ≤ 2 ^ 40
 one_more cells k n sum more few is next = omega (arith, counts_at_range cells k (suc n), is, next, few)
 
 repeat_text-short : (grid : GridValue) (name : List ℕ) (cycles : ℕ → ℕ → ℕ) → IsGrid grid →
-    ((k : ℕ) → doubled_at cycles grid.classes k ≤ 2 ^ 41)
+    ((k : ℕ) → doubled_at cycles grid.classes k ≤ MAX_FIGURE)
     → length name ≤ 32 → length (repeat_text grid name cycles) ≤ 40 + (grid.classes - 1) * 32
 unfolding repeat_text
 repeat_text-short grid name cycles is few short =
@@ -40,7 +42,7 @@ few_bytes : (k n : ℕ) → n ≤ 40 + (k - 1) * 32 → n ≤ room_for k
 few_bytes k n h = omega arith
 
 pub repeat_text-fits : (p : PageValue) (grid : GridValue) (name : List ℕ) (cycles : ℕ → ℕ → ℕ) → p.bytes ≡ [] → p.room ≡ room_for p.classes
-    → grid.classes ≤ p.classes → IsGrid grid → ((k : ℕ) → doubled_at cycles grid.classes k ≤ 2 ^ 41) → length name ≤ 32
+    → grid.classes ≤ p.classes → IsGrid grid → ((k : ℕ) → doubled_at cycles grid.classes k ≤ MAX_FIGURE) → length name ≤ 32
     → Fits p (repeat_text grid name cycles)
 repeat_text-fits p grid name cycles none room fewer is few short =
     fits_empty p grid.classes (repeat_text grid name cycles) none room fewer

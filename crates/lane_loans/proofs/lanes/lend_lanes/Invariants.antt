@@ -2,6 +2,7 @@ use Rattle.std.proofs.Common.{◌≡◌, ◌<◌, ◌≤◌, ◌+◌, ◌*◌, �
 use Rattle.deposits.specs.Deposited.{SamePool}
 use Rattle.block_workers.specs.Jobs.{CanRead}
 use Rattle.lane_loans.specs.Lent.{Lent}
+use Rattle.flow.specs.declared.TheConstants.{BLOCKS_PER_WINDOW}
 use Rattle.lane_loans.proofs.lanes.lend_lanes.Given as goal
 
 abbrev pub invariant-loop-g : goal.invariant-loop-g
@@ -14,5 +15,5 @@ invariant-loop-g h l = record {
   rest_readers : (u : ℕ) (d : _) → l.g ≤ u → slice_index_or l.readers u d ≡ slice_index_or l.fn.readers u d;
   rest_lanes : (u : ℕ) (d : _) → l.g ≤ u → slice_index_or l.lanes u d ≡ slice_index_or l.fn.lanes u d;
   same : SamePool l.fn.pool l.pool;
-  inside : l.pool.inside + 16 * l.g ≡ l.fn.pool.inside;
+  inside : l.pool.inside + BLOCKS_PER_WINDOW * l.g ≡ l.fn.pool.inside;
 }

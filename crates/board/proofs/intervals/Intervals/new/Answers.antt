@@ -1,15 +1,16 @@
 use Rattle.std.proofs.Common.{◌≡◌, ◌*◌, sym, subst, arith, rules, get_or}
 use Rattle.segment.specs.Segment.{SegmentValue, empty_at}
 use Rattle.board.proofs.Lists.{each_pushed}
+use Rattle.flow.specs.declared.TheConstants.{BLOCKS_PER_WINDOW}
 use Rattle.board.proofs.intervals.Intervals.new.Goals as goal
 
 pub loop-preserved : goal.loop-preserved
 loop-preserved c = record {
   long = search rules;
   room = search rules;
-  each = λ k d m. subst (λ l. get_or l k d ≡ empty_at c.args.grid.now c.args.gauge 0 (16 * c.args.block))
+  each = λ k d m. subst (λ l. get_or l k d ≡ empty_at c.args.grid.now c.args.gauge 0 (BLOCKS_PER_WINDOW * c.args.block))
       (sym c.push_reserved.ensures.items)
       (each_pushed (λ (x : SegmentValue). x ≡ empty_at c.args.grid.now c.args.gauge 0
-      (16 * c.args.block)) c.loop.slots.items c.in_ok-new.field-0 c.loop.counter
+      (BLOCKS_PER_WINDOW * c.args.block)) c.loop.slots.items c.in_ok-new.field-0 c.loop.counter
       (omega (arith, c.loop.invariant.long, c.loop.slots.ok.0)) c.loop.invariant.each c.in_ok-new.ensures.empty k d m);
 }

@@ -6,6 +6,7 @@ use Rattle.board.specs.Rows.{Placed, Doubled}
 use Rattle.board.specs.Deposits.{IsDepositAnswer, Numbered}
 use Rattle.board.specs.declared.windows.Deposit.TheVariants.{Double}
 use Rattle.board.proofs.Depositing.{placed_board, placed_room, placed_carries, row_same, doubled, can_place, number_fits, number_there}
+use Rattle.flow.specs.declared.TheConstants.{BLOCKS_PER_WINDOW}
 use Rattle.board.proofs.windows.Board.deposit.Goals as goal
 
 pub invariant_of-self : goal.invariant_of-self
@@ -63,7 +64,7 @@ push_reserved-requires c =
     let fits = can_place b seg row c.in-Some.number c.self.invariant.1 known number in
     let put : Placed (get_or b.rows seg.gauge row).start b.block (get_or b.rows seg.gauge row).slots c.place.new.self.slots seg = subst
     (λ (r : Row). Placed r.start b.block r.slots c.place.new.self.slots seg) at c.in-None.ensures.placing in
-    let room : length b.arrivals + 1 ≤ 16 * length b.rows = placed_room b c.in-Some.number seg c.place.new.self row
+    let room : length b.arrivals + 1 ≤ BLOCKS_PER_WINDOW * length b.rows = placed_room b c.in-Some.number seg c.place.new.self row
     (b.arrivals ++ name_of seg ∷ []) known start c.self.invariant.1 kind fits put refl in
     omega (arith, room, c.self.invariant.0, c.self.inside.rows.ok.0, c.self.inside.arrivals.ok.0)
 
