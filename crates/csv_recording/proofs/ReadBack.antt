@@ -21,6 +21,7 @@ use Rattle.csv_recording.specs.Column.{◌>>=◌, present, place_of, records_of,
 use Rattle.csv_recording.specs.Recording.{recording_bytes, ReadsAs, ReadsAsWritten}
 use Rattle.csv_recording.specs.declared.columns.ColumnFault.{ColumnFault}
 use Rattle.csv_recording.specs.declared.columns.ColumnFault.TheVariants.{NoColumn, ShortRow, Cell}
+use Rattle.recording.specs.declared.head.TheConstants.{HEAD_LENGTH}
 
 -- every sample is a value of 32 bits
 unfoldable pub AllFit : List ℤ → Type 0
@@ -64,8 +65,8 @@ recording_head-front : (file front : List ℕ) (rest : List ℕ) → file ≡ fr
     recording_head file ≡ head_in front
 recording_head-front file front rest is long =
     let all : 32 ≤ length file = omega (arith, ap length is, length-append front rest, long) in
-    cond-false (nat_lt (length file) 32) (Err Short) (head_in (take 32 file)) (grind (arith, nat_tests, all))
-    ∙ ap head_in (ap (take 32) is ∙ take_at front rest 32 long)
+    cond-false (nat_lt (length file) 32) (Err Short) (head_in (take HEAD_LENGTH file)) (grind (arith, nat_tests, all))
+    ∙ ap head_in (ap (take HEAD_LENGTH) is ∙ take_at front rest 32 long)
 
 -- what a column has are values of 32 bits
 chosen : (b : Bool) (v n : ℕ) → (if b then Some v else None) ≡ Some n → (b ≡ true) × (v ≡ n)
@@ -150,7 +151,7 @@ column-fits name (header ∷ rows) w is = go (place_of name header) is
 reads_as : (head : Head) (w : List ℤ) → IsRecorded head → AllFit w → ReadsAs (recording_bytes head w) head w
 reads_as head w is fits =
     let front = length-head_bytes head is in
-    let behind : drop 32 (recording_bytes head w) ≡ sample_bytes w = drop_at (head_bytes head) (sample_bytes w) 32 front in
+    let behind : drop HEAD_LENGTH (recording_bytes head w) ≡ sample_bytes w = drop_at (head_bytes head) (sample_bytes w) 32 front in
     record {
       head_is = recording_head-front (recording_bytes head w) (head_bytes head) (sample_bytes w) refl front ∙ head-head_bytes head is;
       samples_are = ap samples behind ∙ samples-bytes w fits;

@@ -7,6 +7,7 @@ use Rattle.recording.specs.Head.{IsRecorded, head_bytes, recording_head}
 use Rattle.recording.specs.Samples.{samples, torn_bytes, sample_bytes}
 use Rattle.recording.specs.declared.head.Head.{Head}
 use Rattle.csv_recording.specs.Column.{column_of}
+use Rattle.recording.specs.declared.head.TheConstants.{HEAD_LENGTH}
 
 abbrev pub recording_bytes : Head → List ℤ → List ℕ
 recording_bytes head values = head_bytes head ++ sample_bytes values
@@ -14,8 +15,8 @@ recording_bytes head values = head_bytes head ++ sample_bytes values
 -- whole samples alone stand behind the head
 pub record ReadsAs (file : List ℕ) (head : Head) (values : List ℤ) : Type 0 where
   pub head_is : recording_head file ≡ Ok head
-  pub samples_are : samples (drop 32 file) ≡ values
-  pub whole : torn_bytes (drop 32 file) ≡ 0
+  pub samples_are : samples (drop HEAD_LENGTH file) ≡ values
+  pub whole : torn_bytes (drop HEAD_LENGTH file) ≡ 0
 
 abbrev pub ReadsAsWritten : Type 0
 ReadsAsWritten = (head : Head) (name text : List ℕ) (w : List ℤ) → IsRecorded head → column_of name text ≡ Ok w →

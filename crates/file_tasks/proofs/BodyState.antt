@@ -8,6 +8,7 @@ use Rattle.recording.specs.declared.head.Head.{Head}
 use Rattle.recording.specs.declared.head.HeadFault.{HeadFault}
 use Rattle.recording.specs.declared.TheConstants.{MAX_SAMPLES}
 use Rattle.file_tasks.specs.FileState.{NoFile, Sound, TornEnd, TooManySamples, body_state, state_behind, state_of}
+use Rattle.recording.specs.declared.head.TheConstants.{HEAD_LENGTH}
 
 pub sound_body : (body : List ℕ) (count : ℕ) → count ≡ length (samples body) → count ≤ MAX_SAMPLES → torn_bytes body ≡ 0 →
     body_state body ≡ Sound
@@ -34,4 +35,4 @@ behind (Ok head) body = some_body body
 behind (Err fault) body = λ is. cc
 
 pub some_file : (file : List ℕ) → state_of file ≢ NoFile
-some_file file = behind (recording_head file) (drop 32 file)
+some_file file = behind (recording_head file) (drop HEAD_LENGTH file)

@@ -10,12 +10,13 @@ use Rattle.file_tasks.specs.Answer.{MayAnswer, MayGive, answer_for, status_of, r
 use Rattle.file_tasks.specs.declared.refusal.Refusal.{Refusal}
 use Rattle.file_tasks.specs.declared.refusal.Refusal.TheVariants.{ReadFault, OutOfMemory}
 use Rattle.file_tasks.proofs.BodyState.{some_file}
+use Rattle.recording.specs.declared.head.TheConstants.{HEAD_LENGTH}
 
-pub state_with_head : (file : List ℕ) (head : Head) → Ok head ≡ recording_head file → state_of file ≡ body_state (drop 32 file)
-state_with_head file head is = ap (λ (h : Result Head HeadFault). state_behind h (drop 32 file)) (sym is)
+pub state_with_head : (file : List ℕ) (head : Head) → Ok head ≡ recording_head file → state_of file ≡ body_state (drop HEAD_LENGTH file)
+state_with_head file head is = ap (λ (h : Result Head HeadFault). state_behind h (drop HEAD_LENGTH file)) (sym is)
 
 state_with_fault : (file : List ℕ) (fault : HeadFault) → Err fault ≡ recording_head file → state_of file ≡ BadHead fault
-state_with_fault file fault is = ap (λ (h : Result Head HeadFault). state_behind h (drop 32 file)) (sym is)
+state_with_fault file fault is = ap (λ (h : Result Head HeadFault). state_behind h (drop HEAD_LENGTH file)) (sym is)
 
 -- the answer for a head with a fault, but for one that could not be read
 fault_answer : (gauge : ℕ) (fault : HeadFault) (state : FileState) → (fault ≢ head.ReadFault → state ≡ BadHead fault) →

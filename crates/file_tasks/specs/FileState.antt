@@ -9,6 +9,7 @@ use Rattle.recording.specs.Head.{recording_head}
 use Rattle.recording.specs.declared.head.Head.{Head}
 use Rattle.recording.specs.declared.head.HeadFault.{HeadFault}
 use Rattle.recording.specs.declared.TheConstants.{MAX_SAMPLES}
+use Rattle.recording.specs.declared.head.TheConstants.{HEAD_LENGTH}
 
 pub data FileState : Type 0 where
   NoFile : FileState
@@ -29,7 +30,7 @@ state_behind (Ok head) body = body_state body
 state_behind (Err fault) body = BadHead fault
 
 abbrev pub state_of : List ℕ → FileState
-state_of file = state_behind (recording_head file) (drop 32 file)
+state_of file = state_behind (recording_head file) (drop HEAD_LENGTH file)
 
 abbrev pub file_state : Option (List ℕ) → FileState
 file_state None = NoFile

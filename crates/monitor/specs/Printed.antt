@@ -11,6 +11,7 @@ use Rattle.three_point.specs.Run.{half_units}
 use Rattle.monitor.specs.declared.grid.TheConstants.{CLASSES, WIDTH}
 use Rattle.report.specs.Counts.{counts_of}
 use Rattle.report.specs.Texts.{table_text}
+use Rattle.recording.specs.declared.head.TheConstants.{HEAD_LENGTH}
 
 abbrev pub table_grid : GridValue
 table_grid = record { classes = CLASSES; w2 = WIDTH; low_kpa = pos 0; reference = 32 }
@@ -25,4 +26,4 @@ text_of_samples w =
 
 -- the body of a recording stands behind the 32 bytes of its head
 abbrev pub text_of : List ℕ → List ℕ
-text_of file = text_of_samples (samples (drop 32 file))
+text_of file = text_of_samples (samples (drop HEAD_LENGTH file))

@@ -7,6 +7,7 @@ ghost use Rattle.monitor.specs.Printed.{table_grid, table_gain};
 ghost use Rattle.recording.specs.declared.TheConstants.{MAX_SAMPLES};
 ghost use Rattle.monitor.specs.Figures.{AreFigures};
 ghost use Rattle.file_tasks.specs.declared.refusal.Refusal.TheVariants.{ReadFault};
+ghost use Rattle.recording.specs.declared.head.TheConstants.{HEAD_LENGTH};
 
 use crate::counting::no_samples;
 use crate::grid::table_classifier;
@@ -25,7 +26,7 @@ pub fn read_recording<S: Source>(
     // The figures are those of some samples, and where the source tells, of the file's.
     ensures figures { IfOk result (λ figures. (w : List ℤ) ×
         AreFigures table_grid table_gain figures w ×
-        (S.tells → w ≡ samples (drop 32 (S.left src.old)))) }
+        (S.tells → w ≡ samples (drop HEAD_LENGTH (S.left src.old)))) }
     ensures few { IfOk result (λ figures. figures.counts.samples ≤ MAX_SAMPLES) }
     ensures cause { S.tells → MayGive 0 result (state_of (S.left src.old)) }
     ensures fault { result ≡ Err ReadFault → Rose (S.faults src.old) (S.faults src.new) }

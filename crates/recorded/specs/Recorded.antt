@@ -8,6 +8,7 @@ use Rattle.recording.specs.Samples.{samples, torn_bytes}
 use Rattle.calibration.specs.declared.setup.Setup.{Setup}
 use Rattle.site_config.specs.declared.config.Config.{Config}
 use Rattle.site_config.specs.Valid.{name_of, file_of}
+use Rattle.recording.specs.declared.head.TheConstants.{HEAD_LENGTH}
 
 pub record Recorded : Type 0 where
   pub setup : Setup
@@ -19,7 +20,7 @@ pub record Recorded : Type 0 where
 
 -- the 32 bytes of the head stand in front; of no file it is empty
 abbrev pub body_in : Option (List ℕ) → List ℕ
-body_in (Some file) = drop 32 file
+body_in (Some file) = drop HEAD_LENGTH file
 body_in None = []
 
 abbrev pub recordings : Config → Files → Recorded

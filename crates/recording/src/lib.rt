@@ -22,7 +22,7 @@ mod writing;
 
 pub use ends::{Fill, FillEnd, Skip};
 pub use filling::fill;
-pub use head::{Head, HeadFault, read_head, write_head};
+pub use head::{HEAD_LENGTH, Head, HeadFault, read_head, write_head};
 pub use skipping::skip;
 pub use synth::Synth;
 pub use writing::write_samples;

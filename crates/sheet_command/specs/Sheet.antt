@@ -17,10 +17,11 @@ use Rattle.site_config.specs.declared.config.Gauge.{Gauge}
 use Rattle.site_config.specs.declared.fault.ConfigFault.{ConfigFault}
 use Rattle.status.specs.declared.status.Status.{Status}
 use Rattle.status.specs.declared.status.Status.TheVariants.{Done, Usage, Config as BadConfig, Recording, Torn, ReadFault, WriteFault, OutOfMemory, TooLong}
+use Rattle.recording.specs.declared.head.TheConstants.{HEAD_LENGTH}
 
 abbrev pub samples_of : Option (List ℕ) → List ℤ
 samples_of None = []
-samples_of (Some file) = samples (drop 32 file)
+samples_of (Some file) = samples (drop HEAD_LENGTH file)
 
 abbrev pub recordings_of : List Gauge → Files → List (List ℤ)
 recordings_of gauges files = map (λ (gauge : Gauge). samples_of (files gauge.file)) gauges

@@ -10,6 +10,7 @@ ghost use Rattle.file_tasks.specs.declared.refusal.Refusal.TheVariants as refusa
 ghost use Rattle.status.specs.declared.status.Status.TheVariants.{Done, ReadFault};
 ghost use Rattle.sheet_command.specs.Sheet.{samples_of, recordings_of, answer_over, MayAnswer, IsReadStatus};
 ghost use Rattle.recording.specs.declared.TheConstants.{PIECE};
+ghost use Rattle.recording.specs.declared.head.TheConstants.{HEAD_LENGTH};
 
 use csv_recording::Samples;
 use file_tasks::Refusal;
@@ -90,7 +91,7 @@ fn read_recording<T: Site>(
 
 // All samples of a recording.
 fn read_samples<S: Source>(alloc: Global, src: &mut S) -> Result<Samples, Refusal>
-    ensures samples { S.tells → IfOk result (λ w. w.items ≡ samples (drop 32 (S.left src.old))) }
+    ensures samples { S.tells → IfOk result (λ w. w.items ≡ samples (drop HEAD_LENGTH (S.left src.old))) }
     ensures cause { S.tells → (gauge : ℕ) → MayGive gauge result (state_of (S.left src.old)) }
     ensures fault { result ≡ Err refusal.ReadFault → Rose (S.faults src.old) (S.faults src.new) }
     ensures later { S.faults src.old ≤ S.faults src.new }

@@ -8,6 +8,7 @@ use Rattle.status.specs.declared.status.Status.TheVariants.{Torn}
 use Rattle.monitor.proofs.RecordingRead.{more_read, all_read, sound_end, torn_end, too_many, by_classifier, of_classifier}
 use Rattle.file_tasks.proofs.Refusals.{head_cause, head_fault, memory_cause, memory_fault, state_with_head, err_is}
 use Rattle.monitor.proofs.read.read_recording.Goals as goal
+use Rattle.recording.specs.declared.head.TheConstants.{HEAD_LENGTH}
 
 pub returns-in_err-read_head-clause-cause : goal.returns-in_err-read_head-clause-cause
 returns-in_err-read_head-clause-cause g c = λ tells.
@@ -100,7 +101,7 @@ loop-preserved g c =
         read.0 ++ take c.fill-filled.result.n c.fill-filled.new.buf,
         taken,
         λ tells. more_read table_grid table_gain c.take.new.self
-            read.0 (drop 32 file) (g.S.Source.left c.loop.src) (g.S.Source.left c.fill-filled.new.src) (length c.loop.raws)
+            read.0 (drop HEAD_LENGTH file) (g.S.Source.left c.loop.src) (g.S.Source.left c.fill-filled.new.src) (length c.loop.raws)
             c.fill-filled.result.n c.fill-filled.result.end c.fill-filled.new.buf (read.2 tells) (fill.samples tells) (fill.taken tells)
             taken c.in-More.is,
       );
@@ -131,7 +132,7 @@ returns-then-figures-gt-MAX_SAMPLES g c =
       figures = tt;
       few = tt;
       cause = λ tells. sym (ap (answer_for 0) (state_with_head file c.in_ok-read_head.field-0
-          (c.in_ok-read_head.ensures.head tells (λ is. cc)) ∙ too_many table_grid table_gain c.take.new.self read.0 (drop 32 file)
+          (c.in_ok-read_head.ensures.head tells (λ is. cc)) ∙ too_many table_grid table_gain c.take.new.self read.0 (drop HEAD_LENGTH file)
           (g.S.Source.left c.loop.src) (g.S.Source.left c.fill-filled.new.src) (length c.loop.raws) c.fill-filled.result.n
           c.fill-filled.result.end c.fill-filled.new.buf (read.2 tells) (fill.samples tells) (fill.taken tells) taken
           c.if-figures-gt-MAX_SAMPLES.true));
@@ -151,13 +152,13 @@ returns-in-Ended g c =
       figures = (
         _,
         taken,
-        λ tells. all_read table_grid table_gain c.take.new.self read.0 (drop 32 file) (g.S.Source.left c.loop.src)
+        λ tells. all_read table_grid table_gain c.take.new.self read.0 (drop HEAD_LENGTH file) (g.S.Source.left c.loop.src)
             (g.S.Source.left c.fill-filled.new.src) (length c.loop.raws) c.fill-filled.result.n c.fill-filled.result.end
             c.fill-filled.new.buf (read.2 tells) (fill.samples tells) (fill.taken tells) taken c.in-Ended.is,
       );
       few = c.if-figures-gt-MAX_SAMPLES.false;
       cause = λ tells. state_with_head file c.in_ok-read_head.field-0 (c.in_ok-read_head.ensures.head tells (λ is. cc)) ∙ sound_end
-          table_grid table_gain c.take.new.self read.0 (drop 32 file) (g.S.Source.left c.loop.src) (g.S.Source.left c.fill-filled.new.src)
+          table_grid table_gain c.take.new.self read.0 (drop HEAD_LENGTH file) (g.S.Source.left c.loop.src) (g.S.Source.left c.fill-filled.new.src)
           (length c.loop.raws) c.fill-filled.result.n c.fill-filled.result.end c.fill-filled.new.buf (read.2 tells) (fill.samples tells)
           (fill.taken tells) taken c.in-Ended.is c.if-figures-gt-MAX_SAMPLES.false;
       fault = λ is. absurd (cc);
@@ -175,7 +176,7 @@ returns-in-Torn-clause-cause g c =
     λ tells.
     let answer : Torn 0 c.in-Torn.bytes ≡ answer_for 0 (state_of file) = sym
     (ap (answer_for 0) (state_with_head file c.in_ok-read_head.field-0 (c.in_ok-read_head.ensures.head tells (λ is. cc)) ∙ torn_end
-    table_grid table_gain c.take.new.self read.0 (drop 32 file) (g.S.Source.left c.loop.src) (g.S.Source.left c.fill-filled.new.src)
+    table_grid table_gain c.take.new.self read.0 (drop HEAD_LENGTH file) (g.S.Source.left c.loop.src) (g.S.Source.left c.fill-filled.new.src)
     (length c.loop.raws) c.fill-filled.result.n c.fill-filled.result.end c.fill-filled.new.buf (read.2 tells) (fill.samples tells)
     (fill.taken tells) taken _ c.in-Torn.is c.if-figures-gt-MAX_SAMPLES.false)) in
     search rules

@@ -4,11 +4,12 @@ use Rattle.monitor.specs.Figures.{AreFigures}
 use Rattle.recording.proofs.Reading.{Splits}
 use Rattle.recording.specs.declared.TheConstants.{MAX_SAMPLES, PIECE}
 use Rattle.monitor.proofs.read.read_recording.Given as goal
+use Rattle.recording.specs.declared.head.TheConstants.{HEAD_LENGTH}
 
 -- the readings are those of some samples, and the body has these and then those that are left
 abbrev pub invariant-loop : goal.invariant-loop
 invariant-loop g l = record {
-  read : (w : List ℤ) × AreFigures table_grid table_gain l.figures w × (g.S.Source.tells → Splits (drop 32 (g.S.Source.left l.fn.src)) w
+  read : (w : List ℤ) × AreFigures table_grid table_gain l.figures w × (g.S.Source.tells → Splits (drop HEAD_LENGTH (g.S.Source.left l.fn.src)) w
       (g.S.Source.left l.src));
   turns : l.counter ≤ l.figures.counts.samples;
   few : l.figures.counts.samples ≤ MAX_SAMPLES;
