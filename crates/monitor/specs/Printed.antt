@@ -8,13 +8,13 @@ use Rattle.calibration.specs.Gain.{GainValue}
 use Rattle.calibration.specs.Grid.{GridValue}
 use Rattle.calibration.specs.History.{history}
 use Rattle.three_point.specs.Run.{half_units}
-use Rattle.monitor.specs.declared.grid.TheConstants.{CLASSES, WIDTH}
+use Rattle.monitor.specs.declared.grid.TheConstants.{CLASSES, REFERENCE, WIDTH}
 use Rattle.report.specs.Counts.{counts_of}
 use Rattle.report.specs.Texts.{table_text}
 use Rattle.recording.specs.declared.head.TheConstants.{HEAD_LENGTH}
 
 abbrev pub table_grid : GridValue
-table_grid = record { classes = CLASSES; w2 = WIDTH; low_kpa = pos 0; reference = 32 }
+table_grid = record { classes = CLASSES; w2 = WIDTH; low_kpa = pos 0; reference = REFERENCE }
 
 abbrev pub table_gain : GainValue
 table_gain = record { num = pos 1000; den = 1; offset = pos 0 }

@@ -9,11 +9,14 @@ pub const CLASSES: u16 = 64;
 /// How many half MPa a class of `table` is wide.
 pub const WIDTH: u16 = 2;
 
+/// The reference level of `table`, in the middle of its classes.
+pub const REFERENCE: u16 = 32;
+
 /// The grid of `table`: 64 classes of 1 MPa from 0 MPa on.
 pub fn grid_of_table() -> Grid
     ensures { result ≡ table_grid }
 {
-    match Grid::new(CLASSES, WIDTH, 0, 32) {
+    match Grid::new(CLASSES, WIDTH, 0, REFERENCE) {
         Ok(grid) => grid,
         Err(_) => unreachable!(),
     }

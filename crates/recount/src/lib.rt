@@ -22,4 +22,4 @@ mod tests;
 pub use compare::{Difference, What, first_difference};
 pub use count::{Recount, RecountFault, count_again};
 pub use piece::Piece;
-pub use running::{MAX_TAKEN, RunningCount};
+pub use running::{MAX_AT_ONCE, RunningCount};

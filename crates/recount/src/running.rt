@@ -14,7 +14,7 @@ use three_point::{RangeCounter, Run};
 use turning_points::Turner;
 
 /// The most samples that a count takes at once.
-pub const MAX_TAKEN: usize = 1 << 20;
+pub const MAX_AT_ONCE: usize = 1 << 20;
 
 /// What samples that come in pieces have come to: how many there are of each kind, and the ranges
 /// that the standard's run has handed to a counter so far. It takes memory once, 2 bytes for each
@@ -53,7 +53,7 @@ impl<C: RangeCounter + Drop> RunningCount<C> {
     /// memory.
     pub fn take(&mut self, classifier: &Classifier, raws: &[i32], levels: &mut [u16])
         requires samples { self.old.counts.samples ≤ MAX_SAMPLES }
-        requires few { length raws.now ≤ MAX_TAKEN }
+        requires few { length raws.now ≤ MAX_AT_ONCE }
         requires room { length raws.now ≤ length levels.old }
         requires counted { (start : ℕ) × ((w : List ℤ) ×
             HasCountedSamples C.classes C.room C.holds start
