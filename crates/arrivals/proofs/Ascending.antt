@@ -2,9 +2,9 @@
 use Rattle.std.proofs.Common.{◌≡◌, ◌<◌, ◌+◌, ◌*◌, ◌%◌, ◌&&◌, ℕ, zero, suc, List, [], ◌∷◌, ◌++◌, length, sym, subst, arith, Bool, true, false, cond, eqb, ltb}
 use Rattle.std.proofs.lemmas.List.{append-nil}
 use Rattle.segment_rules.specs.declared.name.Name.{Name}
-use Rattle.flow.specs.Kept.{Every, Ascends}
+use Rattle.flow.specs.Kept.{Every, NamesAscend}
 use Rattle.flow.specs.Kept.Every.{none, both}
-use Rattle.flow.specs.Kept.Ascends.{empty}
+use Rattle.flow.specs.Kept.NamesAscend.{empty}
 use Rattle.flow.proofs.Counting.{every_append, every_map, ascends_push}
 use Rattle.arrivals.specs.Arrivals.{Round, name_at, fed_to, AreArrivals, through, ArrivalsAscend}
 use Rattle.flow.specs.declared.TheConstants.{BLOCKS_PER_WINDOW}
@@ -13,9 +13,9 @@ every_cond : {P : Name → Type 0} → (t : Bool) (m : Name) → P m → Every P
 every_cond true m p = both p none
 every_cond false m p = none
 
-push_cond : (t : Bool) (l : List Name) (m : Name) → Ascends l → Every (λ n. n.from < m.from) l → Ascends (l ++ cond t (m ∷ []) [])
+push_cond : (t : Bool) (l : List Name) (m : Name) → NamesAscend l → Every (λ n. n.from < m.from) l → NamesAscend (l ++ cond t (m ∷ []) [])
 push_cond true l m a b = ascends_push l m a b
-push_cond false l m a b = subst Ascends (sym (append-nil l)) a
+push_cond false l m a b = subst NamesAscend (sym (append-nil l)) a
 
 module _ (block workers : ℕ) (r : Round) (pos : 0 < block) where
   fed_below : (g v k : ℕ) → Every (λ n. n.from < r.at g + k * block) (fed_to block workers r g v k)
@@ -28,12 +28,12 @@ module _ (block workers : ℕ) (r : Round) (pos : 0 < block) where
       (every_cond (ltb (r.at g + k * block) (length (r.samples g)) && eqb (k % workers) v) (name_at block workers r g k)
       (omega (arith, step, pos)))
 
-  fed_ascends : (g v k : ℕ) → Ascends (fed_to block workers r g v k)
+  fed_ascends : (g v k : ℕ) → NamesAscend (fed_to block workers r g v k)
   fed_ascends g v zero = empty
   fed_ascends g v (suc k) =
       push_cond (ltb (r.at g + k * block) (length (r.samples g)) && eqb (k % workers) v) (fed_to block workers r g v k)
       (name_at block workers r g k) (fed_ascends g v k) (fed_below g v k)
 
 pub ascends : ArrivalsAscend
-ascends block workers gauges r l pos h g v m n = subst Ascends (sym (h.through g v m n))
+ascends block workers gauges r l pos h g v m n = subst NamesAscend (sym (h.through g v m n))
     (fed_ascends block workers r pos g v BLOCKS_PER_WINDOW)

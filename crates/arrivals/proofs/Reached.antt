@@ -6,7 +6,7 @@ use Rattle.std.proofs.lemmas.Bool.{cases_eq, cases_lt, eq-eqb, ne_eqb, lt-ltb, l
 use Rattle.std.proofs.Math.Nat.{mul-div_cancel, mul-le-mul_right}
 use Rattle.std.proofs.Math.Bool.{and-false}
 use Rattle.segment_rules.specs.declared.name.Name.{Name}
-use Rattle.flow.specs.Flow.{Flow, Event, name_of_samples, with_value, with_value_at, next, worker_of_next, Allowed, after, run, AllAllowed}
+use Rattle.flow.specs.Flow.{Flow, Event, name_of_samples, with_value, with_value_at, next, worker_of_next, IsAllowed, after, run, AllAllowed}
 use Rattle.flow.specs.Flow.Event.{Feed, Count, Deposit, Commit, Stop}
 use Rattle.flow.specs.Kept.{Every}
 use Rattle.flow.specs.Kept.Every.{none, both}
@@ -274,7 +274,7 @@ module _ (block workers : ℕ) (r : Round) where
   }
 
   step : (gauges : ℕ) (s : Flow) (e : Event) → 0 < block → 0 < workers → IsRound block workers r gauges → IsRoundEvent e → Line gauges s
-      → Allowed block workers s e → Line gauges (after block workers s e)
+      → IsAllowed block workers s e → Line gauges (after block workers s e)
   step gauges s (Feed g) pos many ok feed l a = step_feed gauges s g pos many ok l a
   step gauges s (Count v g) pos many ok count l a = step_count gauges s v g a.0 l
   step gauges s (Deposit v) pos many ok deposit l a = step_deposit gauges s v a.0 l

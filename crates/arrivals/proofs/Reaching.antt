@@ -4,7 +4,7 @@ use Rattle.std.proofs.lemmas.List.{append-nil}
 use Rattle.std.proofs.lemmas.Bool.{cases_eq, cases_lt, lt-ltb, le-ltb}
 use Rattle.std.proofs.Math.Nat.{mul-le-mul_right}
 use Rattle.segment_rules.specs.declared.name.Name.{Name}
-use Rattle.flow.specs.Flow.{Flow, Event, with_value, with_value_at, Allowed, after, run, AllAllowed}
+use Rattle.flow.specs.Flow.{Flow, Event, with_value, with_value_at, IsAllowed, after, run, AllAllowed}
 use Rattle.flow.specs.Flow.Event.{Feed, Count, Deposit}
 use Rattle.flow.specs.Kept.{Every}
 use Rattle.flow.specs.Kept.Every.{none, both}
@@ -193,8 +193,9 @@ module _ (block workers : ℕ) (r : Round) where
       (test_worker block workers r n.gauge g m v (λ q. f (sym q)))
 
   one_more : (gauges : ℕ) (before l : List Name) (n : Name) (s : Flow) → 0 < workers → n.gauge < gauges → Leaving gauges before (n ∷ l) s →
-      Allowed block workers s (Count (worker_of block workers r n) n.gauge)
-      × Allowed block workers (after block workers s (Count (worker_of block workers r n) n.gauge)) (Deposit (worker_of block workers r n))
+      IsAllowed block workers s (Count (worker_of block workers r n) n.gauge)
+      × IsAllowed block workers (after block workers s (Count (worker_of block workers r n) n.gauge))
+      (Deposit (worker_of block workers r n))
       × Leaving gauges (before ++ n ∷ []) l
       (after block workers (after block workers s (Count (worker_of block workers r n) n.gauge)) (Deposit (worker_of block workers r n)))
   one_more gauges before l n s many k h =

@@ -12,7 +12,7 @@ use Rattle.segment_rules.specs.declared.name.Name.{Name}
 use Rattle.block_pool.specs.Units.{FilledValue}
 use Rattle.flow.specs.Flow.{Flow, Event, name_of_samples, run, AllAllowed}
 use Rattle.flow.specs.Flow.Event.{Feed, Count, Deposit}
-use Rattle.flow.specs.Kept.{Every, Ascends}
+use Rattle.flow.specs.Kept.{Every, NamesAscend}
 use Rattle.flow.specs.declared.TheConstants.{BLOCKS_PER_WINDOW}
 
 abbrev pub names_of : List FilledValue → List Name
@@ -114,4 +114,4 @@ ReachedAreArrivals = (block workers gauges : ℕ) (r : Round) (es : List Event) 
 abbrev pub ArrivalsAscend : Type 0
 ArrivalsAscend =
     (block workers gauges : ℕ) (r : Round) (l : List Name) → 0 < block → AreArrivals block workers r gauges l
-    → (g v : ℕ) → g < gauges → v < workers → Ascends (through block workers r g v l)
+    → (g v : ℕ) → g < gauges → v < workers → NamesAscend (through block workers r g v l)

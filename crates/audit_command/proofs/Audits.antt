@@ -24,30 +24,33 @@ use Rattle.site_config.specs.declared.config.Config.{Config}
 use Rattle.status.specs.declared.status.Status.{Status}
 use Rattle.status.specs.declared.status.Status.TheVariants as status
 use Rattle.audit_command.specs.Recounted.{IsRecountOf}
-use Rattle.audit_command.specs.Audited.{Meant, IsItem, AuditsGauge, AllSame, Finds}
+use Rattle.audit_command.specs.Audited.{SegmentChoice, IsItem, AuditsGauge, AllSame, FindsDifference}
 
-pub audited : (c : Config) (held : List SegmentValue) (w : ℕ → List ℤ) (g : ℕ) (seg : SegmentValue) (found : Recount)
+pub audited : (c : Config) (held : List SegmentValue) (w : ℕ → List ℤ) (g : ℕ) (segment : SegmentValue) (found : Recount)
     (other : Option Difference)
-    → seg ≡ slice_index_or held g seg → IsSegment seg → seg.grid ≡ c.setup.grid → IsRecountOf c g found (w g)
-    → ((gain : GainValue) (u : List ℤ) → IsRecount seg.grid gain found u
-    → Compares seg (counts_of seg.grid gain u) (three_point (history seg.grid gain u)) other) → AuditsGauge c (IsItem held) w g other
-audited c held w g seg found other is rules grid recount by = (
-  seg,
+    → segment ≡ slice_index_or held g segment → IsSegment segment → segment.grid ≡ c.setup.grid → IsRecountOf c g found (w g)
+    → ((gain : GainValue) (u : List ℤ) → IsRecount segment.grid gain found u
+    → Compares segment (counts_of segment.grid gain u) (three_point (history segment.grid gain u)) other) →
+    AuditsGauge c (IsItem held) w g other
+audited c held w g segment found other is rules grid recount by = (
+  segment,
   (is, rules),
   grid,
-  subst (λ (x : GridValue). Compares seg (counts_of x (gain_at c.setup g) (w g)) (three_point (history x (gain_at c.setup g) (w g))) other)
+  subst (λ (x : GridValue). Compares segment (counts_of x (gain_at c.setup g) (w g))
+      (three_point (history x (gain_at c.setup g) (w g))) other)
       grid
       (by (gain_at c.setup g) (w g) (subst (λ (x : GridValue). IsRecount x (gain_at c.setup g) found (w g)) (sym grid) recount)),
 )
 
-pub all_more_same : (c : Config) (meant : Meant) (w : ℕ → List ℤ) (k : ℕ) → AllSame c meant w k → AuditsGauge c meant w k None
+pub all_more_same : (c : Config) (meant : SegmentChoice) (w : ℕ → List ℤ) (k : ℕ) → AllSame c meant w k → AuditsGauge c meant w k None
     → AllSame c meant w (k + 1)
 all_more_same c meant w k below here g lt = elim (cases_lt g k) [
   | inl within ↦ below g within
   | inr past ↦ subst (λ (h : ℕ). AuditsGauge c meant w h None) (let e : k ≡ g = omega (arith, past, lt) in e) here
 ]
 
-module _ (c : Config) (from to : Meant) (w : ℕ → List ℤ) (leads : (g : ℕ) (v : SegmentValue) → g < length c.gauges → from g v → to g v)
+module _ (c : Config) (from to : SegmentChoice) (w : ℕ → List ℤ)
+    (leads : (g : ℕ) (v : SegmentValue) → g < length c.gauges → from g v → to g v)
   where
     gauge_by : (g : ℕ) (other : Option Difference) → g < length c.gauges → AuditsGauge c from w g other → AuditsGauge c to w g other
     gauge_by g other lt a = (a.0, leads g a.0 lt a.1, a.2, a.3)
@@ -55,7 +58,7 @@ module _ (c : Config) (from to : Meant) (w : ℕ → List ℤ) (leads : (g : ℕ
     pub same_by : (k : ℕ) → k ≤ length c.gauges → AllSame c from w k → AllSame c to w k
     same_by k few all g lt = gauge_by g None (omega (arith, lt, few)) (all g lt)
 
-    pub finds_by : (s : Status) → Finds c from w s → Finds c to w s
+    pub finds_by : (s : Status) → FindsDifference c from w s → FindsDifference c to w s
     finds_by status.Done f = same_by (length c.gauges) (omega arith) f
     finds_by status.WriteFault f = same_by (length c.gauges) (omega arith) f
     finds_by (status.Differs g what held found) f = (

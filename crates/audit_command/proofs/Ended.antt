@@ -40,7 +40,7 @@ use Rattle.report_command.specs.Printing.{held_of}
 use Rattle.report_command.specs.Answers.{ReadsAs}
 use Rattle.config_reading.proofs.Refusing.{by_refusal}
 use Rattle.audit_command.specs.Recounted.{IsRecounting}
-use Rattle.audit_command.specs.Audited.{Meant, IsItem, HasKept, IsStanding, IsOther, AllSame, Finds}
+use Rattle.audit_command.specs.Audited.{SegmentChoice, IsItem, HasKept, IsStanding, IsOther, AllSame, FindsDifference}
 use Rattle.audit_command.specs.Answers.{HeldAnswers, CountedAnswers, MayAnswerOver, AuditAnswers, IsSound, IsAuditing}
 use Rattle.audit_command.specs.Printing.{Prints}
 use Rattle.audit_command.proofs.Audits.{differ_clash, finds_by}
@@ -91,13 +91,14 @@ by_auditing P d w r o (Torn g b) is = absurd is
 by_auditing P d w r o DiskFault is = absurd is
 by_auditing P d w r o (TooLong g) is = absurd is
 
-pub recounting_answers : (c : Config) (heads : List Head) (meant : Meant) (ends : List ℕ) (files : Files) (s : Status) → IsRecounting s
+pub recounting_answers : (c : Config) (heads : List Head) (meant : SegmentChoice) (ends : List ℕ) (files : Files) (s : Status) →
+    IsRecounting s
     → OpenAnswers c heads (slice_index ends) files (Err s) → HeldAnswers c heads meant ends files s
 recounting_answers c heads meant ends files s is a =
     by_recounting (λ (x : Status). OpenAnswers c heads (slice_index ends) files (Err x) → HeldAnswers c heads meant ends files x)
     (λ g f b. b) (λ b. tt) (λ b. tt) s is a
 
-pub other_answers : (c : Config) (heads : List Head) (meant : Meant) (ends : List ℕ) (files : Files) (s : Status) → IsOther s
+pub other_answers : (c : Config) (heads : List Head) (meant : SegmentChoice) (ends : List ℕ) (files : Files) (s : Status) → IsOther s
     → CountedAnswers c heads meant ends files s → HeldAnswers c heads meant ends files s
 other_answers c heads meant ends files s is a =
     by_other (λ (x : Status). CountedAnswers c heads meant ends files x → HeldAnswers c heads meant ends files x) (λ g w x y b. b) s is a
@@ -125,11 +126,11 @@ auditing_no_disk = by_auditing (λ s. s ≢ DiskFault) (λ e. absurd cc) (λ e. 
     (by_recounting (λ s. s ≢ DiskFault) (λ g f e. absurd cc) (λ e. absurd cc) (λ e. absurd cc))
     (by_other (λ s. s ≢ DiskFault) (λ g w x y e. absurd cc))
 
-pub finds_of : (c : Config) (heads : List Head) (meant : Meant) (ends : List ℕ) (files : Files) (s : Status) → IsAuditing s
-    → HeldAnswers c heads meant ends files s → Finds c meant (held_of (recordings c files).samples ends) s
+pub finds_of : (c : Config) (heads : List Head) (meant : SegmentChoice) (ends : List ℕ) (files : Files) (s : Status) → IsAuditing s
+    → HeldAnswers c heads meant ends files s → FindsDifference c meant (held_of (recordings c files).samples ends) s
 finds_of c heads meant ends files s is a =
     let P : Status → Type 0 = λ x. HeldAnswers c heads meant ends files x →
-    Finds c meant (held_of (recordings c files).samples ends) x in
+    FindsDifference c meant (held_of (recordings c files).samples ends) x in
     by_auditing P (λ b. b.1) (λ b. b.1) (by_recounting P (λ g f b. tt) (λ b. tt) (λ b. tt)) (by_other P (λ g w x y b. b.1)) s is a
 
 -- over a store that was read, by the setup of the configuration
@@ -140,7 +141,7 @@ answers_over c image files r s is a =
     by_auditing P (λ b. (r, b)) (λ b. (r, b)) (by_recounting P (λ g f b. (r, b)) (λ b. (r, b)) (λ b. tt))
     (by_other P (λ g w x y b. (r, b))) s is a
 
-module _ (c : Config) (heads : List Head) (from to : Meant) (ends : List ℕ) (files : Files)
+module _ (c : Config) (heads : List Head) (from to : SegmentChoice) (ends : List ℕ) (files : Files)
     (leads : (g : ℕ) (v : SegmentValue) → g < length c.gauges → from g v → to g v) where
   pub answers_by : (s : Status) → IsAuditing s → HeldAnswers c heads from ends files s → HeldAnswers c heads to ends files s
   answers_by s is a =
@@ -149,8 +150,8 @@ module _ (c : Config) (heads : List Head) (from to : Meant) (ends : List ℕ) (f
       by_auditing P (λ b. (b.0, found Done b.1)) (λ b. (b.0, found WriteFault b.1)) (by_recounting P (λ g f b. b) (λ b. tt) (λ b. tt))
       (by_other P (λ g v x y b. (b.0, found (Differs g v x y) b.1))) s is a
 
-pub finds_unread : (c : Config) (meant : Meant) (w : ℕ → List ℤ) (s : Status) → IsRefusal s → Finds c meant w s
-finds_unread c meant w = by_refusal (Finds c meant w) (λ f. tt) tt tt
+pub finds_unread : (c : Config) (meant : SegmentChoice) (w : ℕ → List ℤ) (s : Status) → IsRefusal s → FindsDifference c meant w s
+finds_unread c meant w = by_refusal (FindsDifference c meant w) (λ f. tt) tt tt
 
 -- the held segments, by the bodies of a store that is on its station
 module _ (s : StoreValue) (bodies : List PartsValue) (seen : Image) (leaves : Image → Type 0) (on : IsOn s bodies seen leaves) where
@@ -198,31 +199,32 @@ held_complete c heads bodies ends files DiskFault a opened same r w = absurd a
 held_complete c heads bodies ends files (TooLong g) a opened same r w = absurd a
 
 -- an answer over a configuration that was read
-pub over_config : (conf : Result Config ConfigFault) (c : Config) (image : Image) (files : Files) → conf ≡ Ok c → (s : Status)
-    → MayAnswerOver c image files s → AuditAnswers conf image files s
-over_config conf c image files is Done a = (c, is, a)
-over_config conf c image files is WriteFault a = (c, is, a)
-over_config conf c image files is (BadStore f) a = (c, is, a)
-over_config conf c image files is DiskFault a = (c, is, a)
-over_config conf c image files is OutOfMemory a = tt
-over_config conf c image files is ReadFault a = tt
-over_config conf c image files is (Recording g f) a = (c, is, a)
-over_config conf c image files is (Differs g x y z) a = (c, is, a)
-over_config conf c image files is Usage a = (c, is, a)
-over_config conf c image files is (BadConfig f) a = absurd a.1
-over_config conf c image files is (Torn g b) a = (c, is, a)
-over_config conf c image files is (TooLong g) a = (c, is, a)
+pub over_config : (bridge : Result Config ConfigFault) (c : Config) (image : Image) (files : Files) → bridge ≡ Ok c → (s : Status)
+    → MayAnswerOver c image files s → AuditAnswers bridge image files s
+over_config bridge c image files is Done a = (c, is, a)
+over_config bridge c image files is WriteFault a = (c, is, a)
+over_config bridge c image files is (BadStore f) a = (c, is, a)
+over_config bridge c image files is DiskFault a = (c, is, a)
+over_config bridge c image files is OutOfMemory a = tt
+over_config bridge c image files is ReadFault a = tt
+over_config bridge c image files is (Recording g f) a = (c, is, a)
+over_config bridge c image files is (Differs g x y z) a = (c, is, a)
+over_config bridge c image files is Usage a = (c, is, a)
+over_config bridge c image files is (BadConfig f) a = absurd a.1
+over_config bridge c image files is (Torn g b) a = (c, is, a)
+over_config bridge c image files is (TooLong g) a = (c, is, a)
 
-pub unread_answer : (conf : Result Config ConfigFault) (image : Image) (files : Files) (s : Status) → IsRefusal s → MeansAs conf (Err s)
-    → AuditAnswers conf image files s
-unread_answer conf image files s is =
-    by_refusal (λ (x : Status). MeansAs conf (Err x) → AuditAnswers conf image files x) (λ f m. m) (λ m. tt) (λ m. tt) s is
+pub unread_answer : (bridge : Result Config ConfigFault) (image : Image) (files : Files) (s : Status) → IsRefusal s → MeansAs bridge (Err s)
+    → AuditAnswers bridge image files s
+unread_answer bridge image files s is =
+    by_refusal (λ (x : Status). MeansAs bridge (Err x) → AuditAnswers bridge image files x) (λ f m. m) (λ m. tt) (λ m. tt) s is
 
 -- a sound configuration is refused for a read that failed, or for want of memory
-pub unread_complete : (conf : Result Config ConfigFault) (image : Image) (files : Files) (s : Status) → IsRefusal s → MeansAs conf (Err s)
-    → IsSound conf image files → s ≢ ReadFault → (s ≡ Done) ⊎ (s ≡ OutOfMemory)
-unread_complete conf image files s is m sound read =
-    by_refusal (λ (x : Status). MeansAs conf (Err x) → x ≢ ReadFault → (x ≡ Done) ⊎ (x ≡ OutOfMemory))
+pub unread_complete : (bridge : Result Config ConfigFault) (image : Image) (files : Files) (s : Status) → IsRefusal s →
+    MeansAs bridge (Err s)
+    → IsSound bridge image files → s ≢ ReadFault → (s ≡ Done) ⊎ (s ≡ OutOfMemory)
+unread_complete bridge image files s is m sound read =
+    by_refusal (λ (x : Status). MeansAs bridge (Err x) → x ≢ ReadFault → (x ≡ Done) ⊎ (x ≡ OutOfMemory))
     (λ f m r. absurd (clash (sym m ∙ sound.1))) (λ m r. absurd (r refl)) (λ m r. inr refl) s is m read
   where
     clash : {f : ConfigFault} {c : Config} → ◌≡◌ {A = Result Config ConfigFault} (Err f) (Ok c) → ⊥
@@ -232,26 +234,26 @@ pub unread_unprinted : (s : Status) → IsRefusal s → (c : Config) (old : List
 unread_unprinted s is c old = by_refusal (λ (x : Status). Prints x c old old) (λ f. refl) refl refl s is
 
 -- there is room for the name of each gauge; of a gauge that a configuration doesn't have it is empty
-name_of_short : (conf : Config) → IsConfig conf → (g : ℕ) → length (name_of conf g) ≤ MAX_NAME_BYTES
-name_of_short conf is g = elim (cases_lt g (length conf.gauges)) [
-  | inl lt ↦ short_name (name_of conf g) (is.names g lt)
-  | inr past ↦ let e : length (name_of conf g) ≡ 0 = ap (λ (x : Gauge). length x.name) (get_or_past conf.gauges g no_gauge past) in
+name_of_short : (bridge : Config) → IsConfig bridge → (g : ℕ) → length (name_of bridge g) ≤ MAX_NAME_BYTES
+name_of_short bridge is g = elim (cases_lt g (length bridge.gauges)) [
+  | inl lt ↦ short_name (name_of bridge g) (is.names g lt)
+  | inr past ↦ let e : length (name_of bridge g) ≡ 0 = ap (λ (x : Gauge). length x.name) (get_or_past bridge.gauges g no_gauge past) in
       omega (arith, e)
 ]
 
-pub name_short : (conf : Config) → IsConfig conf → (s : Status) → length (name_for conf s) ≤ MAX_NAME_BYTES
-name_short conf is Done = omega arith
-name_short conf is Usage = omega arith
-name_short conf is (BadConfig f) = omega arith
-name_short conf is (BadStore f) = omega arith
-name_short conf is (Recording g f) = name_of_short conf is g
-name_short conf is (Torn g b) = name_of_short conf is g
-name_short conf is ReadFault = omega arith
-name_short conf is WriteFault = omega arith
-name_short conf is DiskFault = omega arith
-name_short conf is OutOfMemory = omega arith
-name_short conf is (TooLong g) = name_of_short conf is g
-name_short conf is (Differs g w x y) = name_of_short conf is g
+pub name_short : (bridge : Config) → IsConfig bridge → (s : Status) → length (name_for bridge s) ≤ MAX_NAME_BYTES
+name_short bridge is Done = omega arith
+name_short bridge is Usage = omega arith
+name_short bridge is (BadConfig f) = omega arith
+name_short bridge is (BadStore f) = omega arith
+name_short bridge is (Recording g f) = name_of_short bridge is g
+name_short bridge is (Torn g b) = name_of_short bridge is g
+name_short bridge is ReadFault = omega arith
+name_short bridge is WriteFault = omega arith
+name_short bridge is DiskFault = omega arith
+name_short bridge is OutOfMemory = omega arith
+name_short bridge is (TooLong g) = name_of_short bridge is g
+name_short bridge is (Differs g w x y) = name_of_short bridge is g
 
 pub not_printed : (s : Status) (c : Config) (old new : List ℕ) → (IsPrinting s → ⊥) → Prints s c old new → new ≡ old
 not_printed Done c old new not p = absurd (not tt)

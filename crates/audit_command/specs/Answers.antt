@@ -19,14 +19,14 @@ use Rattle.status.specs.declared.status.Status.TheVariants.{Done, Config as BadC
 use Rattle.status.specs.Refused.{IsRefused, store_status}
 use Rattle.report_command.specs.Printing.{held_of}
 use Rattle.report_command.specs.Answers.{ReadsAs}
-use Rattle.audit_command.specs.Audited.{Meant, HasKept, AllSame, Finds}
+use Rattle.audit_command.specs.Audited.{SegmentChoice, HasKept, AllSame, FindsDifference}
 
 -- nothing is wrong with any recording, and the comparison finds this
-abbrev pub CountedAnswers : Config → List Head → Meant → List ℕ → Files → Status → Type 0
+abbrev pub CountedAnswers : Config → List Head → SegmentChoice → List ℕ → Files → Status → Type 0
 CountedAnswers c heads meant ends files status = AllOpened c heads (slice_index ends) files (length c.gauges)
-    × Finds c meant (held_of (recordings c files).samples ends) status
+    × FindsDifference c meant (held_of (recordings c files).samples ends) status
 
-abbrev pub HeldAnswers : Config → List Head → Meant → List ℕ → Files → Status → Type 0
+abbrev pub HeldAnswers : Config → List Head → SegmentChoice → List ℕ → Files → Status → Type 0
 HeldAnswers c heads meant ends files (Recording g fault) =
     (g < length c.gauges) × AllOpened c heads (slice_index ends) files g
     × FaultOf c heads (slice_index ends) files g (Some fault)
@@ -47,10 +47,10 @@ MayAnswerOver c image files status =
     (r : ReadsAs c.setup image) × HeldAnswers c r.head.heads (HasKept r.bodies) r.ends files status
 
 abbrev pub AuditAnswers : Result Config ConfigFault → Image → Files → Status → Type 0
-AuditAnswers conf image files (BadConfig fault) = conf ≡ Err fault
-AuditAnswers conf image files ReadFault = Unit {0}
-AuditAnswers conf image files OutOfMemory = Unit {0}
-AuditAnswers conf image files status = (c : Config) × (conf ≡ Ok c) × MayAnswerOver c image files status
+AuditAnswers bridge image files (BadConfig fault) = bridge ≡ Err fault
+AuditAnswers bridge image files ReadFault = Unit {0}
+AuditAnswers bridge image files OutOfMemory = Unit {0}
+AuditAnswers bridge image files status = (c : Config) × (bridge ≡ Ok c) × MayAnswerOver c image files status
 
 -- the recordings begin with samples that were counted as it holds
 abbrev pub IsAudited : Config → Image → Files → Type 0
@@ -59,7 +59,7 @@ IsAudited c image files =
     × AllSame c (HasKept r.bodies) (held_of (recordings c files).samples r.ends) (length c.gauges)
 
 abbrev pub IsSound : Result Config ConfigFault → Image → Files → Type 0
-IsSound conf image files = (c : Config) × (conf ≡ Ok c) × IsAudited c image files
+IsSound bridge image files = (c : Config) × (bridge ≡ Ok c) × IsAudited c image files
 
 -- the answers of auditing a store
 abbrev pub IsAuditing : Status → Type 0

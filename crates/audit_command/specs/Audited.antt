@@ -1,11 +1,11 @@
 -- What is compared with the samples that were counted again, and which difference is found.
---   Meant          which segment is meant for each gauge
+--   SegmentChoice   which segment is meant for each gauge
 --   IsItem         that of a list, which keeps its rules
 --   HasKept        one that has what the bodies of the gauge keep
 --   IsStanding     one that stands for the first so many samples of the gauge
 --   AuditsGauge    the first difference of a gauge, or none
 --   AllSame        no gauge below this one has any
---   Finds          what an answer says that comes after all were compared
+--   FindsDifference   what an answer says that comes after all were compared
 use Rattle.std.specs.Prelude.{◌≡◌, ◌<◌, ℕ, ℤ, List, length, slice_index_or, Option, Some, None}
 use Rattle.calibration.specs.History.{history}
 use Rattle.three_point.specs.Run.{three_point}
@@ -20,39 +20,39 @@ use Rattle.site_config.specs.declared.config.Config.{Config}
 use Rattle.status.specs.declared.status.Status.{Status}
 use Rattle.status.specs.declared.status.Status.TheVariants.{Done, WriteFault, Differs}
 
-abbrev pub Meant : Type 1
-Meant = ℕ → SegmentValue → Type 0
+abbrev pub SegmentChoice : Type 1
+SegmentChoice = ℕ → SegmentValue → Type 0
 
-abbrev pub IsItem : List SegmentValue → Meant
+abbrev pub IsItem : List SegmentValue → SegmentChoice
 IsItem held g v = (v ≡ slice_index_or held g v) × IsSegment v
 
-abbrev pub HasKept : List PartsValue → Meant
+abbrev pub HasKept : List PartsValue → SegmentChoice
 HasKept bodies g v = Keeps v (bodies_of g bodies)
 
-abbrev pub IsStanding : Config → (ℕ → List ℤ) → Meant
+abbrev pub IsStanding : Config → (ℕ → List ℤ) → SegmentChoice
 IsStanding c w g v = Stands v (gain_at c.setup g) (w g)
 
 -- used, missing and refused samples, and the half units of each pair, are compared with those of the samples w of the
 -- gauge
-abbrev pub AuditsGauge : Config → Meant → (ℕ → List ℤ) → ℕ → Option Difference → Type 0
+abbrev pub AuditsGauge : Config → SegmentChoice → (ℕ → List ℤ) → ℕ → Option Difference → Type 0
 AuditsGauge c meant w g other = (v : SegmentValue) × meant g v × (v.grid ≡ c.setup.grid) × Compares v
     (counts_of c.setup.grid (gain_at c.setup g) (w g)) (three_point (history c.setup.grid (gain_at c.setup g) (w g)))
     other
 
-abbrev pub AllSame : Config → Meant → (ℕ → List ℤ) → ℕ → Type 0
+abbrev pub AllSame : Config → SegmentChoice → (ℕ → List ℤ) → ℕ → Type 0
 AllSame c meant w k = (g : ℕ) → g < k → AuditsGauge c meant w g None
 
-abbrev pub Finds : Config → Meant → (ℕ → List ℤ) → Status → Type 0
-Finds c meant w Done = AllSame c meant w (length c.gauges)
-Finds c meant w WriteFault = AllSame c meant w (length c.gauges)
-Finds c meant w (Differs g what held found) = (g < length c.gauges) × AllSame c meant w g
+abbrev pub FindsDifference : Config → SegmentChoice → (ℕ → List ℤ) → Status → Type 0
+FindsDifference c meant w Done = AllSame c meant w (length c.gauges)
+FindsDifference c meant w WriteFault = AllSame c meant w (length c.gauges)
+FindsDifference c meant w (Differs g what held found) = (g < length c.gauges) × AllSame c meant w g
     × AuditsGauge c meant w g (Some (record { what = what; held = held; found = found }))
-Finds c meant w status = Unit {0}
+FindsDifference c meant w status = Unit {0}
 
 -- the answer of comparing, if there is one
-abbrev pub FirstOther : Config → Meant → (ℕ → List ℤ) → Option Status → Type 0
-FirstOther c meant w None = Finds c meant w Done
-FirstOther c meant w (Some status) = Finds c meant w status
+abbrev pub FirstOther : Config → SegmentChoice → (ℕ → List ℤ) → Option Status → Type 0
+FirstOther c meant w None = FindsDifference c meant w Done
+FirstOther c meant w (Some status) = FindsDifference c meant w status
 
 abbrev pub IsOther : Status → Type 0
 IsOther (Differs g what held found) = Unit {0}

@@ -1,5 +1,5 @@
 ghost use Rattle.std.specs.Prelude.{◌≡◌, ◌≢◌, ◌≤◌, ◌⊎◌, ◌++◌, [], ◌∷◌, ℕ, ℤ, List, Ok, length};
-ghost use Rattle.outside.specs.Fault.{Rose};
+ghost use Rattle.outside.specs.Fault.{CountRose};
 ghost use Rattle.segment_store.specs.Holds.{Holds};
 ghost use Rattle.segment_store.specs.Quiet.{IsQuiet};
 ghost use Rattle.site_config.specs.Configuration.{config_of_bytes};
@@ -13,7 +13,7 @@ ghost use Rattle.fault_lines.specs.Telling.{TellsAtMost};
 ghost use Rattle.status.specs.declared.status.Status.TheVariants.{Done, Usage, ReadFault, WriteFault, DiskFault, OutOfMemory};
 ghost use Rattle.status.specs.Printing.{IsPrinting};
 ghost use Rattle.report_command.specs.Printing.{held_of};
-ghost use Rattle.audit_command.specs.Audited.{Finds, IsStanding};
+ghost use Rattle.audit_command.specs.Audited.{FindsDifference, IsStanding};
 ghost use Rattle.audit_command.specs.Answers.{MayAnswerOver, AuditAnswers, IsAudited, IsSound};
 ghost use Rattle.audit_command.specs.Printing.{Prints};
 
@@ -41,22 +41,22 @@ pub fn audit_command<C: Source, T: Site, K: Station, O: Sink>(
     ensures answer { K.tells → T.tells → C.tells → AuditAnswers
         (config_of_bytes (C.left config.old)) (K.seen station.old) (T.files site.old) result }
     // Where the bodies stand for samples, these are compared with what the recording begins with.
-    ensures stands { K.tells → T.tells → C.tells → (conf : Config) →
-        config_of_bytes (C.left config.old) ≡ Ok conf → (w : ℕ → List ℤ) (n : List ℕ) →
-        Holds conf.setup w n (K.seen station.old) →
-        Finds conf (IsStanding conf (held_of w n))
-        (held_of (recordings conf (T.files site.old)).samples n) result }
+    ensures stands { K.tells → T.tells → C.tells → (bridge : Config) →
+        config_of_bytes (C.left config.old) ≡ Ok bridge → (w : ℕ → List ℤ) (n : List ℕ) →
+        Holds bridge.setup w n (K.seen station.old) →
+        FindsDifference bridge (IsStanding bridge (held_of w n))
+        (held_of (recordings bridge (T.files site.old)).samples n) result }
     ensures complete { K.tells → T.tells → C.tells → IsSound
         (config_of_bytes (C.left config.old)) (K.seen station.old) (T.files site.old) →
-        (Rose (C.faults config.old) (C.faults config.new) → ⊥) →
-        (Rose (T.faults site.old) (T.faults site.new) → ⊥) →
-        (Rose (K.faults station.old) (K.faults station.new) → ⊥) →
-        (Rose (O.faults out.old) (O.faults out.new) → ⊥) →
+        (CountRose (C.faults config.old) (C.faults config.new) → ⊥) →
+        (CountRose (T.faults site.old) (T.faults site.new) → ⊥) →
+        (CountRose (K.faults station.old) (K.faults station.new) → ⊥) →
+        (CountRose (O.faults out.old) (O.faults out.new) → ⊥) →
         (result ≡ Done) ⊎ (result ≡ OutOfMemory) }
     // A line for each gauge.
-    ensures prints { O.tells → C.tells → (conf : Config) →
-        config_of_bytes (C.left config.old) ≡ Ok conf →
-        Prints result conf (O.written out.old) (O.written out.new) }
+    ensures prints { O.tells → C.tells → (bridge : Config) →
+        config_of_bytes (C.left config.old) ≡ Ok bridge →
+        Prints result bridge (O.written out.old) (O.written out.new) }
     ensures nothing { O.tells → (IsPrinting result → ⊥) → O.written out.new ≡ O.written out.old }
     // At most the line of the answer is told, and the store stays.
     ensures quiet { K.tells → C.tells → TellsAtMost
@@ -66,14 +66,14 @@ pub fn audit_command<C: Source, T: Site, K: Station, O: Sink>(
         (K.leaves station.old) (K.leaves station.new) }
     ensures silent { K.tells → result ≡ Done → K.told station.new ≡ K.told station.old }
     ensures last { K.tells → C.tells → result ≢ Done →
-        Rose (K.faults station.old) (K.faults station.new) ⊎
+        CountRose (K.faults station.old) (K.faults station.new) ⊎
         (K.told station.new ≡ K.told station.old ++
         fault_line result (name_by (config_of_bytes (C.left config.old)) result) ∷ []) }
     ensures named { result ≢ Usage }
-    ensures read { result ≡ ReadFault → Rose (C.faults config.old) (C.faults config.new) ⊎
-        Rose (T.faults site.old) (T.faults site.new) }
-    ensures write { result ≡ WriteFault → Rose (O.faults out.old) (O.faults out.new) }
-    ensures disk { result ≡ DiskFault → Rose (K.faults station.old) (K.faults station.new) }
+    ensures read { result ≡ ReadFault → CountRose (C.faults config.old) (C.faults config.new) ⊎
+        CountRose (T.faults site.old) (T.faults site.new) }
+    ensures write { result ≡ WriteFault → CountRose (O.faults out.old) (O.faults out.new) }
+    ensures disk { result ≡ DiskFault → CountRose (K.faults station.old) (K.faults station.new) }
     // The gauges' files are asked for, in their order and each once, and no other.
     ensures asked { C.tells → AsksFirst (T.names_asked site.old) (T.names_asked site.new)
         (names_in (config_of_bytes (C.left config.old))) }
@@ -85,9 +85,9 @@ pub fn audit_command<C: Source, T: Site, K: Station, O: Sink>(
         return Status::OutOfMemory;
     };
     match read_config(alloc, config) {
-        Ok(conf) => {
-            let status = audit_by(alloc, &conf, site, station, out);
-            tell_fault(station, &mut line, status, name_in(&conf, status));
+        Ok(bridge) => {
+            let status = audit_by(alloc, &bridge, site, station, out);
+            tell_fault(station, &mut line, status, name_in(&bridge, status));
             status
         }
         Err(status) => {
@@ -100,41 +100,41 @@ pub fn audit_command<C: Source, T: Site, K: Station, O: Sink>(
 // The same by a configuration, and nothing is told.
 fn audit_by<T: Site, K: Station, O: Sink>(
     alloc: Global,
-    conf: &Config,
+    bridge: &Config,
     site: &mut T,
     station: &mut K,
     out: &mut O,
 ) -> Status
-    requires conf { IsConfig conf.now }
+    requires bridge { IsConfig bridge.now }
     requires home { T.out site.old ≡ 0 }
     ensures answer { K.tells → T.tells →
-        MayAnswerOver conf.now (K.seen station.old) (T.files site.old) result }
+        MayAnswerOver bridge.now (K.seen station.old) (T.files site.old) result }
     ensures stands { K.tells → T.tells → (w : ℕ → List ℤ) (n : List ℕ) →
-        Holds conf.now.setup w n (K.seen station.old) →
-        Finds conf.now (IsStanding conf.now (held_of w n))
-        (held_of (recordings conf.now (T.files site.old)).samples n) result }
+        Holds bridge.now.setup w n (K.seen station.old) →
+        FindsDifference bridge.now (IsStanding bridge.now (held_of w n))
+        (held_of (recordings bridge.now (T.files site.old)).samples n) result }
     ensures complete { K.tells → T.tells →
-        IsAudited conf.now (K.seen station.old) (T.files site.old) →
-        (Rose (T.faults site.old) (T.faults site.new) → ⊥) →
-        (Rose (K.faults station.old) (K.faults station.new) → ⊥) →
-        (Rose (O.faults out.old) (O.faults out.new) → ⊥) →
+        IsAudited bridge.now (K.seen station.old) (T.files site.old) →
+        (CountRose (T.faults site.old) (T.faults site.new) → ⊥) →
+        (CountRose (K.faults station.old) (K.faults station.new) → ⊥) →
+        (CountRose (O.faults out.old) (O.faults out.new) → ⊥) →
         (result ≡ Done) ⊎ (result ≡ OutOfMemory) }
-    ensures prints { O.tells → Prints result conf.now (O.written out.old) (O.written out.new) }
+    ensures prints { O.tells → Prints result bridge.now (O.written out.old) (O.written out.new) }
     ensures quiet { K.tells → IsQuiet (K.clock station.old) (K.moments station.old)
         (K.clock station.new) (K.moments station.new) (K.told station.old) (K.told station.new)
         (K.seen station.old) (K.seen station.new) (K.leaves station.old) (K.leaves station.new) }
     ensures later { K.faults station.old ≤ K.faults station.new }
     ensures named { result ≢ Usage }
-    ensures read { result ≡ ReadFault → Rose (T.faults site.old) (T.faults site.new) }
-    ensures write { result ≡ WriteFault → Rose (O.faults out.old) (O.faults out.new) }
-    ensures disk { result ≡ DiskFault → Rose (K.faults station.old) (K.faults station.new) }
+    ensures read { result ≡ ReadFault → CountRose (T.faults site.old) (T.faults site.new) }
+    ensures write { result ≡ WriteFault → CountRose (O.faults out.old) (O.faults out.new) }
+    ensures disk { result ≡ DiskFault → CountRose (K.faults station.old) (K.faults station.new) }
     ensures asked { AsksFirst (T.names_asked site.old) (T.names_asked site.new)
-        (file_names conf.now) }
+        (file_names bridge.now) }
     ensures back { T.out site.new ≡ 0 }
     ensures files { T.tells → T.files site.new ≡ T.files site.old }
 {
-    match Store::resume(alloc, station, &conf.setup) {
-        Ok(store) => audit_held(alloc, conf, &store, site, out),
+    match Store::resume(alloc, station, &bridge.setup) {
+        Ok(store) => audit_held(alloc, bridge, &store, site, out),
         Err(fault) => status_of(fault),
     }
 }

@@ -18,7 +18,7 @@ ghost use Rattle.std.specs.Prelude.{
   vec_len,
   vec_capacity,
 };
-ghost use Rattle.outside.specs.Fault.{Rose};
+ghost use Rattle.outside.specs.Fault.{CountRose};
 ghost use Rattle.outside.specs.Site.{Asks};
 ghost use Rattle.recording.specs.Samples.{samples as samples_of};
 ghost use Rattle.recording.specs.declared.TheConstants.{MAX_SAMPLES};
@@ -52,33 +52,34 @@ use std::alloc::Global;
 /// recounts so far are left in `recounts`. Every source is back at the site.
 pub(crate) fn recount_all<T: Site>(
     alloc: Global,
-    conf: &Config,
+    bridge: &Config,
     store: &Store,
     site: &mut T,
     recounts: &mut Vec<Recount>,
 ) -> Result<(), Status>
-    requires conf { IsConfig conf.now }
-    requires setup { store.now.head.setup ≡ conf.now.setup }
-    requires held { length store.now.held ≡ length conf.now.gauges }
-    requires heads { length store.now.head.heads ≡ length conf.now.gauges }
+    requires bridge { IsConfig bridge.now }
+    requires setup { store.now.head.setup ≡ bridge.now.setup }
+    requires held { length store.now.held ≡ length bridge.now.gauges }
+    requires heads { length store.now.head.heads ≡ length bridge.now.gauges }
     requires home { T.out site.old ≡ 0 }
     requires none { vec_len recounts.old ≡ 0 }
-    requires room { length conf.now.gauges ≤ vec_capacity recounts.old }
-    ensures all { OnOk result (vec_len recounts.new ≡ length conf.now.gauges) }
-    ensures counted { AreRecounts conf.now T.tells (recordings conf.now (T.files site.old)).samples
+    requires room { length bridge.now.gauges ≤ vec_capacity recounts.old }
+    ensures all { OnOk result (vec_len recounts.new ≡ length bridge.now.gauges) }
+    ensures counted { AreRecounts bridge.now T.tells
+        (recordings bridge.now (T.files site.old)).samples
         (slice_index (ends_of store.now.held)) recounts.new.items }
-    ensures answer { T.tells → OpenAnswers conf.now store.now.head.heads
+    ensures answer { T.tells → OpenAnswers bridge.now store.now.head.heads
         (slice_index (ends_of store.now.held)) (T.files site.old) result }
     ensures kind { IfErr result IsRecounting }
     ensures asked { AsksFirst (T.names_asked site.old) (T.names_asked site.new)
-        (file_names conf.now) }
+        (file_names bridge.now) }
     ensures back { T.out site.new ≡ 0 }
     ensures files { T.tells → T.files site.new ≡ T.files site.old }
-    ensures cause { result ≡ Err ReadFault → Rose (T.faults site.old) (T.faults site.new) }
+    ensures cause { result ≡ Err ReadFault → CountRose (T.faults site.old) (T.faults site.new) }
     ensures later { T.faults site.old ≤ T.faults site.new }
 {
-    for gauge in 0..conf.gauges.as_slice().len() {
-        match recount_gauge(alloc, conf, store, gauge as u16, site) {
+    for gauge in 0..bridge.gauges.as_slice().len() {
+        match recount_gauge(alloc, bridge, store, gauge as u16, site) {
             Ok(recount) => recounts.push_reserved(recount),
             Err(status) => return Err(status),
         }
@@ -89,30 +90,30 @@ pub(crate) fn recount_all<T: Site>(
 // Counts the held samples of the recording of a gauge again.
 fn recount_gauge<T: Site>(
     alloc: Global,
-    conf: &Config,
+    bridge: &Config,
     store: &Store,
     gauge: u16,
     site: &mut T,
 ) -> Result<Recount, Status>
-    requires conf { IsConfig conf.now }
-    requires known { gauge < length conf.now.gauges }
-    requires held { length store.now.held ≡ length conf.now.gauges }
-    requires heads { length store.now.head.heads ≡ length conf.now.gauges }
+    requires bridge { IsConfig bridge.now }
+    requires known { gauge < length bridge.now.gauges }
+    requires held { length store.now.held ≡ length bridge.now.gauges }
+    requires heads { length store.now.head.heads ≡ length bridge.now.gauges }
     requires home { T.out site.old ≡ 0 }
-    ensures counted { IfOk result (IsOfFirst conf.now T.tells
-        (recordings conf.now (T.files site.old)).samples
+    ensures counted { IfOk result (IsOfFirst bridge.now T.tells
+        (recordings bridge.now (T.files site.old)).samples
         (slice_index (ends_of store.now.held)) gauge) }
-    ensures answer { T.tells → GaugeAnswers conf.now store.now.head.heads
+    ensures answer { T.tells → GaugeAnswers bridge.now store.now.head.heads
         (slice_index (ends_of store.now.held)) (T.files site.old) gauge result }
     ensures kind { IfErr result IsRecounting }
     ensures asked { Asks (T.names_asked site.old) (T.names_asked site.new)
-        (file_of conf.now gauge ∷ []) }
+        (file_of bridge.now gauge ∷ []) }
     ensures back { T.out site.new ≡ 0 }
     ensures files { T.tells → T.files site.new ≡ T.files site.old }
-    ensures cause { result ≡ Err ReadFault → Rose (T.faults site.old) (T.faults site.new) }
+    ensures cause { result ≡ Err ReadFault → CountRose (T.faults site.old) (T.faults site.new) }
     ensures later { T.faults site.old ≤ T.faults site.new }
 {
-    let name = conf.gauges.as_slice()[gauge as usize].file.as_str();
+    let name = bridge.gauges.as_slice()[gauge as usize].file.as_str();
     let mut src = match site.fetch(name) {
         Ok(src) => src,
         Err(_) => return Err(Status::ReadFault),
@@ -121,8 +122,8 @@ fn recount_gauge<T: Site>(
         alloc,
         &mut src,
         &store.head().heads.as_slice()[gauge as usize],
-        &conf.setup.gains.as_slice()[gauge as usize],
-        &conf.setup.grid,
+        &bridge.setup.gains.as_slice()[gauge as usize],
+        &bridge.setup.grid,
         gauge,
         store.held(gauge).name().to,
     );
@@ -146,7 +147,7 @@ fn recount_source<S: Source>(
     ensures answer { S.tells → SourceAnswers (fault_of kept.now held (S.left src.old)) gauge
         result }
     ensures kind { IfErr result IsRecounting }
-    ensures cause { result ≡ Err ReadFault → Rose (S.faults src.old) (S.faults src.new) }
+    ensures cause { result ≡ Err ReadFault → CountRose (S.faults src.old) (S.faults src.new) }
     ensures later { S.faults src.old ≤ S.faults src.new }
 {
     match open_recording(src, kept, 0) {

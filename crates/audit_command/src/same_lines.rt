@@ -23,20 +23,20 @@ pub(crate) fn line_room(alloc: Global) -> Result<LineRoom, AllocError>
 
 /// Prints the line of each gauge.
 pub(crate) fn print_same<O: Sink>(
-    conf: &Config,
+    bridge: &Config,
     line: &mut LineRoom,
     out: &mut O,
 ) -> Result<(), Failed>
-    requires conf { IsConfig conf.now }
+    requires bridge { IsConfig bridge.now }
     requires room { line.old.room ≡ MAX_LINE_BYTES }
     ensures ok { O.tells → OnOk result (O.written out.new ≡ O.written out.old ++
-        same_lines conf.now) }
+        same_lines bridge.now) }
     ensures failed { O.tells → OnErr result (AppendsPrefix (O.written out.old) (O.written out.new)
-        (same_lines conf.now)) }
+        (same_lines bridge.now)) }
     ensures cause { HasCause (O.faults out.old) (O.faults out.new) result }
 {
-    for gauge in 0..conf.gauges.as_slice().len() {
-        push_same(line, conf.gauges.as_slice()[gauge].name.as_str());
+    for gauge in 0..bridge.gauges.as_slice().len() {
+        push_same(line, bridge.gauges.as_slice()[gauge].name.as_str());
         out.put(line.bytes())?;
     }
     Ok(())

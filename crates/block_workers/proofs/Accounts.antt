@@ -3,7 +3,7 @@ use Rattle.std.proofs.Common.{◌≡◌, ◌≢◌, ◌≤◌, ◌<◌, ◌+◌,
 use Rattle.std.proofs.lemmas.Bool.{eq-eqb, ne_eqb}
 use Rattle.std.proofs.lemmas.List.{append_cancel_left}
 use Rattle.segment_rules.specs.declared.name.Name.{Name}
-use Rattle.flow.specs.Flow.{name_of_samples, has, hits}
+use Rattle.flow.specs.Flow.{name_of_samples, hits_of_name, hits}
 use Rattle.flow.specs.Kept.{over, between}
 use Rattle.flow.proofs.Counting.{over_same, over_one, over_none, over_sum, between_parts, nothing_between}
 use Rattle.block_pool.specs.Units.{FilledValue, CountedValue}
@@ -12,7 +12,7 @@ use Rattle.block_workers.specs.declared.item.Item.TheVariants.{Mark}
 use Rattle.block_workers.specs.declared.item.Back.{Back}
 use Rattle.block_workers.specs.declared.item.Back.TheVariants.{Over}
 use Rattle.block_workers.specs.declared.desk.Desk.{Desk}
-use Rattle.block_workers.specs.Dealing.{block_of, round_of, dealt}
+use Rattle.block_workers.specs.Dealing.{block_of, round_of, blocks_of_worker}
 use Rattle.block_workers.specs.Working.{back_of, return_round}
 use Rattle.block_workers.specs.Reading.{AreBlocks}
 use Rattle.block_workers.specs.Reading.AreBlocks.{none, last, more}
@@ -50,14 +50,15 @@ pub even_return : (f fed taken left : List Back) (us vs : List CountedValue) →
     → fed ≡ taken ++ left → (vs ≡ us) × (fed ≡ taken)
 even_return = even back_of Over (λ x y e. cc) (λ x e. absurd cc)
 
-dealt_test : (g i : ℕ) (u : FilledValue) (l : List FilledValue) (b : Bool)
-    → hits g i (names_of (cond b (u ∷ l) l)) ≡ cond b (has g i u.name) 0 + hits g i (names_of l)
-dealt_test g i u l true = refl
-dealt_test g i u l false = omega arith
+blocks_of_worker_test : (g i : ℕ) (u : FilledValue) (l : List FilledValue) (b : Bool)
+    → hits g i (names_of (cond b (u ∷ l) l)) ≡ cond b (hits_of_name g i u.name) 0 + hits g i (names_of l)
+blocks_of_worker_test g i u l true = refl
+blocks_of_worker_test g i u l false = omega arith
 
-dealt_hits : (g i n k v : ℕ) (u : FilledValue) (us : List FilledValue)
-    → hits g i (names_of (dealt n v k (u ∷ us))) ≡ cond (eqb (k % n) v) (has g i u.name) 0 + hits g i (names_of (dealt n v (k + 1) us))
-dealt_hits g i n k v u us = dealt_test g i u (dealt n v (k + 1) us) (eqb (k % n) v)
+blocks_of_worker_hits : (g i n k v : ℕ) (u : FilledValue) (us : List FilledValue)
+    → hits g i (names_of (blocks_of_worker n v k (u ∷ us)))
+    ≡ cond (eqb (k % n) v) (hits_of_name g i u.name) 0 + hits g i (names_of (blocks_of_worker n v (k + 1) us))
+blocks_of_worker_hits g i n k v u us = blocks_of_worker_test g i u (blocks_of_worker n v (k + 1) us) (eqb (k % n) v)
 
 pub one_worker : (n w x : ℕ) → w < n → over n (λ v. cond (eqb w v) x 0) ≡ x
 one_worker n w x l =
@@ -68,25 +69,27 @@ one_worker n w x l =
     let here : f w ≡ x = ap (λ b. cond b x 0) (eq-eqb w w refl) in omega (arith, split, zeros, here)
 
 -- each block of a lane goes to one worker
-pub dealt_once : (g i n k : ℕ) (us : List FilledValue) → 0 < n → over n (λ v. hits g i (names_of (dealt n v k us))) ≡ hits g i (names_of us)
-dealt_once g i n k [] h = over_none n (λ v. 0) (λ v l. refl)
-dealt_once g i n k (u ∷ us) h =
-    let x = has g i u.name in
-    let parts : over n (λ v. hits g i (names_of (dealt n v k (u ∷ us))))
-    ≡ over n (λ v. cond (eqb (k % n) v) x 0 + hits g i (names_of (dealt n v (k + 1) us))) =
-    over_same n _ _ (λ v l. dealt_hits g i n k v u us) in
-    let sums : over n (λ v. cond (eqb (k % n) v) x 0 + hits g i (names_of (dealt n v (k + 1) us)))
-    ≡ over n (λ v. cond (eqb (k % n) v) x 0) + over n (λ v. hits g i (names_of (dealt n v (k + 1) us))) =
-    over_sum n (λ v. cond (eqb (k % n) v) x 0) (λ v. hits g i (names_of (dealt n v (k + 1) us))) in
+pub blocks_of_worker_once : (g i n k : ℕ) (us : List FilledValue) → 0 < n → over n (λ v. hits g i (names_of (blocks_of_worker n v k us)))
+    ≡ hits g i (names_of us)
+blocks_of_worker_once g i n k [] h = over_none n (λ v. 0) (λ v l. refl)
+blocks_of_worker_once g i n k (u ∷ us) h =
+    let x = hits_of_name g i u.name in
+    let parts : over n (λ v. hits g i (names_of (blocks_of_worker n v k (u ∷ us))))
+    ≡ over n (λ v. cond (eqb (k % n) v) x 0 + hits g i (names_of (blocks_of_worker n v (k + 1) us))) =
+    over_same n _ _ (λ v l. blocks_of_worker_hits g i n k v u us) in
+    let sums : over n (λ v. cond (eqb (k % n) v) x 0 + hits g i (names_of (blocks_of_worker n v (k + 1) us)))
+    ≡ over n (λ v. cond (eqb (k % n) v) x 0) + over n (λ v. hits g i (names_of (blocks_of_worker n v (k + 1) us))) =
+    over_sum n (λ v. cond (eqb (k % n) v) x 0) (λ v. hits g i (names_of (blocks_of_worker n v (k + 1) us))) in
     let here : over n (λ v. cond (eqb (k % n) v) x 0) ≡ x = one_worker n (k % n) x (omega (arith, h)) in
-    let rest : over n (λ v. hits g i (names_of (dealt n v (k + 1) us))) ≡ hits g i (names_of us) = dealt_once g i n (k + 1) us h in
+    let rest : over n (λ v. hits g i (names_of (blocks_of_worker n v (k + 1) us))) ≡ hits g i (names_of us) =
+    blocks_of_worker_once g i n (k + 1) us h in
     omega (arith, parts, sums, here, rest)
 
-named_has : (g a b i : ℕ) → has g i (name_of_samples g a b) ≡ between a b i
+named_has : (g a b i : ℕ) → hits_of_name g i (name_of_samples g a b) ≡ between a b i
 named_has g a b i = ap (λ t. cond t (between a b i) 0) (eq-eqb g g refl)
 
-has_named : (g a b i : ℕ) (n : Name) → n ≡ name_of_samples g a b → has g i n ≡ between a b i
-has_named g a b i n e = ap (has g i) e ∙ named_has g a b i
+hits_of_name_named : (g a b i : ℕ) (n : Name) → n ≡ name_of_samples g a b → hits_of_name g i n ≡ between a b i
+hits_of_name_named g a b i n e = ap (hits_of_name g i) e ∙ named_has g a b i
 
 pub blocks_ascend : (d : Desk) (a b : ℕ) (us : List FilledValue) → AreBlocks d a us b → a ≤ b
 blocks_ascend d a b [] none = omega arith
@@ -96,10 +99,11 @@ blocks_ascend d a b (u ∷ us) (more i r) = omega (arith, i.some, blocks_ascend 
 -- the blocks of a lane name its samples once each
 pub blocks_once : (d : Desk) (a b i : ℕ) (us : List FilledValue) → AreBlocks d a us b → hits d.gauge i (names_of us) ≡ between a b i
 blocks_once d a b i [] none = sym (nothing_between a i)
-blocks_once d a b i (u ∷ []) (last h) = let e : has d.gauge i u.name ≡ between a b i = has_named d.gauge a b i u.name h.name in
+blocks_once d a b i (u ∷ []) (last h) = let e : hits_of_name d.gauge i u.name ≡ between a b i =
+    hits_of_name_named d.gauge a b i u.name h.name in
     omega (arith, e)
 blocks_once d a b i (u ∷ us) (more h r) =
-    let e : has d.gauge i u.name ≡ between a (a + d.block) i = has_named d.gauge a (a + d.block) i u.name h.name in
+    let e : hits_of_name d.gauge i u.name ≡ between a (a + d.block) i = hits_of_name_named d.gauge a (a + d.block) i u.name h.name in
     let f : hits d.gauge i (names_of us) ≡ between (a + d.block) b i = blocks_once d (a + d.block) b i us r in
     let s : between a (a + d.block) i + between (a + d.block) b i ≡ between a b i =
     between_parts a (a + d.block) b i (omega arith) (blocks_ascend d (a + d.block) b us r) in

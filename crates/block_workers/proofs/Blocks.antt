@@ -22,8 +22,8 @@ use Rattle.block_pool.specs.Units.{FilledValue, BlankValue, IsBlank, buffer_afte
 use Rattle.block_workers.specs.declared.item.Item.{Item}
 use Rattle.block_workers.specs.declared.item.Item.TheVariants.{Mark}
 use Rattle.block_workers.specs.declared.desk.Desk.{Desk}
-use Rattle.block_workers.specs.Dealing.{block_of, dealt, Feeds, MarksAll}
-use Rattle.block_workers.specs.Reading.{IsUnit, AreBlocks, AreWhole, samples_of, SameDesk, IsReady, Nothing, OneBlock, OneRead, Reading, most, WholeSoFar, BlocksOfRound, ReadDone}
+use Rattle.block_workers.specs.Dealing.{block_of, blocks_of_worker, FeedsOneRing, MarksAll}
+use Rattle.block_workers.specs.Reading.{IsUnit, AreBlocks, AreWhole, samples_of, SameDesk, IsReady, NoBlock, OneBlock, OneRead, IsReadSoFar, most, WholeSoFar, BlocksOfRound, ReadDone}
 use Rattle.block_workers.specs.Reading.AreBlocks.{none, last, more}
 use Rattle.block_workers.specs.Reading.AreWhole.{empty, whole}
 use Rattle.block_workers.specs.Jobs.{NotRead}
@@ -67,11 +67,11 @@ samples_are n kind block gauge at gain buf out u e l = ap (λ (v : FilledValue).
     ∙ ap (take n) (all_written buf out (length buf) refl l)
 
 pub feeds_through : (old was new : List (Feeder Item)) (n v w : ℕ) (items : List Item) → was ≡ old → n ≡ length old → v ≡ w
-    → Feeds was new v items → Feeds old (take n (new ++ drop (length new) old)) w items
+    → FeedsOneRing was new v items → FeedsOneRing old (take n (new ++ drop (length new) old)) w items
 feeds_through old was new n v w items e l q h =
-    let first : Feeds old new v items = subst (λ o. Feeds o new v items) e h in
+    let first : FeedsOneRing old new v items = subst (λ o. FeedsOneRing o new v items) e h in
     let same : take n (new ++ drop (length new) old) ≡ new = all_written old new n l first.long in
-    subst (λ m. Feeds old m w items) (sym same) (subst (λ k. Feeds old new k items) q first)
+    subst (λ m. FeedsOneRing old m w items) (sym same) (subst (λ k. FeedsOneRing old new k items) q first)
 
 pub marks_through : (old was new : List (Feeder Item)) (n : ℕ) → was ≡ old → n ≡ length old → MarksAll was new
     → MarksAll old (take n (new ++ drop (length new) old))
@@ -99,38 +99,39 @@ whole_long d a b [] empty = omega arith
 whole_long d a b (v ∷ us) (whole j r) = let e : b ≡ a + d.block + length us * d.block = whole_long d (a + d.block) b us r in
     omega (arith, e)
 
-dealt_cons : (b : Bool) (w : FilledValue) (l m k : List FilledValue) → l ≡ m ++ k → cond b (w ∷ l) l ≡ cond b (w ∷ m) m ++ k
-dealt_cons true w l m k e = ap (λ s. w ∷ s) e
-dealt_cons false w l m k e = e
+blocks_of_worker_cons : (b : Bool) (w : FilledValue) (l m k : List FilledValue) → l ≡ m ++ k → cond b (w ∷ l) l ≡ cond b (w ∷ m) m ++ k
+blocks_of_worker_cons true w l m k e = ap (λ s. w ∷ s) e
+blocks_of_worker_cons false w l m k e = e
 
-dealt_push : (n v k : ℕ) (us : List FilledValue) (u : FilledValue)
-    → dealt n v k (us ++ u ∷ []) ≡ dealt n v k us ++ cond (eqb ((k + length us) % n) v) (u ∷ []) []
-dealt_push n v k [] u = ap (λ i. cond (eqb (i % n) v) (u ∷ []) []) (omega arith)
-dealt_push n v k (w ∷ us) u =
+blocks_of_worker_push : (n v k : ℕ) (us : List FilledValue) (u : FilledValue)
+    → blocks_of_worker n v k (us ++ u ∷ []) ≡ blocks_of_worker n v k us ++ cond (eqb ((k + length us) % n) v) (u ∷ []) []
+blocks_of_worker_push n v k [] u = ap (λ i. cond (eqb (i % n) v) (u ∷ []) []) (omega arith)
+blocks_of_worker_push n v k (w ∷ us) u =
     let at : k + 1 + length us ≡ k + length (w ∷ us) = omega arith in
-    dealt_cons (eqb (k % n) v) w (dealt n v (k + 1) (us ++ u ∷ [])) (dealt n v (k + 1) us)
+    blocks_of_worker_cons (eqb (k % n) v) w (blocks_of_worker n v (k + 1) (us ++ u ∷ [])) (blocks_of_worker n v (k + 1) us)
     (cond (eqb ((k + length (w ∷ us)) % n) v) (u ∷ []) [])
-    (dealt_push n v (k + 1) us u ∙ ap (λ i. dealt n v (k + 1) us ++ cond (eqb (i % n) v) (u ∷ []) []) at)
+    (blocks_of_worker_push n v (k + 1) us u ∙ ap (λ i. blocks_of_worker n v (k + 1) us ++ cond (eqb (i % n) v) (u ∷ []) []) at)
 
 samples_push : (us : List FilledValue) (u : FilledValue) → samples_of (us ++ u ∷ []) ≡ samples_of us ++ u.samples
 samples_push [] u = append-nil u.samples
 samples_push (w ∷ us) u = ap (λ l. w.samples ++ l) (samples_push us u) ∙ sym (append_assoc w.samples (samples_of us) u.samples)
 
 -- what a ring was fed, with one block more
-fed_or : (n v w : ℕ) (us : List FilledValue) (u : FilledValue) (a b c : List Item) → b ≡ a ++ map block_of (dealt n v 0 us)
+fed_or : (n v w : ℕ) (us : List FilledValue) (u : FilledValue) (a b c : List Item) → b ≡ a ++ map block_of (blocks_of_worker n v 0 us)
     → length us % n ≡ w → (w ≡ v → c ≡ b ++ block_of u ∷ []) → ((v ≡ w → ⊥) → c ≡ b) → ((v ≡ w) ⊎ (v ≡ w → ⊥))
-    → c ≡ a ++ map block_of (dealt n v 0 (us ++ u ∷ []))
+    → c ≡ a ++ map block_of (blocks_of_worker n v 0 (us ++ u ∷ []))
 fed_or n v w us u a b c e at here there (inl q) =
     let test : eqb ((0 + length us) % n) v ≡ true = ap (λ i. eqb (i % n) v) (omega arith) ∙ eq-eqb (length us % n) v (at ∙ sym q) in
-    let deal : dealt n v 0 (us ++ u ∷ []) ≡ dealt n v 0 us ++ u ∷ [] = dealt_push n v 0 us u
-    ∙ ap (λ b. dealt n v 0 us ++ cond b (u ∷ []) []) test in
-    here (sym q) ∙ ap (λ l. l ++ block_of u ∷ []) e ∙ append_assoc a (map block_of (dealt n v 0 us)) (block_of u ∷ [])
-    ∙ ap (λ l. a ++ l) (sym (ap (map block_of) deal ∙ map-append block_of (dealt n v 0 us) (u ∷ [])))
+    let deal : blocks_of_worker n v 0 (us ++ u ∷ []) ≡ blocks_of_worker n v 0 us ++ u ∷ [] = blocks_of_worker_push n v 0 us u
+    ∙ ap (λ b. blocks_of_worker n v 0 us ++ cond b (u ∷ []) []) test in
+    here (sym q) ∙ ap (λ l. l ++ block_of u ∷ []) e ∙ append_assoc a (map block_of (blocks_of_worker n v 0 us)) (block_of u ∷ [])
+    ∙ ap (λ l. a ++ l) (sym (ap (map block_of) deal ∙ map-append block_of (blocks_of_worker n v 0 us) (u ∷ [])))
 fed_or n v w us u a b c e at here there (inr q) =
     let test : eqb ((0 + length us) % n) v ≡ false = ap (λ i. eqb (i % n) v) (omega arith)
     ∙ ne_eqb (length us % n) v (λ r. q (sym r ∙ at)) in
-    let deal : dealt n v 0 (us ++ u ∷ []) ≡ dealt n v 0 us = dealt_push n v 0 us u ∙ ap (λ b. dealt n v 0 us ++ cond b (u ∷ []) []) test
-    ∙ append-nil (dealt n v 0 us) in
+    let deal : blocks_of_worker n v 0 (us ++ u ∷ []) ≡ blocks_of_worker n v 0 us = blocks_of_worker_push n v 0 us u
+    ∙ ap (λ b. blocks_of_worker n v 0 us ++ cond b (u ∷ []) []) test
+    ∙ append-nil (blocks_of_worker n v 0 us) in
     there q ∙ e ∙ ap (λ l. a ++ map block_of l) (sym deal)
 
 same_desk : (a b c : Desk) → SameDesk a b → SameDesk b c → SameDesk a c
@@ -195,10 +196,10 @@ whole_at old mid number us h = let e : mid.at ≡ old.at + length us * old.block
 
 -- one block more
 pub one_more : (tells : Type 0) (left_old left_mid left_new : List ℕ) (old mid new : Desk) (number : ℕ) (P : List FilledValue → Type 0) →
-    (r : Reading tells left_old left_mid old mid (number * old.block) (WholeSoFar old mid number)) → SameDesk mid new
+    (r : IsReadSoFar tells left_old left_mid old mid (number * old.block) (WholeSoFar old mid number)) → SameDesk mid new
     → new.at ≤ MAX_SAMPLES → (tells → Gives mid.block (most mid) left_mid (new.at - mid.at) new.end left_new)
     → (o : OneBlock tells left_mid mid new number) → P (r.units ++ o.unit ∷ [])
-    → Reading tells left_old left_new old new (number * old.block + old.block) P
+    → IsReadSoFar tells left_old left_new old new (number * old.block + old.block) P
 one_more tells left_old left_mid left_new old mid new number P r s limit k o p =
     let at : mid.at ≡ old.at + number * old.block = whole_at old mid number r.units r.are in
     let up : mid.at < new.at = o.is.some in
@@ -227,9 +228,9 @@ one_more tells left_old left_mid left_new old mid new number P r s limit k o p =
 
 -- nothing more
 pub no_more : (tells : Type 0) (left_old left_mid left_new : List ℕ) (old mid new : Desk) (number : ℕ) (Q : List FilledValue → Type 0) →
-    (r : Reading tells left_old left_mid old mid (number * old.block) (WholeSoFar old mid number)) → SameDesk mid new
-    → new.at ≤ MAX_SAMPLES → (tells → Gives mid.block (most mid) left_mid (new.at - mid.at) new.end left_new) → Nothing mid new → Q r.units
-    → Reading tells left_old left_new old new (number * old.block + old.block) Q
+    (r : IsReadSoFar tells left_old left_mid old mid (number * old.block) (WholeSoFar old mid number)) → SameDesk mid new
+    → new.at ≤ MAX_SAMPLES → (tells → Gives mid.block (most mid) left_mid (new.at - mid.at) new.end left_new) → NoBlock mid new → Q r.units
+    → IsReadSoFar tells left_old left_new old new (number * old.block + old.block) Q
 no_more tells left_old left_mid left_new old mid new number Q r s limit k o q = record {
   same = same_desk old mid new r.same s;
   limit = limit;
@@ -247,8 +248,8 @@ no_more tells left_old left_mid left_new old mid new number Q r s limit k o q = 
 
 -- the same reading, of which as many samples were wanted
 wanting : (tells : Type 0) (left_old left_new : List ℕ) (old new : Desk) (a b : ℕ) (P : List FilledValue → Type 0)
-    → Reading tells left_old left_new old new a P → (tells → Gives b (most old) left_old (new.at - old.at) new.end left_new)
-    → Reading tells left_old left_new old new b P
+    → IsReadSoFar tells left_old left_new old new a P → (tells → Gives b (most old) left_old (new.at - old.at) new.end left_new)
+    → IsReadSoFar tells left_old left_new old new b P
 wanting tells left_old left_new old new a b P r g =
     record {
       same = r.same;
@@ -266,9 +267,9 @@ wanting tells left_old left_new old new a b P r g =
     }
 
 pub whole_step : (tells : Type 0) (left_old left_mid left_new : List ℕ) (old mid new : Desk) (number : ℕ) (answer : Bool) → answer ≡ true
-    → Reading tells left_old left_mid old mid (number * old.block) (WholeSoFar old mid number)
+    → IsReadSoFar tells left_old left_mid old mid (number * old.block) (WholeSoFar old mid number)
     → OneRead tells left_mid left_new mid new number answer
-    → Reading tells left_old left_new old new ((number + 1) * old.block) (WholeSoFar old new (number + 1))
+    → IsReadSoFar tells left_old left_new old new ((number + 1) * old.block) (WholeSoFar old new (number + 1))
 whole_step tells left_old left_mid left_new old mid new number answer sure r o =
     let (b, at, end) = o.whole sure in
     let unit : IsUnit old mid.at (mid.at + old.block) b.unit =
@@ -276,7 +277,7 @@ whole_step tells left_old left_mid left_new old mid new number answer sure r o =
     (subst (λ k. IsUnit old mid.at k b.unit) at (unit_from old mid mid.at new.at b.unit r.same b.is)) in
     let to : mid.at + old.block ≡ new.at = omega (arith, at, r.same.block) in
     let sum : number * old.block + old.block ≡ (number + 1) * old.block = omega arith in
-    subst (λ w. Reading tells left_old left_new old new w (WholeSoFar old new (number + 1))) sum
+    subst (λ w. IsReadSoFar tells left_old left_new old new w (WholeSoFar old new (number + 1))) sum
     (one_more tells left_old left_mid left_new old mid new number (WholeSoFar old new (number + 1)) r o.same o.limit o.gives b (
       omega (arith, length-append r.units (b.unit ∷ []), r.are.0),
       subst (AreWhole old old.at (r.units ++ b.unit ∷ [])) to (whole_more old old.at mid.at r.units b.unit r.are.1 unit),
@@ -284,10 +285,10 @@ whole_step tells left_old left_mid left_new old mid new number answer sure r o =
     ))
 
 done_or : (tells : Type 0) (left_old left_mid left_new : List ℕ) (old mid new : Desk) (number : ℕ) → number < BLOCKS_PER_WINDOW
-    → Reading tells left_old left_mid old mid (number * old.block) (WholeSoFar old mid number) → SameDesk mid new → new.at ≤ MAX_SAMPLES
+    → IsReadSoFar tells left_old left_mid old mid (number * old.block) (WholeSoFar old mid number) → SameDesk mid new → new.at ≤ MAX_SAMPLES
     → (tells → Gives mid.block (most mid) left_mid (new.at - mid.at) new.end left_new)
-    → (Nothing mid new ⊎ OneBlock tells left_mid mid new number)
-    → Reading tells left_old left_new old new (number * old.block + old.block) (BlocksOfRound old new)
+    → (NoBlock mid new ⊎ OneBlock tells left_mid mid new number)
+    → IsReadSoFar tells left_old left_new old new (number * old.block + old.block) (BlocksOfRound old new)
 done_or tells left_old left_mid left_new old mid new number few r s limit k (inl n) =
     no_more tells left_old left_mid left_new old mid new number (BlocksOfRound old new) r s limit k n
     (omega (arith, r.are.0, few), subst (AreBlocks old old.at r.units) (sym n.at) (whole_are old old.at mid.at r.units r.are.1))
@@ -298,9 +299,10 @@ done_or tells left_old left_mid left_new old mid new number few r s limit k (inr
     )
 
 pub done_with : (tells : Type 0) (left_old left_mid left_new : List ℕ) (old mid new : Desk) (number : ℕ) (answer : Bool)
-    → number < BLOCKS_PER_WINDOW → answer ≡ false → Reading tells left_old left_mid old mid (number * old.block) (WholeSoFar old mid number)
+    → number < BLOCKS_PER_WINDOW → answer ≡ false →
+    IsReadSoFar tells left_old left_mid old mid (number * old.block) (WholeSoFar old mid number)
     → OneRead tells left_mid left_new mid new number answer
-    → Reading tells left_old left_new old new (BLOCKS_PER_WINDOW * old.block) (BlocksOfRound old new)
+    → IsReadSoFar tells left_old left_new old new (BLOCKS_PER_WINDOW * old.block) (BlocksOfRound old new)
 done_with tells left_old left_mid left_new old mid new number answer few over r o =
     let d = done_or tells left_old left_mid left_new old mid new number few r o.same o.limit o.gives o.did in
     let up : (number + 1) * old.block ≤ BLOCKS_PER_WINDOW * old.block = mul-le-mul_right old.block (omega (arith, few)) in
@@ -310,8 +312,8 @@ done_with tells left_old left_mid left_new old mid new number answer few over r 
     new.end (o.ended over) (omega (arith, up, sum)) (d.gives t))
 
 pub done_all : (tells : Type 0) (left_old left_new : List ℕ) (old new : Desk) (number : ℕ) → number ≡ BLOCKS_PER_WINDOW
-    → Reading tells left_old left_new old new (number * old.block) (WholeSoFar old new number)
-    → Reading tells left_old left_new old new (BLOCKS_PER_WINDOW * old.block) (BlocksOfRound old new)
+    → IsReadSoFar tells left_old left_new old new (number * old.block) (WholeSoFar old new number)
+    → IsReadSoFar tells left_old left_new old new (BLOCKS_PER_WINDOW * old.block) (BlocksOfRound old new)
 done_all tells left_old left_new old new number few r = record {
   same = r.same;
   limit = r.limit;
@@ -327,7 +329,7 @@ done_all tells left_old left_new old new number few r = record {
 }
 
 pub none_yet : (tells : Type 0) (l : List ℕ) (d : Desk) → IsReady d BLOCKS_PER_WINDOW
-    → Reading tells l l d d (0 * d.block) (WholeSoFar d d 0)
+    → IsReadSoFar tells l l d d (0 * d.block) (WholeSoFar d d 0)
 none_yet tells l d h =
     let zero_at : d.at - d.at ≡ 0 = omega arith in
     let none_wanted : 0 ≡ 0 * d.block = omega arith in
@@ -348,7 +350,7 @@ none_yet tells l d h =
     }
 
 pub still_ready : (tells : Type 0) (l m : List ℕ) (old new : Desk) (number : ℕ) → IsReady old BLOCKS_PER_WINDOW → number < BLOCKS_PER_WINDOW
-    → Reading tells l m old new (number * old.block) (WholeSoFar old new number) → IsReady new (BLOCKS_PER_WINDOW - number)
+    → IsReadSoFar tells l m old new (number * old.block) (WholeSoFar old new number) → IsReady new (BLOCKS_PER_WINDOW - number)
 still_ready tells l m old new number h few r = record {
   blanks = omega (arith, r.blanks, r.are.0, h.blanks, few);
   fit = subst (λ k. All (IsBlank k new.grid) new.blanks.items) (sym r.same.block)
@@ -360,7 +362,8 @@ still_ready tells l m old new number h few r = record {
 }
 
 pub marked : (tells : Type 0) (left_old left_new : List ℕ) (old mid new : Desk)
-    → Reading tells left_old left_new old mid (BLOCKS_PER_WINDOW * old.block) (BlocksOfRound old mid) → SameDesk mid new → new.at ≡ mid.at
+    → IsReadSoFar tells left_old left_new old mid (BLOCKS_PER_WINDOW * old.block) (BlocksOfRound old mid) → SameDesk mid new →
+    new.at ≡ mid.at
     → new.end ≡ mid.end → new.blanks ≡ mid.blanks → MarksAll mid.feeders.items new.feeders.items → ReadDone tells left_old left_new old new
 marked tells left_old left_new old mid new r s at end b m = record {
   same = same_desk old mid new r.same s;
@@ -372,7 +375,7 @@ marked tells left_old left_new old mid new r s at end b m = record {
   gives = λ t. subst (λ e. Gives (BLOCKS_PER_WINDOW * old.block) (most old) left_old (new.at - old.at) e left_new) (sym end)
       (subst (λ a. Gives (BLOCKS_PER_WINDOW * old.block) (most old) left_old (a - old.at) mid.end left_new) (sym at) (r.gives t));
   fed = λ v d h. m.marked v d (omega (arith, h, r.same.feeders, mid.feeders.ok.0)) ∙ ap (λ l. l ++ Mark ∷ []) (r.fed v d h)
-      ∙ append_assoc (fed (get_or old.feeders.items v d)) (map block_of (dealt (vec_len old.feeders) v 0 r.units)) (Mark ∷ []);
+      ∙ append_assoc (fed (get_or old.feeders.items v d)) (map block_of (blocks_of_worker (vec_len old.feeders) v 0 r.units)) (Mark ∷ []);
   ends = λ v d h. same_feeders (get_or old.feeders.items v d) (get_or mid.feeders.items v d) (get_or new.feeders.items v d) (r.ends v d h)
       (m.same v d);
   blanks = ap (λ l. vec_len l + length r.units) b ∙ r.blanks;

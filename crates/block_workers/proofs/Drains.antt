@@ -11,7 +11,7 @@ use Rattle.block_workers.specs.declared.item.Item.TheVariants.{Mark}
 use Rattle.block_workers.specs.declared.item.Back.{Back}
 use Rattle.block_workers.specs.declared.item.Back.TheVariants.{Over}
 use Rattle.block_workers.specs.Dealing.{block_of, round_of}
-use Rattle.block_workers.specs.Working.{blocks_in, new_blocks, all_new, AreCounts, back_of, Gave, Took, Drained, Worked}
+use Rattle.block_workers.specs.Working.{blocks_in, new_blocks, all_new, AreCounts, back_of, GivesCounts, TakesBlocks, DrainsRing, DrainsAllRings}
 use Rattle.block_workers.specs.Working.AreCounts.{nil, one}
 
 pub blocks_in_round : (fs : List FilledValue) → blocks_in (round_of fs) ≡ fs
@@ -35,10 +35,11 @@ counts_both [] gs (c ∷ cs) ds h k = elim h [ ]
 counts_both (f ∷ fs) gs [] ds h k = elim h [ ]
 counts_both (f ∷ fs) gs (c ∷ cs) ds (one h d) k = one h (counts_both fs gs cs ds d k)
 
-pub gave_none : (f : Feeder Back) → IsSameFeeder f f → Gave f f []
+pub gave_none : (f : Feeder Back) → IsSameFeeder f f → GivesCounts f f []
 gave_none f s = record { units = []; counts = nil; fed = sym (append-nil (fed f)); same = s }
 
-pub gave_both : (a b c : Feeder Back) (fs gs : List FilledValue) → Gave a b fs → Gave b c gs → IsSameFeeder a c → Gave a c (fs ++ gs)
+pub gave_both : (a b c : Feeder Back) (fs gs : List FilledValue) → GivesCounts a b fs → GivesCounts b c gs → IsSameFeeder a c →
+    GivesCounts a c (fs ++ gs)
 gave_both a b c fs gs h k s = record {
   units = h.units ++ k.units;
   counts = counts_both fs gs h.units k.units h.counts k.counts;
@@ -47,8 +48,8 @@ gave_both a b c fs gs h k s = record {
   same = s;
 }
 
-pub gave_more : (a b c : Feeder Back) (fs : List FilledValue) (f : FilledValue) (x : CountedValue) → Gave a b fs
-    → fed c ≡ fed b ++ back_of x ∷ [] → IsCountOf f x → IsSameFeeder b c → IsSameFeeder a c → Gave a c (fs ++ f ∷ [])
+pub gave_more : (a b c : Feeder Back) (fs : List FilledValue) (f : FilledValue) (x : CountedValue) → GivesCounts a b fs
+    → fed c ≡ fed b ++ back_of x ∷ [] → IsCountOf f x → IsSameFeeder b c → IsSameFeeder a c → GivesCounts a c (fs ++ f ∷ [])
 gave_more a b c fs f x h e i t s = gave_both a b c fs (f ∷ []) h (record { units = x ∷ []; counts = one i nil; fed = e; same = t }) s
 
 -- one block more was taken
@@ -58,14 +59,14 @@ took_more l m n fs f e h = h ∙ ap (λ k. k ++ block_of f ∷ []) e ∙ append_
     ∙ ap (λ k. l ++ k) (sym (map-append block_of fs (f ∷ [])))
 
 pub drained : (old mid new : Taker Item) (before now : Feeder Back) (fs : List FilledValue) → taken mid ≡ taken old ++ map block_of fs
-    → Gave before now fs → taken new ≡ taken mid ++ Mark ∷ [] → IsSameTaker old new → Drained old new before now
+    → GivesCounts before now fs → taken new ≡ taken mid ++ Mark ∷ [] → IsSameTaker old new → DrainsRing old new before now
 drained old mid new before now fs e a m s =
     let grew : taken new ≡ taken old ++ round_of fs = m ∙ ap (λ k. k ++ Mark ∷ []) e
     ∙ append_assoc (taken old) (map block_of fs) (Mark ∷ []) in
     let is : new_blocks old new ≡ fs = new_is old new fs grew in
     record {
       took = record { round = grew ∙ ap (λ k. taken old ++ round_of k) (sym is); same = s };
-      gave = subst (Gave before now) (sym is) a;
+      gave = subst (GivesCounts before now) (sym is) a;
     }
 
 -- one ring more
@@ -85,8 +86,9 @@ all_new_more os ns g y d h l = let e : g + 1 ≡ suc g = omega arith in
 
 -- all rings were taken, and the mark was fed
 pub work_done : (os ns : List (Taker Item)) (k : ℕ) (a b c : Feeder Back) → k ≡ length ns → length ns ≡ length os
-    → ((g : ℕ) (d : Taker Item) → g < length os → Took (get_or os g d) (get_or ns g d)) → Gave a b (all_new (take k os) (take k ns))
-    → fed c ≡ fed b ++ Over ∷ [] → IsSameFeeder a c → Worked os ns a c
+    → ((g : ℕ) (d : Taker Item) → g < length os → TakesBlocks (get_or os g d) (get_or ns g d)) →
+    GivesCounts a b (all_new (take k os) (take k ns))
+    → fed c ≡ fed b ++ Over ∷ [] → IsSameFeeder a c → DrainsAllRings os ns a c
 work_done os ns k a b c e l took h m s =
     let all : all_new (take k os) (take k ns) ≡ all_new os ns = ap (λ x. all_new x (take k ns)) (take_all k os (omega (arith, e, l)))
     ∙ ap (all_new os) (take_all k ns (omega (arith, e))) in

@@ -14,12 +14,13 @@ abbrev pub round_of : List FilledValue → List Item
 round_of us = map block_of us ++ Mark ∷ []
 
 -- of the blocks of a lane, numbered from k, those of a worker
-abbrev pub dealt : ℕ → ℕ → ℕ → List FilledValue → List FilledValue
-dealt workers v k [] = []
-dealt workers v k (u ∷ us) = cond (eqb (k % workers) v) (u ∷ dealt workers v (k + 1) us) (dealt workers v (k + 1) us)
+abbrev pub blocks_of_worker : ℕ → ℕ → ℕ → List FilledValue → List FilledValue
+blocks_of_worker workers v k [] = []
+blocks_of_worker workers v k (u ∷ us) = cond (eqb (k % workers) v) (u ∷ blocks_of_worker workers v (k + 1) us)
+    (blocks_of_worker workers v (k + 1) us)
 
 -- one of the rings was fed these items, and the others nothing
-pub record Feeds (old new : List (Feeder Item)) (v : ℕ) (items : List Item) : Type 0 where
+pub record FeedsOneRing (old new : List (Feeder Item)) (v : ℕ) (items : List Item) : Type 0 where
   pub long : length new ≡ length old
   pub same : (u : ℕ) (d : Feeder Item) → IsSameFeeder (slice_index_or old u d) (slice_index_or new u d)
   pub here : (d : Feeder Item) → fed (slice_index_or new v d) ≡ fed (slice_index_or old v d) ++ items

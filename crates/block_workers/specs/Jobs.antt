@@ -13,13 +13,13 @@ use Rattle.block_workers.specs.declared.item.Item.{Item}
 use Rattle.block_workers.specs.declared.worker.Worker.{Worker}
 use Rattle.block_workers.specs.declared.jobs.Reader.{Reader}
 use Rattle.std.specs.List.{All}
-use Rattle.outside.specs.Fault.{Rose}
+use Rattle.outside.specs.Fault.{CountRose}
 use Rattle.lane_ends.specs.declared.end.End.TheVariants.{More, ReadFault}
 use Rattle.block_pool.specs.Units.{IsBlank}
 use Rattle.block_workers.specs.declared.desk.Desk.{Desk}
 use Rattle.block_workers.specs.Dealing.{round_of}
 use Rattle.block_workers.specs.Reading.{IsReady, ReadDone, SameDesk}
-use Rattle.block_workers.specs.Working.{Worked}
+use Rattle.block_workers.specs.Working.{DrainsAllRings}
 use Rattle.flow.specs.declared.TheConstants.{BLOCKS_PER_WINDOW}
 use Rattle.calibration.specs.declared.limits.TheConstants.{MAX_GAUGES}
 
@@ -49,7 +49,7 @@ module _ {C : Type 0} where
     pub has : new.src ≡ Some now
     pub later : faults before ≤ faults now
     pub read : old.desk.end ≡ More → ReadDone tells (left before) (left now) old.desk new.desk
-        × (new.desk.end ≡ ReadFault → Rose (faults before) (faults now))
+        × (new.desk.end ≡ ReadFault → CountRose (faults before) (faults now))
     pub ended : old.desk.end ≢ More → NotRead old.desk new.desk × (now ≡ before)
 
   -- the same but for what its feeders know of the rings
@@ -85,7 +85,7 @@ pub record CanWork (w : Worker) : Type 0 where
 pub record WorkJob (old new : Worker) : Type 0 where
   pub number : new.number ≡ old.number
   pub takers : vec_len new.takers ≡ vec_len old.takers
-  pub worked : Worked old.takers.items new.takers.items old.back new.back
+  pub worked : DrainsAllRings old.takers.items new.takers.items old.back new.back
 
 pub record SameWork (old new : Worker) : Type 0 where
   pub number : new.number ≡ old.number

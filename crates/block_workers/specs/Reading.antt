@@ -12,7 +12,7 @@ use Rattle.gauge_ring.specs.Ends.{fed, IsSameFeeder}
 use Rattle.block_pool.specs.Units.{FilledValue, IsBlank}
 use Rattle.block_workers.specs.declared.item.Item.{Item}
 use Rattle.block_workers.specs.declared.desk.Desk.{Desk}
-use Rattle.block_workers.specs.Dealing.{block_of, round_of, dealt, Feeds}
+use Rattle.block_workers.specs.Dealing.{block_of, round_of, blocks_of_worker, FeedsOneRing}
 
 -- a unit of a lane that holds the samples between
 pub record IsUnit (d : Desk) (from to : ℕ) (u : FilledValue) : Type 0 where
@@ -54,7 +54,7 @@ pub record IsReady (d : Desk) (blocks : ℕ) : Type 0 where
   pub workers : 0 < vec_len d.feeders
 
 -- no sample came
-pub record Nothing (old new : Desk) : Type 0 where
+pub record NoBlock (old new : Desk) : Type 0 where
   pub at : new.at ≡ old.at
   pub feeders : new.feeders.items ≡ old.feeders.items
   pub blanks : vec_len new.blanks ≡ vec_len old.blanks
@@ -65,7 +65,7 @@ pub record OneBlock (tells : Type 0) (left_old : List ℕ) (old new : Desk) (num
   pub unit : FilledValue
   pub is : IsUnit old old.at new.at unit
   pub samples : tells → unit.samples ≡ take (length unit.samples) (samples left_old)
-  pub feeds : Feeds old.feeders.items new.feeders.items (number % vec_len old.feeders) (block_of unit ∷ [])
+  pub feeds : FeedsOneRing old.feeders.items new.feeders.items (number % vec_len old.feeders) (block_of unit ∷ [])
   pub blanks : vec_len new.blanks + 1 ≡ vec_len old.blanks
   pub fit : All (IsBlank old.block old.grid) new.blanks.items
 
@@ -78,7 +78,7 @@ pub record OneRead (tells : Type 0) (left_old left_new : List ℕ) (old new : De
   pub same : SameDesk old new
   pub limit : new.at ≤ MAX_SAMPLES
   pub gives : tells → Gives old.block (most old) left_old (new.at - old.at) new.end left_new
-  pub did : Nothing old new ⊎ OneBlock tells left_old old new number
+  pub did : NoBlock old new ⊎ OneBlock tells left_old old new number
   pub whole : answer ≡ true → OneBlock tells left_old old new number × (new.at ≡ old.at + old.block) × (new.end ≡ More)
   pub ended : answer ≡ false → new.end ≢ More
 
@@ -90,7 +90,7 @@ pub data AreWhole (d : Desk) : ℕ → List FilledValue → ℕ → Type 0 where
       → AreWhole d a (u ∷ us) b
 
 -- what was read and dealt so far, of so many samples that were wanted: blocks as P says
-pub record Reading (tells : Type 0) (left_old left_new : List ℕ) (old new : Desk) (wanted : ℕ) (P : List FilledValue
+pub record IsReadSoFar (tells : Type 0) (left_old left_new : List ℕ) (old new : Desk) (wanted : ℕ) (P : List FilledValue
     → Type 0) : Type 0 where
   pub same : SameDesk old new
   pub limit : new.at ≤ MAX_SAMPLES
@@ -101,7 +101,7 @@ pub record Reading (tells : Type 0) (left_old left_new : List ℕ) (old new : De
   pub gives : tells → Gives wanted (most old) left_old (new.at - old.at) new.end left_new
   pub fed : (v : ℕ) (d : Feeder Item) → v < vec_len old.feeders
       → fed (slice_index_or new.feeders.items v d)
-      ≡ fed (slice_index_or old.feeders.items v d) ++ map block_of (dealt (vec_len old.feeders) v 0 units)
+      ≡ fed (slice_index_or old.feeders.items v d) ++ map block_of (blocks_of_worker (vec_len old.feeders) v 0 units)
   pub ends : (v : ℕ) (d : Feeder Item) → v < vec_len old.feeders
       → IsSameFeeder (slice_index_or old.feeders.items v d) (slice_index_or new.feeders.items v d)
   pub blanks : vec_len new.blanks + length units ≡ vec_len old.blanks
@@ -123,7 +123,7 @@ pub record ReadDone (tells : Type 0) (left_old left_new : List ℕ) (old new : D
   pub gives : tells → Gives (BLOCKS_PER_WINDOW * old.block) (most old) left_old (new.at - old.at) new.end left_new
   pub fed : (v : ℕ) (d : Feeder Item) → v < vec_len old.feeders
       → fed (slice_index_or new.feeders.items v d)
-      ≡ fed (slice_index_or old.feeders.items v d) ++ round_of (dealt (vec_len old.feeders) v 0 units)
+      ≡ fed (slice_index_or old.feeders.items v d) ++ round_of (blocks_of_worker (vec_len old.feeders) v 0 units)
   pub ends : (v : ℕ) (d : Feeder Item) → v < vec_len old.feeders
       → IsSameFeeder (slice_index_or old.feeders.items v d) (slice_index_or new.feeders.items v d)
   pub blanks : vec_len new.blanks + length units ≡ vec_len old.blanks

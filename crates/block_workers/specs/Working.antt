@@ -39,24 +39,24 @@ back_of c = Unit c
 abbrev pub return_round : List CountedValue → List Back
 return_round cs = map back_of cs ++ Over ∷ []
 
-pub record Took (old new : Taker Item) : Type 0 where
+pub record TakesBlocks (old new : Taker Item) : Type 0 where
   pub round : taken new ≡ taken old ++ round_of (new_blocks old new)
   pub same : IsSameTaker old new
 
 -- the counts of these units were fed back, in order
-pub record Gave (old new : Feeder Back) (fs : List FilledValue) : Type 0 where
+pub record GivesCounts (old new : Feeder Back) (fs : List FilledValue) : Type 0 where
   pub units : List CountedValue
   pub counts : AreCounts fs units
   pub fed : fed new ≡ fed old ++ map back_of units
   pub same : IsSameFeeder old new
 
-pub record Drained (old new : Taker Item) (before now : Feeder Back) : Type 0 where
-  pub took : Took old new
-  pub gave : Gave before now (new_blocks old new)
+pub record DrainsRing (old new : Taker Item) (before now : Feeder Back) : Type 0 where
+  pub took : TakesBlocks old new
+  pub gave : GivesCounts before now (new_blocks old new)
 
 -- what was taken from each ring, counted and fed back, and then the mark
-pub record Worked (old new : List (Taker Item)) (before now : Feeder Back) : Type 0 where
-  pub took : (g : ℕ) (d : Taker Item) → g < length old → Took (slice_index_or old g d) (slice_index_or new g d)
+pub record DrainsAllRings (old new : List (Taker Item)) (before now : Feeder Back) : Type 0 where
+  pub took : (g : ℕ) (d : Taker Item) → g < length old → TakesBlocks (slice_index_or old g d) (slice_index_or new g d)
   pub units : List CountedValue
   pub counts : AreCounts (all_new old new) units
   pub fed : fed now ≡ fed before ++ return_round units

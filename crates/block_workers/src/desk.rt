@@ -1,8 +1,8 @@
 ghost use Rattle.std.specs.Prelude.{◌≡◌, ◌≢◌, true, false, ◌-◌, ◌*◌, ◌≤◌, ◌<◌};
-ghost use Rattle.outside.specs.Fault.{Rose};
+ghost use Rattle.outside.specs.Fault.{CountRose};
 ghost use Rattle.lane_ends.specs.declared.end.End.TheVariants.{More, ReadFault};
 ghost use Rattle.block_workers.specs.Jobs.{NotRead};
-ghost use Rattle.block_workers.specs.Reading.{OneRead, Reading, ReadDone, IsReady, BlocksOfRound};
+ghost use Rattle.block_workers.specs.Reading.{OneRead, IsReadSoFar, ReadDone, IsReady, BlocksOfRound};
 ghost use Rattle.flow.specs.declared.TheConstants.{BLOCKS_PER_WINDOW};
 
 use crate::Item;
@@ -54,7 +54,7 @@ fn read_block<R: Wait, C: Source>(rt: &R, src: &mut C, desk: &mut Desk, number: 
     requires number { number < BLOCKS_PER_WINDOW }
     ensures read { OneRead C.tells (C.left src.old) (C.left src.new)
         desk.old desk.new number result }
-    ensures cause { desk.new.end ≡ ReadFault → Rose (C.faults src.old) (C.faults src.new) }
+    ensures cause { desk.new.end ≡ ReadFault → CountRose (C.faults src.old) (C.faults src.new) }
     ensures later { C.faults src.old ≤ C.faults src.new }
 {
     let Some(mut unit) = desk.blanks.pop() else {
@@ -76,9 +76,9 @@ fn read_block<R: Wait, C: Source>(rt: &R, src: &mut C, desk: &mut Desk, number: 
 // Reads the blocks of a round, and deals them.
 fn read_blocks<R: Wait, C: Source>(rt: &R, src: &mut C, desk: &mut Desk)
     requires ready { IsReady desk.old BLOCKS_PER_WINDOW }
-    ensures read { Reading C.tells (C.left src.old) (C.left src.new) desk.old desk.new
+    ensures read { IsReadSoFar C.tells (C.left src.old) (C.left src.new) desk.old desk.new
         (BLOCKS_PER_WINDOW * desk.old.block) (BlocksOfRound desk.old desk.new) }
-    ensures cause { desk.new.end ≡ ReadFault → Rose (C.faults src.old) (C.faults src.new) }
+    ensures cause { desk.new.end ≡ ReadFault → CountRose (C.faults src.old) (C.faults src.new) }
     ensures later { C.faults src.old ≤ C.faults src.new }
 {
     for number in 0..BLOCKS_PER_WINDOW as u64 {
@@ -95,7 +95,7 @@ fn read_blocks<R: Wait, C: Source>(rt: &R, src: &mut C, desk: &mut Desk)
 pub fn read_lane<R: Wait, C: Source>(rt: &R, src: &mut C, desk: &mut Desk)
     requires ready { IsReady desk.old BLOCKS_PER_WINDOW }
     ensures read { ReadDone C.tells (C.left src.old) (C.left src.new) desk.old desk.new }
-    ensures cause { desk.new.end ≡ ReadFault → Rose (C.faults src.old) (C.faults src.new) }
+    ensures cause { desk.new.end ≡ ReadFault → CountRose (C.faults src.old) (C.faults src.new) }
     ensures later { C.faults src.old ≤ C.faults src.new }
 {
     read_blocks(rt, src, desk);

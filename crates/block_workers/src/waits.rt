@@ -1,6 +1,6 @@
 ghost use Rattle.std.specs.Prelude.{◌≡◌, ◌<◌, ◌++◌, ◌∷◌, [], length};
 ghost use Rattle.gauge_ring.specs.Ends.{fed, taken, IsSameFeeder, IsSameTaker};
-ghost use Rattle.block_workers.specs.Dealing.{Feeds, MarksAll};
+ghost use Rattle.block_workers.specs.Dealing.{FeedsOneRing, MarksAll};
 
 use crate::Item;
 use gauge_ring::{Feeder, Taker};
@@ -40,7 +40,7 @@ pub fn take_waiting<T>(rt: &impl Wait, taker: &mut Taker<T>) -> T
 /// Feeds the item to one of the rings.
 pub fn deal(rt: &impl Wait, feeders: &mut [Feeder<Item>], v: usize, item: Item)
     requires { v < length feeders.old }
-    ensures { Feeds feeders.old feeders.new v (item ∷ []) }
+    ensures { FeedsOneRing feeders.old feeders.new v (item ∷ []) }
 {
     feed_waiting(rt, &mut feeders[v], item);
 }

@@ -1,5 +1,5 @@
 ghost use Rattle.std.specs.Prelude.{◌≤◌, length};
-ghost use Rattle.block_workers.specs.Working.{Drained, Worked};
+ghost use Rattle.block_workers.specs.Working.{DrainsRing, DrainsAllRings};
 ghost use Rattle.calibration.specs.declared.limits.TheConstants.{MAX_GAUGES};
 
 use crate::waits::{feed_waiting, take_waiting};
@@ -28,7 +28,7 @@ fn drain<R: Wait, G: Gate>(
     taker: &mut Taker<Item>,
     back: &mut Feeder<Back>,
 )
-    ensures { Drained taker.old taker.new back.old back.new }
+    ensures { DrainsRing taker.old taker.new back.old back.new }
 {
     let mut block = 0u64;
     for _ in rt.forever() {
@@ -54,7 +54,7 @@ pub fn work<R: Wait, G: Gate>(
     back: &mut Feeder<Back>,
 )
     requires { length takers.old ≤ MAX_GAUGES }
-    ensures { Worked takers.old takers.new back.old back.new }
+    ensures { DrainsAllRings takers.old takers.new back.old back.new }
 {
     for g in 0..takers.len() {
         drain(rt, gate, worker, g as u16, &mut takers[g], back);

@@ -6,9 +6,9 @@ use Rattle.std.proofs.Math.Nat.{mul-le-mul_right}
 use Rattle.calibration.specs.Grid.{GridValue}
 use Rattle.segment_rules.specs.declared.name.Name.{Name}
 use Rattle.segment.specs.Segment.{SegmentValue}
-use Rattle.flow.specs.Flow.{has, hits}
+use Rattle.flow.specs.Flow.{hits_of_name, hits}
 use Rattle.flow.specs.Kept.{between, over}
-use Rattle.flow.proofs.Counting.{over_same, over_none, has_other, has_past, has_inside, hits-append, over_sum}
+use Rattle.flow.proofs.Counting.{over_same, over_none, hits_of_name_other, hits_of_name_past, hits_of_name_inside, hits-append, over_sum}
 use Rattle.board.specs.Board.{spans, IsRow, Row}
 use Rattle.board.proofs.Placing.{between_off, spans_none}
 use Rattle.flow.specs.declared.TheConstants.{BLOCKS_PER_WINDOW}
@@ -32,21 +32,21 @@ over_only (suc n) w x f l h o = elim (cases_eq w n) [
       let rest : over n f ≡ x = over_only n w x f (omega (arith, l, ne)) h (λ v m. o v (omega arith)) in omega (arith, at, rest))
 ]
 
-has_behind : (g i : ℕ) (n : Name) → n.to ≤ i → has g i n ≡ 0
-has_behind g i n h = grind (arith, nat_tests)
+hits_of_name_behind : (g i : ℕ) (n : Name) → n.to ≤ i → hits_of_name g i n ≡ 0
+hits_of_name_behind g i n h = grind (arith, nat_tests)
 
 -- a block names the first sample of no other block
-other_block : (g start block k b : ℕ) (n : Name) → 0 < block → n.from ≡ start + b * block → n.to ≤ n.from + block → k ≢ b → has g
+other_block : (g start block k b : ℕ) (n : Name) → 0 < block → n.from ≡ start + b * block → n.to ≤ n.from + block → k ≢ b → hits_of_name g
     (start + k * block) n ≡ 0
 other_block g start block k b n pos from short ne = elim (cases_lt k b) [
   | inl low ↦ (
       let up : (k + 1) * block ≤ b * block = mul-le-mul_right block (omega (arith, low)) in
       let split : (k + 1) * block ≡ k * block + block = omega arith in
-      has_past g (start + k * block) n (λ q. omega (arith, up, split, from, pos)))
+      hits_of_name_past g (start + k * block) n (λ q. omega (arith, up, split, from, pos)))
   | inr high ↦ (
       let up : (b + 1) * block ≤ k * block = mul-le-mul_right block (omega (arith, high, ne)) in
       let split : (b + 1) * block ≡ b * block + block = omega arith in
-      has_behind g (start + k * block) n (omega (arith, up, split, from, short)))
+      hits_of_name_behind g (start + k * block) n (omega (arith, up, split, from, short)))
 ]
 
 -- the windows begin alike: one block more
@@ -55,28 +55,31 @@ pub one_block_more : (gauges block b : ℕ) (starts : ℕ → ℕ) (l : List Nam
     → over gauges (λ g. over BLOCKS_PER_WINDOW (λ k. hits g (starts g + k * block) (l ++ n ∷ []))) ≡ over gauges
     (λ g. over BLOCKS_PER_WINDOW (λ k. hits g (starts g + k * block) l)) + 1
 one_block_more gauges block b starts l n pos known few from some short =
-    let one : (g k : ℕ) → hits g (starts g + k * block) (l ++ n ∷ []) ≡ hits g (starts g + k * block) l + has g (starts g + k * block) n =
-    λ g k. (let e : hits g (starts g + k * block) (l ++ n ∷ []) ≡ hits g (starts g + k * block) l + (has g (starts g + k * block) n + 0) =
+    let one : (g k : ℕ) → hits g (starts g + k * block) (l ++ n ∷ [])
+    ≡ hits g (starts g + k * block) l + hits_of_name g (starts g + k * block) n =
+    λ g k. (let e : hits g (starts g + k * block) (l ++ n ∷ [])
+    ≡ hits g (starts g + k * block) l + (hits_of_name g (starts g + k * block) n + 0) =
     hits-append g (starts g + k * block) l (n ∷ []) in omega (arith, e)) in
     let inner : (g : ℕ) → over BLOCKS_PER_WINDOW (λ k. hits g (starts g + k * block) (l ++ n ∷ [])) ≡ over BLOCKS_PER_WINDOW
-    (λ k. hits g (starts g + k * block) l) + over BLOCKS_PER_WINDOW (λ k. has g (starts g + k * block) n) =
-    λ g. over_same BLOCKS_PER_WINDOW _ (λ k. hits g (starts g + k * block) l + has g (starts g + k * block) n) (λ k m. one g k)
-    ∙ over_sum BLOCKS_PER_WINDOW (λ k. hits g (starts g + k * block) l) (λ k. has g (starts g + k * block) n) in
+    (λ k. hits g (starts g + k * block) l) + over BLOCKS_PER_WINDOW (λ k. hits_of_name g (starts g + k * block) n) =
+    λ g. over_same BLOCKS_PER_WINDOW _ (λ k. hits g (starts g + k * block) l + hits_of_name g (starts g + k * block) n) (λ k m. one g k)
+    ∙ over_sum BLOCKS_PER_WINDOW (λ k. hits g (starts g + k * block) l) (λ k. hits_of_name g (starts g + k * block) n) in
     let outer : over gauges (λ g. over BLOCKS_PER_WINDOW (λ k. hits g (starts g + k * block) (l ++ n ∷ []))) ≡ over gauges
     (λ g. over BLOCKS_PER_WINDOW (λ k. hits g (starts g + k * block) l))
-    + over gauges (λ g. over BLOCKS_PER_WINDOW (λ k. has g (starts g + k * block) n)) = over_same gauges _
-    (λ g. over BLOCKS_PER_WINDOW (λ k. hits g (starts g + k * block) l) + over BLOCKS_PER_WINDOW (λ k. has g (starts g + k * block) n))
+    + over gauges (λ g. over BLOCKS_PER_WINDOW (λ k. hits_of_name g (starts g + k * block) n)) = over_same gauges _
+    (λ g. over BLOCKS_PER_WINDOW (λ k. hits g (starts g + k * block) l) + over BLOCKS_PER_WINDOW
+    (λ k. hits_of_name g (starts g + k * block) n))
     (λ g m. inner g) ∙ over_sum gauges (λ g. over BLOCKS_PER_WINDOW (λ k. hits g (starts g + k * block) l))
-    (λ g. over BLOCKS_PER_WINDOW (λ k. has g (starts g + k * block) n)) in
-    let here : has n.gauge (starts n.gauge + b * block) n ≡ 1 = has_inside n.gauge (starts n.gauge + b * block) n refl
+    (λ g. over BLOCKS_PER_WINDOW (λ k. hits_of_name g (starts g + k * block) n)) in
+    let here : hits_of_name n.gauge (starts n.gauge + b * block) n ≡ 1 = hits_of_name_inside n.gauge (starts n.gauge + b * block) n refl
     (omega (arith, from)) (omega (arith, from, some)) in
-    let block_sum : over BLOCKS_PER_WINDOW (λ k. has n.gauge (starts n.gauge + k * block) n) ≡ 1 = over_only BLOCKS_PER_WINDOW b 1
-    (λ k. has n.gauge (starts n.gauge + k * block) n) few here
+    let block_sum : over BLOCKS_PER_WINDOW (λ k. hits_of_name n.gauge (starts n.gauge + k * block) n) ≡ 1 = over_only BLOCKS_PER_WINDOW b 1
+    (λ k. hits_of_name n.gauge (starts n.gauge + k * block) n) few here
     (λ k m ne. other_block n.gauge (starts n.gauge) block k b n pos from short ne) in
-    let sums : over gauges (λ g. over BLOCKS_PER_WINDOW (λ k. has g (starts g + k * block) n)) ≡ 1 =
-    over_only gauges n.gauge 1 (λ g. over BLOCKS_PER_WINDOW (λ k. has g (starts g + k * block) n)) known block_sum
-    (λ g m ne. over_none BLOCKS_PER_WINDOW (λ k. has g (starts g + k * block) n) (λ k h.
-    has_other g (starts g + k * block) n (λ q. ne (sym q)))) in
+    let sums : over gauges (λ g. over BLOCKS_PER_WINDOW (λ k. hits_of_name g (starts g + k * block) n)) ≡ 1 =
+    over_only gauges n.gauge 1 (λ g. over BLOCKS_PER_WINDOW (λ k. hits_of_name g (starts g + k * block) n)) known block_sum
+    (λ g m ne. over_none BLOCKS_PER_WINDOW (λ k. hits_of_name g (starts g + k * block) n) (λ k h.
+    hits_of_name_other g (starts g + k * block) n (λ q. ne (sym q)))) in
     omega (arith, outer, sums)
 
 between_means : (a b i : ℕ) → (between a b i ≡ 0) ⊎ ((between a b i ≡ 1) × (a ≤ i) × (i < b))

@@ -8,12 +8,12 @@ use Rattle.std.proofs.Math.ListN.{length-set}
 use Rattle.calibration.specs.Gain.{GainValue}
 use Rattle.segment_rules.specs.declared.name.Name.{Name}
 use Rattle.segment.specs.Segment.{SegmentValue}
-use Rattle.flow.specs.Flow.{has, hits}
+use Rattle.flow.specs.Flow.{hits_of_name, hits}
 use Rattle.flow.specs.Kept.{between, over}
-use Rattle.flow.proofs.Counting.{over_same, has_other, hits-append, has_between, between_one}
-use Rattle.board.specs.Board.{BoardValue, Row, IsRow, IsBoard, Carries, StandsIn, SameBoard, spans, start_of, blocks_placed, Fits}
-use Rattle.board.specs.Rows.{CanPlace, Placed, Doubled}
-use Rattle.board.specs.Deposits.{Numbered, HasSample}
+use Rattle.flow.proofs.Counting.{over_same, hits_of_name_other, hits-append, hits_of_name_between, between_one}
+use Rattle.board.specs.Board.{BoardValue, Row, IsRow, IsBoard, CarriesSamples, StandsIn, SameBoard, spans, start_of, blocks_placed, Fits}
+use Rattle.board.specs.Rows.{CanPlace, PlacesSegment, FindsDouble}
+use Rattle.board.specs.Deposits.{IsBlockNumber, HasSample}
 use Rattle.board.proofs.Lists.{at_set}
 use Rattle.board.proofs.Counts.{one_block_more, over_most, row_once}
 use Rattle.std.specs.Prelude.{Some}
@@ -22,9 +22,9 @@ use Rattle.flow.specs.declared.TheConstants.{BLOCKS_PER_WINDOW}
 no_row : Row
 no_row = record { start = 0; slots = [] }
 
-hits_push : (g i : ℕ) (l m : List Name) (n : Name) → m ≡ l ++ n ∷ [] → hits g i m ≡ hits g i l + has g i n
+hits_push : (g i : ℕ) (l m : List Name) (n : Name) → m ≡ l ++ n ∷ [] → hits g i m ≡ hits g i l + hits_of_name g i n
 hits_push g i l m n e = let a : hits g i m ≡ hits g i (l ++ n ∷ []) = ap (hits g i) e in let b : hits g i (l ++ n ∷ []) ≡ hits g i l +
-    (has g i n + 0) = hits-append g i l (n ∷ []) in omega (arith, a, b)
+    (hits_of_name g i n + 0) = hits-append g i l (n ∷ []) in omega (arith, a, b)
 
 -- a board has at most 16 names for each gauge
 pub board_few : (b : BoardValue) → IsBoard b → length b.arrivals ≤ length b.rows * BLOCKS_PER_WINDOW
@@ -40,9 +40,9 @@ board_few b h =
     omega (arith, h.count, most)
 
 -- the board in which a block was placed
-module _ (b : BoardValue) (k : ℕ) (seg : SegmentValue) (new d : Row) (arrivals : List Name) where
+module _ (b : BoardValue) (k : ℕ) (segment : SegmentValue) (new d : Row) (arrivals : List Name) where
   abbrev g : ℕ
-  g = seg.gauge
+  g = segment.gauge
 
   abbrev was : Row
   was = get_or b.rows g d
@@ -58,38 +58,40 @@ module _ (b : BoardValue) (k : ℕ) (seg : SegmentValue) (new d : Row) (arrivals
     pub placed_same : SameBoard b placed_in
     placed_same = record { grid = refl; block = refl; gauges = length-set b.rows g new; starts = starts_same }
 
-    module _ (h : IsBoard b) (kind : seg.grid ≡ b.grid) (fits : CanPlace was.start b.block k seg)
-        (p : Placed was.start b.block was.slots new.slots seg) (grown : arrivals ≡ b.arrivals ++ (name_of seg) ∷ []) where
+    module _ (h : IsBoard b) (kind : segment.grid ≡ b.grid) (fits : CanPlace was.start b.block k segment)
+        (p : PlacesSegment was.start b.block was.slots new.slots segment) (grown : arrivals ≡ b.arrivals ++ (name_of segment) ∷ []) where
       new_row : IsRow b.block b.grid g new
       new_row = subst (λ s. IsRow b.block b.grid g (record { start = s; slots = new.slots })) (sym start)
           (subst (λ t. IsRow b.block t g (record { start = was.start; slots = new.slots })) kind p.row)
 
       more : (x : ℕ) → spans x new.slots ≡ hits g x arrivals
       more x =
-          let e = p.more x in let f = h.intervals g x d known in let n = hits_push g x b.arrivals arrivals (name_of seg) grown in let t =
-          has_between g x (name_of seg) refl in
+          let e = p.more x in let f = h.intervals g x d known in let n =
+          hits_push g x b.arrivals arrivals (name_of segment) grown in let t =
+          hits_of_name_between g x (name_of segment) refl in
           omega (arith, e, f, n, t)
 
       others : (i x : ℕ) (r : Row) → i ≢ g → spans x r.slots ≡ hits i x b.arrivals → spans x r.slots ≡ hits i x arrivals
-      others i x r ne e = let n = hits_push i x b.arrivals arrivals (name_of seg) grown in let t = has_other i x (name_of seg)
+      others i x r ne e = let n = hits_push i x b.arrivals arrivals (name_of segment) grown in let t =
+          hits_of_name_other i x (name_of segment)
           (λ q. ne (sym q)) in omega (arith, e, n, t)
 
       counted : length arrivals ≡ blocks_placed placed_in
       counted =
-          let long : length arrivals ≡ length (b.arrivals ++ (name_of seg) ∷ []) = ap length grown in
+          let long : length arrivals ≡ length (b.arrivals ++ (name_of segment) ∷ []) = ap length grown in
           let grew : over (length b.rows) (λ i. over BLOCKS_PER_WINDOW (λ j. hits i (start_of b i + j * b.block)
-          (b.arrivals ++ (name_of seg) ∷ []))) ≡ blocks_placed b + 1 =
-          one_block_more (length b.rows) b.block k (start_of b) b.arrivals (name_of seg) fits.some_block known fits.place
+          (b.arrivals ++ (name_of segment) ∷ []))) ≡ blocks_placed b + 1 =
+          one_block_more (length b.rows) b.block k (start_of b) b.arrivals (name_of segment) fits.some_block known fits.place
           (fits.from ∙ ap (λ r. r.start + k * b.block) (get_or_default b.rows g d
           (record { start = 0; slots = [] }) known)) fits.some fits.short in
           let same : blocks_placed placed_in ≡ over (length b.rows)
-          (λ i. over BLOCKS_PER_WINDOW (λ j. hits i (start_of b i + j * b.block) (b.arrivals ++ (name_of seg) ∷ []))) =
+          (λ i. over BLOCKS_PER_WINDOW (λ j. hits i (start_of b i + j * b.block) (b.arrivals ++ (name_of segment) ∷ []))) =
           ap (λ n. over n (λ i. over BLOCKS_PER_WINDOW (λ j. hits i (start_of placed_in i + j * b.block) arrivals)))
           (length-set b.rows g new) ∙ over_same (length b.rows) _
-          (λ i. over BLOCKS_PER_WINDOW (λ j. hits i (start_of b i + j * b.block) (b.arrivals ++ (name_of seg) ∷ [])))
-          (λ i m. over_same BLOCKS_PER_WINDOW _ (λ j. hits i (start_of b i + j * b.block) (b.arrivals ++ (name_of seg) ∷ []))
+          (λ i. over BLOCKS_PER_WINDOW (λ j. hits i (start_of b i + j * b.block) (b.arrivals ++ (name_of segment) ∷ [])))
+          (λ i m. over_same BLOCKS_PER_WINDOW _ (λ j. hits i (start_of b i + j * b.block) (b.arrivals ++ (name_of segment) ∷ []))
           (λ j u. ap (λ s. hits i (s + j * b.block) arrivals) (starts_same i) ∙ ap (hits i (start_of b i + j * b.block)) grown)) in
-          let plus : length (b.arrivals ++ (name_of seg) ∷ []) ≡ length b.arrivals + 1 = length_push b.arrivals (name_of seg) in
+          let plus : length (b.arrivals ++ (name_of segment) ∷ []) ≡ length b.arrivals + 1 = length_push b.arrivals (name_of segment) in
           omega (arith, long, plus, grew, same, h.count)
 
       pub placed_board : IsBoard placed_in
@@ -110,11 +112,11 @@ module _ (b : BoardValue) (k : ℕ) (seg : SegmentValue) (new d : Row) (arrivals
       pub placed_room : length b.arrivals + 1 ≤ BLOCKS_PER_WINDOW * length b.rows
       placed_room =
           let few = board_few placed_in placed_board in let size : length (set b.rows g new) ≡ length b.rows = length-set b.rows g new in
-          let n : length arrivals ≡ length b.arrivals + 1 = ap length grown ∙ length_push b.arrivals (name_of seg) in omega
+          let n : length arrivals ≡ length b.arrivals + 1 = ap length grown ∙ length_push b.arrivals (name_of segment) in omega
           (arith, few, size, n)
 
-      pub placed_carries : (gain : ℕ → GainValue) (w : ℕ → List ℤ) → Carries b gain w → StandsIn seg (gain g) (w g)
-          → Carries placed_in gain w
+      pub placed_carries : (gain : ℕ → GainValue) (w : ℕ → List ℤ) → CarriesSamples b gain w → StandsIn segment (gain g) (w g)
+          → CarriesSamples placed_in gain w
       placed_carries gain w all one i j r s m u =
           let size : length (set b.rows g new) ≡ length b.rows = length-set b.rows g new in
           at_set (λ x r. StandsIn (get_or r.slots j s) (gain x) (w x)) b.rows g new i r known
@@ -135,18 +137,19 @@ spans_has i (s ∷ l) zero d m a b = let e : between s.from s.to i ≡ 1 = betwe
 spans_has i (s ∷ l) (suc k) d m a b = let e = spans_has i l k d (omega (arith, m)) a b in omega (arith, e)
 
 -- the place has the first sample
-pub doubled : (b : BoardValue) (seg : SegmentValue) (new : List SegmentValue) (n : Name) (d : Row) → IsBoard b → seg.gauge < length b.rows
-    → Doubled (get_or b.rows seg.gauge d).slots new seg n
-    → (1 ≤ hits seg.gauge seg.from b.arrivals) × HasSample b seg.gauge seg.from n
-doubled b seg new n d h known p =
-    let g = seg.gauge in
+pub doubled : (b : BoardValue) (segment : SegmentValue) (new : List SegmentValue) (n : Name) (d : Row) → IsBoard b →
+    segment.gauge < length b.rows
+    → FindsDouble (get_or b.rows segment.gauge d).slots new segment n
+    → (1 ≤ hits segment.gauge segment.from b.arrivals) × HasSample b segment.gauge segment.from n
+doubled b segment new n d h known p =
+    let g = segment.gauge in
     let row = h.rows g d known in
     let at : (s : SegmentValue) → (name_of (get_or (get_or b.rows g d).slots p.at s)) ≡ n = λ s. sym (p.interval s) in
-    let some : 1 ≤ spans seg.from (get_or b.rows g d).slots = spans_has seg.from (get_or b.rows g d).slots p.at seg
+    let some : 1 ≤ spans segment.from (get_or b.rows g d).slots = spans_has segment.from (get_or b.rows g d).slots p.at segment
     (omega (arith, p.within, row.long))
-    (let e : (get_or (get_or b.rows g d).slots p.at seg).from ≡ n.from = ap (λ m. m.from) (at seg) in omega (arith, e, p.from))
-    (let e : (get_or (get_or b.rows g d).slots p.at seg).to ≡ n.to = ap (λ m. m.to) (at seg) in omega (arith, e, p.to)) in
-    let is = h.intervals g seg.from d known in (
+    (let e : (get_or (get_or b.rows g d).slots p.at segment).from ≡ n.from = ap (λ m. m.from) (at segment) in omega (arith, e, p.from))
+    (let e : (get_or (get_or b.rows g d).slots p.at segment).to ≡ n.to = ap (λ m. m.to) (at segment) in omega (arith, e, p.to)) in
+    let is = h.intervals g segment.from d known in (
       omega (arith, some, is),
       record {
         place = p.at;
@@ -158,9 +161,11 @@ doubled b seg new n d h known p =
     )
 
 -- the number of a block, and the block that it numbers
-pub can_place : (b : BoardValue) (seg : SegmentValue) (d : Row) (k : ℕ) → IsBoard b → seg.gauge < length b.rows → Numbered b.block
-    (length b.rows) (get_or b.rows seg.gauge d).start (name_of seg) (Some k) → CanPlace (get_or b.rows seg.gauge d).start b.block k seg
-can_place b seg d k h known n = record {
+pub can_place : (b : BoardValue) (segment : SegmentValue) (d : Row) (k : ℕ) → IsBoard b → segment.gauge < length b.rows →
+    IsBlockNumber b.block
+    (length b.rows) (get_or b.rows segment.gauge d).start (name_of segment) (Some k) →
+    CanPlace (get_or b.rows segment.gauge d).start b.block k segment
+can_place b segment d k h known n = record {
   some_block = omega (arith, h.block.0);
   place = n.0;
   from = n.4;
@@ -170,7 +175,7 @@ can_place b seg d k h known n = record {
       n.5;
 }
 
-pub number_fits : (b : BoardValue) (name : Name) (d : Row) (k : ℕ) → name.gauge < length b.rows → Numbered b.block (length b.rows)
+pub number_fits : (b : BoardValue) (name : Name) (d : Row) (k : ℕ) → name.gauge < length b.rows → IsBlockNumber b.block (length b.rows)
     (get_or b.rows name.gauge d).start name (Some k) → Fits b name
 number_fits b name d k known n =
     let same : (get_or b.rows name.gauge d).start ≡ start_of b name.gauge = ap (λ r. r.start)
@@ -187,8 +192,9 @@ number_fits b name d k known n =
 
 -- the number that was found in a row that was read there
 pub number_there : (b : BoardValue) (name : Name) (r d : Row) (start gauges block k : ℕ) → name.gauge < length b.rows → start ≡ r.start
-    → gauges ≡ length b.rows → r ≡ get_or b.rows name.gauge r → Numbered block gauges start name (Some k) → Numbered block (length b.rows)
+    → gauges ≡ length b.rows → r ≡ get_or b.rows name.gauge r → IsBlockNumber block gauges start name (Some k) →
+    IsBlockNumber block (length b.rows)
     (get_or b.rows name.gauge d).start name (Some k)
 number_there b name r d start gauges block k known e f i n =
-    subst (λ l. Numbered block l (get_or b.rows name.gauge d).start name (Some k)) f
-    (subst (λ s. Numbered block gauges s name (Some k)) (e ∙ ap (λ x. x.start) (i ∙ get_or_default b.rows name.gauge r d known)) n)
+    subst (λ l. IsBlockNumber block l (get_or b.rows name.gauge d).start name (Some k)) f
+    (subst (λ s. IsBlockNumber block gauges s name (Some k)) (e ∙ ap (λ x. x.start) (i ∙ get_or_default b.rows name.gauge r d known)) n)

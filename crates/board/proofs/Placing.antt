@@ -15,7 +15,7 @@ use Rattle.flow.specs.Kept.{between}
 use Rattle.flow.proofs.Counting.{between_parts}
 use Rattle.segment.specs.Name.{name_of}
 use Rattle.board.specs.Board.{spans, IsRow, IsSlot, StandsIn}
-use Rattle.board.specs.Rows.{IsEmpty, IsCopy, IsJoin, Put, Extended, Closes, CanPlace, Placed, AllStand}
+use Rattle.board.specs.Rows.{IsEmpty, IsCopy, IsJoin, CopiesToPlace, JoinsToPlace, ClosesGapAt, CanPlace, PlacesSegment, AllStand}
 use Rattle.board.proofs.Lists.{at_set}
 use Rattle.board.proofs.Slots.{spans-set}
 use Rattle.flow.specs.declared.TheConstants.{BLOCKS_PER_WINDOW}
@@ -47,18 +47,18 @@ later start block k b from to at pos h e s f =
       ],
     )
 
-pub put_loose : (start block k : ℕ) (old new : List SegmentValue) (seg : SegmentValue) → IsRow block seg.grid seg.gauge
-    (record { start = start; slots = old }) → CanPlace start block k seg
-    → ((i : ℕ) (d : SegmentValue) → i ≤ k → (get_or old i d).from < (get_or old i d).to → (get_or old i d).to < seg.from) →
-    (p : Put old new k seg) → Loose start block seg.gauge seg.grid k (k + 1) (set old k p.now)
-put_loose start block k old new seg r c before p =
+pub put_loose : (start block k : ℕ) (old new : List SegmentValue) (segment : SegmentValue) → IsRow block segment.grid segment.gauge
+    (record { start = start; slots = old }) → CanPlace start block k segment
+    → ((i : ℕ) (d : SegmentValue) → i ≤ k → (get_or old i d).from < (get_or old i d).to → (get_or old i d).to < segment.from) →
+    (p : CopiesToPlace old new k segment) → Loose start block segment.gauge segment.grid k (k + 1) (set old k p.now)
+put_loose start block k old new segment r c before p =
     let l : k < length old = omega (arith, r.long, c.place) in
     let x = p.now in
-    let from : x.from ≡ seg.from = ap (λ n. n.from) p.copy.name in
-    let to : x.to ≡ seg.to = ap (λ n. n.to) p.copy.name in
+    let from : x.from ≡ segment.from = ap (λ n. n.from) p.copy.name in
+    let to : x.to ≡ segment.to = ap (λ n. n.to) p.copy.name in
     record {
       long = length-set old k x ∙ r.long;
-      each = λ i d h. at_set (λ i s. IsSlot block seg.grid seg.gauge s) old k x i d l (λ e. r.each i d h) (λ e. record {
+      each = λ i d h. at_set (λ i s. IsSlot block segment.grid segment.gauge s) old k x i d l (λ e. r.each i d h) (λ e. record {
         gauge = ap (λ n. n.gauge) p.copy.name;
         grid = p.copy.grid;
         longest = p.copy.longest ∙ ap (λ (z : SegmentValue). z.longest) (sym (p.at d)) ∙ (r.each k d c.place).longest;
@@ -74,32 +74,32 @@ put_loose start block k old new seg r c before p =
           ((get_or old i d).to ≡ s.from → (i ≡ k) × (j ≡ k + 1))) old k x j d l
           (λ f u a b. let far : (get_or old i d).to < (get_or old j d).from = r.apart i j d u m a b in
           (omega (arith, far), λ q. absurd (omega (arith, far, q))))
-          (λ f u a b. let near : (get_or old i d).to < seg.from = before i d (omega (arith, u)) a in
+          (λ f u a b. let near : (get_or old i d).to < segment.from = before i d (omega (arith, u)) a in
           (omega (arith, near, from), λ q. absurd (omega (arith, near, from, q)))))
           (λ e. at_set (λ j s. k < j → x.from < x.to → s.from < s.to → (x.to ≤ s.from) ×
           (x.to ≡ s.from → (k ≡ k) × (j ≡ k + 1))) old k x j d l
-          (λ f u a b. let g = later start block k j seg.from seg.to (get_or old j d).from c.some_block u c.from c.short
+          (λ f u a b. let g = later start block k j segment.from segment.to (get_or old j d).from c.some_block u c.from c.short
           (r.shape j d m b).0 in (omega (arith, g.0, to), λ q. (refl, g.1 (omega (arith, to, q)))))
           (λ f u a b. absurd (omega (arith, u))))
           h;
     }
 
-pub extend_loose : (start block j k : ℕ) (old new : List SegmentValue) (seg : SegmentValue) → IsRow block seg.grid seg.gauge
-    (record { start = start; slots = old }) → CanPlace start block k seg → j < k
+pub extend_loose : (start block j k : ℕ) (old new : List SegmentValue) (segment : SegmentValue) → IsRow block segment.grid segment.gauge
+    (record { start = start; slots = old }) → CanPlace start block k segment → j < k
     → ((d : SegmentValue) → (get_or old j d).from < (get_or old j d).to) →
-    ((i : ℕ) (d : SegmentValue) → j < i → i ≤ k → IsEmpty (get_or old i d)) → ((d : SegmentValue) → (get_or old j d).to ≡ seg.from) →
-    (p : Extended old new j seg) → Loose start block seg.gauge seg.grid j (k + 1) (set old j p.now)
-extend_loose start block j k old new seg r c less full empties touch p =
+    ((i : ℕ) (d : SegmentValue) → j < i → i ≤ k → IsEmpty (get_or old i d)) → ((d : SegmentValue) → (get_or old j d).to ≡ segment.from) →
+    (p : JoinsToPlace old new j segment) → Loose start block segment.gauge segment.grid j (k + 1) (set old j p.now)
+extend_loose start block j k old new segment r c less full empties touch p =
     let l : j < length old = omega (arith, r.long, c.place, less) in
     let x = p.now in
     let gauge : x.gauge ≡ p.was.gauge = ap (λ n. n.gauge) p.join.name in
     let from : x.from ≡ p.was.from = ap (λ n. n.from) p.join.name in
-    let to : x.to ≡ seg.to = ap (λ n. n.to) p.join.name in
+    let to : x.to ≡ segment.to = ap (λ n. n.to) p.join.name in
     let was_from : (d : SegmentValue) → (get_or old j d).from ≡ x.from = λ d. ap (λ s. s.from) (p.at d) ∙ sym from in
     let js : j < BLOCKS_PER_WINDOW = omega (arith, less, c.place) in
     record {
       long = length-set old j x ∙ r.long;
-      each = λ i d h. at_set (λ i s. IsSlot block seg.grid seg.gauge s) old j x i d l (λ e. r.each i d h) (λ e. record {
+      each = λ i d h. at_set (λ i s. IsSlot block segment.grid segment.gauge s) old j x i d l (λ e. r.each i d h) (λ e. record {
         gauge = gauge ∙ ap (λ (z : SegmentValue). z.gauge) (sym (p.at d)) ∙ (r.each j d js).gauge;
         grid = p.join.grid ∙ ap (λ (z : SegmentValue). z.grid) (sym (p.at d)) ∙ (r.each j d js).grid;
         longest = p.join.longest ∙ ap (λ (z : SegmentValue). z.longest) (sym (p.at d)) ∙ (r.each j d js).longest;
@@ -120,7 +120,7 @@ extend_loose start block j k old new seg r c less full empties touch p =
           (λ e. at_set (λ i s. j < i → x.from < x.to → s.from < s.to → (x.to ≤ s.from) ×
           (x.to ≡ s.from → (j ≡ j) × (i ≡ k + 1))) old j x b d l
           (λ f u s t. elim (cases_lt k b) [
-            | inl past ↦ (let g = later start block k b seg.from seg.to (get_or old b d).from c.some_block past c.from c.short
+            | inl past ↦ (let g = later start block k b segment.from segment.to (get_or old b d).from c.some_block past c.from c.short
                 (r.shape b d m t).0 in (omega (arith, g.0, to), λ q. (refl, g.1 (omega (arith, to, q)))))
             | inr upto ↦ (let none : (get_or old b d).to ≤ (get_or old b d).from = empties b d u upto in absurd (omega (arith, none, t)))
           ])
@@ -129,7 +129,7 @@ extend_loose start block j k old new seg r c less full empties touch p =
     }
 
 pub close_row : (start block gauge : ℕ) (kind : GridValue) (j n : ℕ) (old new : List SegmentValue) → j < n →
-    ((d : SegmentValue) → (get_or old j d).from < (get_or old j d).to) → Loose start block gauge kind j n old → Closes old new j n
+    ((d : SegmentValue) → (get_or old j d).from < (get_or old j d).to) → Loose start block gauge kind j n old → ClosesGapAt old new j n
     → IsRow block kind gauge (record { start = start; slots = new })
 close_row start block gauge kind j n old new less full_j r (inr (same, open_there)) =
     subst (λ l. IsRow block kind gauge (record { start = start; slots = l })) (sym same) (record {
@@ -229,32 +229,34 @@ between_same a b c d i e f = ap (λ x. between x b i) e ∙ ap (λ x. between c 
 pub between_off : (a b i : ℕ) → (a < b → (b ≤ i) ⊎ (i < a)) → between a b i ≡ 0
 between_off a b i h = grind (arith, nat_tests)
 
-pub put_spans : (k i : ℕ) (old : List SegmentValue) (seg x : SegmentValue) → k < length old →
-    ((d : SegmentValue) → IsEmpty (get_or old k d)) → name_of x ≡ (name_of seg) → spans i
-    (set old k x) ≡ spans i old + between seg.from seg.to i
-put_spans k i old seg x l empty e =
+pub put_spans : (k i : ℕ) (old : List SegmentValue) (segment x : SegmentValue) → k < length old →
+    ((d : SegmentValue) → IsEmpty (get_or old k d)) → name_of x ≡ (name_of segment) → spans i
+    (set old k x) ≡ spans i old + between segment.from segment.to i
+put_spans k i old segment x l empty e =
     let s : spans i (set old k x) + between (get_or old k x).from (get_or old k x).to i ≡ spans i old + between x.from x.to i =
     spans-set i old k x x l in
     omega (arith, s, between_empty (get_or old k x).from (get_or old k x).to i (empty x), ap (λ n. between n.from n.to i) e)
 
-pub extend_spans : (j i : ℕ) (old new : List SegmentValue) (seg : SegmentValue) → j < length old → (p : Extended old new j seg) →
-    ((d : SegmentValue) → (get_or old j d).to ≡ seg.from) → ((d : SegmentValue) → (get_or old j d).from < (get_or old j d).to)
-    → seg.from < seg.to → spans i (set old j p.now) ≡ spans i old + between seg.from seg.to i
-extend_spans j i old new seg l p touch full some =
+pub extend_spans : (j i : ℕ) (old new : List SegmentValue) (segment : SegmentValue) → j < length old →
+    (p : JoinsToPlace old new j segment) →
+    ((d : SegmentValue) → (get_or old j d).to ≡ segment.from) → ((d : SegmentValue) → (get_or old j d).from < (get_or old j d).to)
+    → segment.from < segment.to → spans i (set old j p.now) ≡ spans i old + between segment.from segment.to i
+extend_spans j i old new segment l p touch full some =
     let x = p.now in
     let s : spans i (set old j x) + between (get_or old j x).from (get_or old j x).to i ≡ spans i old + between x.from x.to i =
     spans-set i old j x x l in
     let from : x.from ≡ (get_or old j x).from = ap (λ m. m.from) p.join.name ∙ ap (λ s. s.from) (sym (p.at x)) in
-    let to : x.to ≡ seg.to = ap (λ m. m.to) p.join.name in
-    let whole : between x.from x.to i ≡ between (get_or old j x).from seg.to i = between_same _ _ _ _ i from to in
-    let first : between (get_or old j x).from (get_or old j x).to i ≡ between (get_or old j x).from seg.from i =
+    let to : x.to ≡ segment.to = ap (λ m. m.to) p.join.name in
+    let whole : between x.from x.to i ≡ between (get_or old j x).from segment.to i = between_same _ _ _ _ i from to in
+    let first : between (get_or old j x).from (get_or old j x).to i ≡ between (get_or old j x).from segment.from i =
     between_same _ _ _ _ i refl (touch x) in
-    let parts : between (get_or old j x).from seg.from i + between seg.from seg.to i ≡ between (get_or old j x).from seg.to i =
+    let parts : between (get_or old j x).from segment.from i + between segment.from segment.to i
+    ≡ between (get_or old j x).from segment.to i =
     between_parts _ _ _ i (omega (arith, full x, touch x)) (omega (arith, some)) in
     omega (arith, s, whole, first, parts)
 
 pub close_spans : (j n i : ℕ) (old new : List SegmentValue) → j < n → ((d : SegmentValue) → (get_or old j d).from < (get_or old j d).to)
-    → Closes old new j n → spans i new ≡ spans i old
+    → ClosesGapAt old new j n → spans i new ≡ spans i old
 close_spans j n i old new less full_j (inr (same, open_there)) = ap (spans i) same
 close_spans j n i old new less full_j (inl (p, (inside, touch, full))) =
     let x = p.now in let y = p.left in
@@ -284,13 +286,13 @@ spans_none i [] h = refl
 spans_none i (s ∷ l) h = let e : spans i l ≡ 0 = spans_none i l
     (λ k d m. h (suc k) d (omega (arith, m))) in let f : between s.from s.to i ≡ 0 = h 0 s (omega arith) in omega (arith, e, f)
 
-pub free_there : (start block k : ℕ) (old : List SegmentValue) (seg : SegmentValue) → IsRow block seg.grid seg.gauge
-    (record { start = start; slots = old }) → CanPlace start block k seg
-    → ((i : ℕ) (d : SegmentValue) → i ≤ k → (get_or old i d).from < (get_or old i d).to → (get_or old i d).to ≤ seg.from)
-    → spans seg.from old ≡ 0
-free_there start block k old seg r c before = spans_none seg.from old
-    (λ i d m. between_off (get_or old i d).from (get_or old i d).to seg.from (λ some. elim (cases_lt k i) [
-      | inl past ↦ inr (let g = later start block k i seg.from seg.to (get_or old i d).from c.some_block past c.from c.short
+pub free_there : (start block k : ℕ) (old : List SegmentValue) (segment : SegmentValue) → IsRow block segment.grid segment.gauge
+    (record { start = start; slots = old }) → CanPlace start block k segment
+    → ((i : ℕ) (d : SegmentValue) → i ≤ k → (get_or old i d).from < (get_or old i d).to → (get_or old i d).to ≤ segment.from)
+    → spans segment.from old ≡ 0
+free_there start block k old segment r c before = spans_none segment.from old
+    (λ i d m. between_off (get_or old i d).from (get_or old i d).to segment.from (λ some. elim (cases_lt k i) [
+      | inl past ↦ inr (let g = later start block k i segment.from segment.to (get_or old i d).from c.some_block past c.from c.short
           (r.shape i d (omega (arith, m, r.long)) some).0 in omega (arith, g.0, c.some))
       | inr upto ↦ inl (before i d upto some)
     ]))
@@ -302,16 +304,18 @@ slices w a b c h k =
     ap (λ l. take (b - a) (drop a w) ++ take (c - b) l) (sym (drop-drop (b - a) a w ∙ ap (λ i. drop i w) n)) ∙ sym
     (take-add (b - a) (c - b) (drop a w)) ∙ ap (λ i. take i (drop a w)) m
 
-copy_stands : (gain : GainValue) (w : List ℤ) (m : ℕ) (seg x : SegmentValue) → IsCopy m seg x → StandsIn seg gain w → StandsIn x gain w
-copy_stands gain w m seg x c h = subst (λ n. Stands x gain (slice_range w n.from n.to)) (sym c.name)
-    (c.stands gain (slice_range w seg.from seg.to) h)
+copy_stands : (gain : GainValue) (w : List ℤ) (m : ℕ) (segment x : SegmentValue) → IsCopy m segment x → StandsIn segment gain w →
+    StandsIn x gain w
+copy_stands gain w m segment x c h = subst (λ n. Stands x gain (slice_range w n.from n.to)) (sym c.name)
+    (c.stands gain (slice_range w segment.from segment.to) h)
 
-join_stands : (gain : GainValue) (w : List ℤ) (was seg x : SegmentValue) → IsJoin was seg x → was.to ≡ seg.from → was.from ≤ was.to
-    → seg.from ≤ seg.to → StandsIn was gain w → StandsIn seg gain w → StandsIn x gain w
-join_stands gain w was seg x j touch a b h k =
-    let both_parts : Stands x gain (slice_range w was.from was.to ++ slice_range w seg.from seg.to) = j.stands gain _ _ h k in
-    let is : slice_range w was.from was.to ++ slice_range w seg.from seg.to ≡ slice_range w was.from seg.to =
-    ap (λ i. slice_range w was.from was.to ++ slice_range w i seg.to) (sym touch) ∙ slices w was.from was.to seg.to a
+join_stands : (gain : GainValue) (w : List ℤ) (was segment x : SegmentValue) → IsJoin was segment x → was.to ≡ segment.from →
+    was.from ≤ was.to
+    → segment.from ≤ segment.to → StandsIn was gain w → StandsIn segment gain w → StandsIn x gain w
+join_stands gain w was segment x j touch a b h k =
+    let both_parts : Stands x gain (slice_range w was.from was.to ++ slice_range w segment.from segment.to) = j.stands gain _ _ h k in
+    let is : slice_range w was.from was.to ++ slice_range w segment.from segment.to ≡ slice_range w was.from segment.to =
+    ap (λ i. slice_range w was.from was.to ++ slice_range w i segment.to) (sym touch) ∙ slices w was.from was.to segment.to a
     (omega (arith, touch, b)) in
     subst (λ n. Stands x gain (slice_range w n.from n.to)) (sym j.name) (subst (Stands x gain) is both_parts)
 
@@ -320,22 +324,24 @@ pub none_stand : (gain : GainValue) (w : List ℤ) (y : SegmentValue) → y.to �
 none_stand gain w y e h = let few : y.to - y.from ≡ 0 = omega (arith, e) in subst (Stands y gain)
     (sym (ap (λ n. take n (drop y.from w)) few)) h
 
-put_stands : (gain : GainValue) (k : ℕ) (w : List ℤ) (old : List SegmentValue) (m : ℕ) (seg x : SegmentValue) → k < length old
-    → IsCopy m seg x → AllStand gain w old → StandsIn seg gain w → AllStand gain w (set old k x)
-put_stands gain k w old n seg x l c h s i d m = at_set (λ i z. StandsIn z gain w) old k x i d l (λ e. h i d m)
-    (λ e. copy_stands gain w n seg x c s)
+put_stands : (gain : GainValue) (k : ℕ) (w : List ℤ) (old : List SegmentValue) (m : ℕ) (segment x : SegmentValue) → k < length old
+    → IsCopy m segment x → AllStand gain w old → StandsIn segment gain w → AllStand gain w (set old k x)
+put_stands gain k w old n segment x l c h s i d m = at_set (λ i z. StandsIn z gain w) old k x i d l (λ e. h i d m)
+    (λ e. copy_stands gain w n segment x c s)
 
-extend_stands : (gain : GainValue) (j : ℕ) (w : List ℤ) (old new : List SegmentValue) (seg : SegmentValue) → j < length old →
+extend_stands : (gain : GainValue) (j : ℕ) (w : List ℤ) (old new : List SegmentValue) (segment : SegmentValue) → j < length old →
     j < BLOCKS_PER_WINDOW → ((d : SegmentValue) → (get_or old j d).from < (get_or old j d).to)
-    → ((d : SegmentValue) → (get_or old j d).to ≡ seg.from)
-    → seg.from < seg.to → (p : Extended old new j seg) → AllStand gain w old → StandsIn seg gain w → AllStand gain w (set old j p.now)
-extend_stands gain j w old new seg l j16 full touch some p h s i d m = at_set (λ i z. StandsIn z gain w) old j p.now i d l (λ e. h i d m)
-    (λ e. join_stands gain w p.was seg p.now p.join (ap (λ z. z.to) (sym (p.at d)) ∙ touch d)
+    → ((d : SegmentValue) → (get_or old j d).to ≡ segment.from)
+    → segment.from < segment.to → (p : JoinsToPlace old new j segment) → AllStand gain w old → StandsIn segment gain w →
+    AllStand gain w (set old j p.now)
+extend_stands gain j w old new segment l j16 full touch some p h s i d m =
+    at_set (λ i z. StandsIn z gain w) old j p.now i d l (λ e. h i d m)
+    (λ e. join_stands gain w p.was segment p.now p.join (ap (λ z. z.to) (sym (p.at d)) ∙ touch d)
     (subst (λ (z : SegmentValue). z.from ≤ z.to) (p.at d) (omega (arith, full d))) (omega (arith, some))
     (subst (λ z. StandsIn z gain w) (p.at d) (h j d j16)) s)
 
 close_stands : (gain : GainValue) (j n : ℕ) (w : List ℤ) (old new : List SegmentValue) → j < n → length old ≡ BLOCKS_PER_WINDOW →
-    ((d : SegmentValue) → (get_or old j d).from < (get_or old j d).to) → Closes old new j n → AllStand gain w old → AllStand gain w new
+    ((d : SegmentValue) → (get_or old j d).from < (get_or old j d).to) → ClosesGapAt old new j n → AllStand gain w old → AllStand gain w new
 close_stands gain j n w old new less long full_j (inr (same, open_there)) h = subst (AllStand gain w) (sym same) h
 close_stands gain j n w old new less long full_j (inl (p, (inside, touch, full))) h =
     let x = p.now in let y = p.left in
@@ -352,17 +358,17 @@ close_stands gain j n w old new less long full_j (inl (p, (inside, touch, full))
     (λ e. none_stand gain w y gone (p.emptied.stands gain)))
 
 -- the two ways of a deposit
-pub placed_put : (start block k : ℕ) (old mid new : List SegmentValue) (seg : SegmentValue) → IsRow block seg.grid seg.gauge
-    (record { start = start; slots = old }) → CanPlace start block k seg
-    → ((i : ℕ) (d : SegmentValue) → i ≤ k → (get_or old i d).from < (get_or old i d).to → (get_or old i d).to < seg.from)
-    → Put old mid k seg → Closes mid new k (k + 1) → Placed start block old new seg
-placed_put start block k old mid new seg r c before p close =
+pub placed_put : (start block k : ℕ) (old mid new : List SegmentValue) (segment : SegmentValue) → IsRow block segment.grid segment.gauge
+    (record { start = start; slots = old }) → CanPlace start block k segment
+    → ((i : ℕ) (d : SegmentValue) → i ≤ k → (get_or old i d).from < (get_or old i d).to → (get_or old i d).to < segment.from)
+    → CopiesToPlace old mid k segment → ClosesGapAt mid new k (k + 1) → PlacesSegment start block old new segment
+placed_put start block k old mid new segment r c before p close =
     let x = p.now in
     let l : k < length old = omega (arith, r.long, c.place) in
-    let loose = put_loose start block k old mid seg r c before p in
-    let closes : Closes (set old k x) new k (k + 1) = subst (λ z. Closes z new k (k + 1)) p.set close in
+    let loose = put_loose start block k old mid segment r c before p in
+    let closes : ClosesGapAt (set old k x) new k (k + 1) = subst (λ z. ClosesGapAt z new k (k + 1)) p.set close in
     let empty : (d : SegmentValue) → IsEmpty (get_or old k d) = λ d. elim (cases_lt (get_or old k d).from (get_or old k d).to) [
-      | inl some ↦ (let near : (get_or old k d).to < seg.from = before k d (omega arith) some in let at =
+      | inl some ↦ (let near : (get_or old k d).to < segment.from = before k d (omega arith) some in let at =
           (r.shape k d c.place some).0 in absurd (omega (arith, near, at, c.from, some)))
       | inr none ↦ none
     ] in
@@ -370,32 +376,34 @@ placed_put start block k old mid new seg r c before p close =
     (sym (get_or-set_same old k x d l)) (subst (λ n. n.from < n.to) (sym p.copy.name) c.some) in
     let less : k < k + 1 = omega arith in
     record {
-      free = free_there start block k old seg r c (λ i d u s. omega (arith, before i d u s));
-      more = λ i. close_spans k (k + 1) i (set old k x) new less full closes ∙ put_spans k i old seg x l empty p.copy.name;
-      row = close_row start block seg.gauge seg.grid k (k + 1) (set old k x) new less full loose closes;
+      free = free_there start block k old segment r c (λ i d u s. omega (arith, before i d u s));
+      more = λ i. close_spans k (k + 1) i (set old k x) new less full closes ∙ put_spans k i old segment x l empty p.copy.name;
+      row = close_row start block segment.gauge segment.grid k (k + 1) (set old k x) new less full loose closes;
       stands = λ gain w h s. close_stands gain k (k + 1) w (set old k x) new less loose.long full closes
-          (put_stands gain k w old p.was.longest seg x l p.copy h s);
+          (put_stands gain k w old p.was.longest segment x l p.copy h s);
     }
 
 -- the place that is joined lies before
-pub extend_less : (start block j k : ℕ) (old : List SegmentValue) (seg : SegmentValue) → IsRow block seg.grid seg.gauge
-    (record { start = start; slots = old }) → CanPlace start block k seg → j ≤ k
-    → ((d : SegmentValue) → (get_or old j d).from < (get_or old j d).to) → ((d : SegmentValue) → (get_or old j d).to ≡ seg.from) → j < k
-extend_less start block j k old seg r c upto full touch = elim
+pub extend_less : (start block j k : ℕ) (old : List SegmentValue) (segment : SegmentValue) → IsRow block segment.grid segment.gauge
+    (record { start = start; slots = old }) → CanPlace start block k segment → j ≤ k
+    → ((d : SegmentValue) → (get_or old j d).from < (get_or old j d).to) → ((d : SegmentValue) → (get_or old j d).to ≡ segment.from) → j < k
+extend_less start block j k old segment r c upto full touch = elim
     (cases_lt j k) [
       | inl a ↦ a
       | inr a ↦ (let same : k ≡ j = omega (arith, a, upto) in let at =
-          (r.shape j seg (omega (arith, upto, c.place)) (full seg)).0 in let far : k * block ≡ j * block = ap (λ n. n * block) same in
+          (r.shape j segment (omega (arith, upto, c.place)) (full segment)).0 in let far : k * block ≡ j * block =
+          ap (λ n. n * block) same in
           absurd
-          (omega (arith, at, c.from, far, touch seg, full seg)))
+          (omega (arith, at, c.from, far, touch segment, full segment)))
     ]
 
-pub placed_extend : (start block j k : ℕ) (old mid new : List SegmentValue) (seg : SegmentValue) → IsRow block seg.grid seg.gauge
-    (record { start = start; slots = old }) → CanPlace start block k seg → j ≤ k
+pub placed_extend : (start block j k : ℕ) (old mid new : List SegmentValue) (segment : SegmentValue) →
+    IsRow block segment.grid segment.gauge
+    (record { start = start; slots = old }) → CanPlace start block k segment → j ≤ k
     → ((d : SegmentValue) → (get_or old j d).from < (get_or old j d).to) →
-    ((i : ℕ) (d : SegmentValue) → j < i → i ≤ k → IsEmpty (get_or old i d)) → ((d : SegmentValue) → (get_or old j d).to ≡ seg.from)
-    → Extended old mid j seg → Closes mid new j (k + 1) → Placed start block old new seg
-placed_extend start block j k old mid new seg r c upto full empties touch p close =
+    ((i : ℕ) (d : SegmentValue) → j < i → i ≤ k → IsEmpty (get_or old i d)) → ((d : SegmentValue) → (get_or old j d).to ≡ segment.from)
+    → JoinsToPlace old mid j segment → ClosesGapAt mid new j (k + 1) → PlacesSegment start block old new segment
+placed_extend start block j k old mid new segment r c upto full empties touch p close =
     let x = p.now in
     let j16 : j < BLOCKS_PER_WINDOW = omega (arith, upto, c.place) in
     let l : j < length old = omega (arith, r.long, j16) in
@@ -405,16 +413,16 @@ placed_extend start block j k old mid new seg r c upto full empties touch p clos
           (let same : k ≡ j = omega (arith, a, upto) in let at = (r.shape j x j16 (full x)).0 in let far : k * block ≡ j * block = ap
           (λ n. n * block) same in absurd (omega (arith, at, c.from, far, touch x, full x)))
     ] in
-    let loose = extend_loose start block j k old mid seg r c less full empties touch p in
-    let closes : Closes (set old j x) new j (k + 1) = subst (λ z. Closes z new j (k + 1)) p.set close in
+    let loose = extend_loose start block j k old mid segment r c less full empties touch p in
+    let closes : ClosesGapAt (set old j x) new j (k + 1) = subst (λ z. ClosesGapAt z new j (k + 1)) p.set close in
     let from : (d : SegmentValue) → x.from ≡ (get_or old j d).from = λ d. ap (λ m. m.from) p.join.name ∙ ap (λ s. s.from) (sym (p.at d)) in
-    let to : x.to ≡ seg.to = ap (λ m. m.to) p.join.name in
+    let to : x.to ≡ segment.to = ap (λ m. m.to) p.join.name in
     let some : x.from < x.to = omega (arith, from x, to, full x, touch x, c.some) in
     let full_now : (d : SegmentValue) → (get_or (set old j x) j d).from < (get_or (set old j x) j d).to = λ d. subst (λ z. z.from < z.to)
     (sym (get_or-set_same old j x d l)) some in
     let behind : j < k + 1 = omega (arith, less) in
     record {
-      free = free_there start block k old seg r c (λ i d u s. elim (cases_lt j i) [
+      free = free_there start block k old segment r c (λ i d u s. elim (cases_lt j i) [
         | inl past ↦ (let none : (get_or old i d).to ≤ (get_or old i d).from = empties i d past u in absurd (omega (arith, none, s)))
         | inr down ↦ elim (cases_lt i j) [
           | inl before ↦ (let far : (get_or old i d).to < (get_or old j d).from = r.apart i j d before j16 s (full d) in omega
@@ -423,10 +431,10 @@ placed_extend start block j k old mid new seg r c upto full empties touch p clos
               (λ n. (get_or old n d).to) is in omega (arith, same, touch d))
         ]
       ]);
-      more = λ i. close_spans j (k + 1) i (set old j x) new behind full_now closes ∙ extend_spans j i old mid seg l p touch full c.some;
-      row = close_row start block seg.gauge seg.grid j (k + 1) (set old j x) new behind full_now loose closes;
+      more = λ i. close_spans j (k + 1) i (set old j x) new behind full_now closes ∙ extend_spans j i old mid segment l p touch full c.some;
+      row = close_row start block segment.gauge segment.grid j (k + 1) (set old j x) new behind full_now loose closes;
       stands = λ gain w h s. close_stands gain j (k + 1) w (set old j x) new behind loose.long full_now closes
-          (extend_stands gain j w old mid seg l j16 full touch c.some p h s);
+          (extend_stands gain j w old mid segment l j16 full touch c.some p h s);
     }
 
 pub alike : (start block gauge : ℕ) (kind : GridValue) (t n a b : ℕ) (l mid : List SegmentValue) (d : SegmentValue)
@@ -462,10 +470,10 @@ pub to_there : (old : List SegmentValue) (j : ℕ) (e : SegmentValue) (P : ℕ �
     (d : SegmentValue) → P (get_or old j d).to
 to_there old j e P l h d = subst (λ s. P s.to) (get_or_default old j e d l) h
 
-pub begins_before : (start block j k : ℕ) (old : List SegmentValue) (seg e : SegmentValue) → IsRow block seg.grid seg.gauge
-    (record { start = start; slots = old }) → CanPlace start block k seg → j ≤ k →
-    ((d : SegmentValue) → (get_or old j d).from < (get_or old j d).to) → (get_or old j e).from ≤ seg.from
-begins_before start block j k old seg e r c upto full =
+pub begins_before : (start block j k : ℕ) (old : List SegmentValue) (segment e : SegmentValue) → IsRow block segment.grid segment.gauge
+    (record { start = start; slots = old }) → CanPlace start block k segment → j ≤ k →
+    ((d : SegmentValue) → (get_or old j d).from < (get_or old j d).to) → (get_or old j e).from ≤ segment.from
+begins_before start block j k old segment e r c upto full =
     let at = (r.shape j e (omega (arith, upto, c.place)) (full e)).0 in
     let far : j * block ≤ k * block = mul-le-mul_right block upto in omega (arith, at, c.from, far)
 
@@ -499,17 +507,18 @@ window_room start block gauge kind t n a b l mid d r e h m some next =
     )
 
 -- an interval begins where a segment was put, and where one was joined
-pub slot_at : (k : ℕ) (old new : List SegmentValue) (seg d : SegmentValue) → k < length old → seg.from < seg.to → Put old new k seg →
+pub slot_at : (k : ℕ) (old new : List SegmentValue) (segment d : SegmentValue) → k < length old → segment.from < segment.to →
+    CopiesToPlace old new k segment →
     (get_or new k d).from < (get_or new k d).to
-slot_at k old new seg d l some p =
+slot_at k old new segment d l some p =
     subst (λ (z : SegmentValue). z.from < z.to) (sym (ap (λ z. get_or z k d) p.set ∙ get_or-set_same old k p.now d l))
     (subst (λ n. n.from < n.to) (sym p.copy.name) some)
 
-pub extended_at : (j : ℕ) (old new : List SegmentValue) (seg d : SegmentValue) → j < length old → seg.from < seg.to →
-    ((e : SegmentValue) → (get_or old j e).from < (get_or old j e).to) → ((e : SegmentValue) → (get_or old j e).to ≡ seg.from)
-    → Extended old new j seg → (get_or new j d).from < (get_or new j d).to
-extended_at j old new seg d l some full touch p =
+pub extended_at : (j : ℕ) (old new : List SegmentValue) (segment d : SegmentValue) → j < length old → segment.from < segment.to →
+    ((e : SegmentValue) → (get_or old j e).from < (get_or old j e).to) → ((e : SegmentValue) → (get_or old j e).to ≡ segment.from)
+    → JoinsToPlace old new j segment → (get_or new j d).from < (get_or new j d).to
+extended_at j old new segment d l some full touch p =
     let from : p.now.from ≡ (get_or old j d).from = ap (λ m. m.from) p.join.name ∙ ap (λ (z : SegmentValue). z.from) (sym (p.at d)) in
-    let to : p.now.to ≡ seg.to = ap (λ m. m.to) p.join.name in
+    let to : p.now.to ≡ segment.to = ap (λ m. m.to) p.join.name in
     subst (λ (z : SegmentValue). z.from < z.to) (sym (ap (λ z. get_or z j d) p.set ∙ get_or-set_same old j p.now d l))
     (omega (arith, from, to, some, full d, touch d))

@@ -10,7 +10,7 @@ use Rattle.segment.specs.Name.{name_of}
 use Rattle.segment.specs.Joining.{IsJoinAnswer}
 use Rattle.segment.specs.declared.segment.join.JoinRefusal.{JoinRefusal}
 use Rattle.segment.specs.declared.segment.join.JoinRefusal.TheVariants.{OtherGauge, NotNext}
-use Rattle.board.specs.Rows.{IsEmptied, IsJoin, IsNextTo, Merged}
+use Rattle.board.specs.Rows.{IsEmptied, IsJoin, IsNextTo, JoinsPlaces}
 
 -- a segment of the same gauge that begins where the other ends is joined
 pub joined : (v w : SegmentValue) (r : Result (Unit {0}) JoinRefusal) → IsNextTo v w → IsJoinAnswer v w r → IsOk r
@@ -44,7 +44,7 @@ spans-set i (a ∷ l) (suc k) x d h = let e : spans i (set l k x) + between (get
 
 pub merged_from : (s l r : List SegmentValue) (j k : ℕ) (x y p q o : SegmentValue) → j < k → k < length s → l ≡ take k s → r ≡ drop k s
     → IsJoin (get_or l j p) (get_or r 0 q) x
-    → IsEmptied (get_or r 0 o) y → Merged s (set l j x ++ set r 0 y) j k
+    → IsEmptied (get_or r 0 o) y → JoinsPlaces s (set l j x ++ set r 0 y) j k
 merged_from s l r j k x y p q o h m e f i w =
     let at_l : (d : SegmentValue) → get_or s j d ≡ get_or l j p = λ d. get_or_default s j d p (omega (arith, h, m)) ∙ sym
     (get_or-take k s j p h) ∙ ap (λ z. get_or z j p) (sym e) in

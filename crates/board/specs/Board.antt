@@ -4,7 +4,7 @@
 --   IsSlot, IsRow     what holds of a place, and of the places of a gauge
 --   IsBlockOf, Fits   a name is a block of a window, and of a board's
 --   StandsIn          a segment stands for the samples that its name names
---   Carries           each place of a board does, of these samples
+--   CarriesSamples    each place of a board does, of these samples
 --   SameBoard         the same windows
 --   IsBoard           what holds of every board
 --   IsBegun, IsFront  nothing is placed; the front of a gauge
@@ -77,8 +77,8 @@ abbrev pub StandsIn : SegmentValue → GainValue → List ℤ → Type 0
 StandsIn s gain w = Stands s gain (slice_range w s.from s.to)
 
 -- A place without an interval has an empty segment, which stands for no samples.
-abbrev pub Carries : BoardValue → (ℕ → GainValue) → (ℕ → List ℤ) → Type 0
-Carries b gain w = (g k : ℕ) (r : Row) (d : SegmentValue) → g < length b.rows → k < BLOCKS_PER_WINDOW →
+abbrev pub CarriesSamples : BoardValue → (ℕ → GainValue) → (ℕ → List ℤ) → Type 0
+CarriesSamples b gain w = (g k : ℕ) (r : Row) (d : SegmentValue) → g < length b.rows → k < BLOCKS_PER_WINDOW →
     StandsIn (slice_index_or (slice_index_or b.rows g r).slots k d) (gain g) (w g)
 
 -- the same windows, block and grid
@@ -107,7 +107,7 @@ pub record IsBoard (b : BoardValue) : Type 0 where
 pub record IsBegun (b : BoardValue) (starts : ℕ → ℕ) : Type 0 where
   pub arrivals : b.arrivals ≡ []
   pub windows : (g : ℕ) → g < length b.rows → start_of b g ≡ starts g
-  pub carries : (gain : ℕ → GainValue) (w : ℕ → List ℤ) → Carries b gain w
+  pub carries : (gain : ℕ → GainValue) (w : ℕ → List ℤ) → CarriesSamples b gain w
 
 -- from the window's start as far as what was placed goes on without a gap
 pub record IsFront (b : BoardValue) (g : ℕ) (s : SegmentValue) : Type 0 where
@@ -117,4 +117,4 @@ pub record IsFront (b : BoardValue) (g : ℕ) (s : SegmentValue) : Type 0 where
   pub ordered : s.from ≤ s.to
   pub covered : (i : ℕ) → s.from ≤ i → i < s.to → 1 ≤ hits g i b.arrivals
   pub greatest : hits g s.to b.arrivals ≡ 0
-  pub stands : (gain : ℕ → GainValue) (w : ℕ → List ℤ) → Carries b gain w → StandsIn s (gain g) (w g)
+  pub stands : (gain : ℕ → GainValue) (w : ℕ → List ℤ) → CarriesSamples b gain w → StandsIn s (gain g) (w g)

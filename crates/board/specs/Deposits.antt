@@ -1,7 +1,7 @@
 -- What a deposit answers.
 --   HasSample        a name names an interval that has a sample
 --   IsDepositAnswer  the answer, and what it leaves
---   Numbered         the number of a name among the blocks of a window, where it is one
+--   IsBlockNumber    the number of a name among the blocks of a window, where it is one
 use Rattle.std.specs.Prelude.{◌≡◌, ◌+◌, ◌*◌, ◌≤◌, ◌<◌, ◌++◌, ◌∷◌, [], ℕ, Option, Some, None, slice_index_or}
 use Rattle.segment_rules.specs.declared.name.Name.{Name}
 use Rattle.segment.specs.Segment.{SegmentValue}
@@ -27,8 +27,8 @@ IsDepositAnswer old new s (Stranger n) = (Fits old (name_of s) → ⊥) × (n �
 IsDepositAnswer old new s (Double n) =
     Fits old (name_of s) × (1 ≤ hits s.gauge s.from old.arrivals) × HasSample old s.gauge s.from n × (new ≡ old)
 
-abbrev pub Numbered : ℕ → ℕ → ℕ → Name → Option ℕ → Type 0
-Numbered block gauges start n (Some k) =
+abbrev pub IsBlockNumber : ℕ → ℕ → ℕ → Name → Option ℕ → Type 0
+IsBlockNumber block gauges start n (Some k) =
     (k < BLOCKS_PER_WINDOW) × (n.gauge < gauges) × (n.from < n.to) × (n.to ≤ n.from + block)
     × (n.from ≡ start + k * block) × (n.to ≤ start + BLOCKS_PER_WINDOW * block)
-Numbered block gauges start n None = IsBlockOf block gauges start n → ⊥
+IsBlockNumber block gauges start n None = IsBlockOf block gauges start n → ⊥

@@ -4,7 +4,7 @@ ghost use Rattle.block_pool.specs.declared.TheConstants.{MAX_BLOCK};
 ghost use Rattle.board.specs.declared.TheConstants.{MAX_GAUGES};
 ghost use Rattle.segment.specs.Segment.{SegmentValue};
 ghost use Rattle.board.specs.Board.{IsRow};
-ghost use Rattle.board.specs.Rows.{CanPlace, Placing};
+ghost use Rattle.board.specs.Rows.{CanPlace, IsPlacing};
 ghost use Rattle.board.specs.Clearing.{AllEmptied, RowBegun, RowsBegun, IsFresh};
 
 use crate::rows::place;
@@ -66,14 +66,14 @@ impl Intervals {
     }
 
     /// Places a segment that begins at the `k`-th block, as `rows::place` does.
-    pub(crate) fn place(&mut self, block: u32, k: usize, seg: &Segment) -> Option<Name>
-        requires row { IsRow block seg.now.grid seg.now.gauge self.old }
-        requires fits { CanPlace self.old.start block k seg.now }
+    pub(crate) fn place(&mut self, block: u32, k: usize, segment: &Segment) -> Option<Name>
+        requires row { IsRow block segment.now.grid segment.now.gauge self.old }
+        requires fits { CanPlace self.old.start block k segment.now }
         ensures start { self.new.start ≡ self.old.start }
-        ensures placing { Placing self.old.start block self.old.slots self.new.slots seg.now
+        ensures placing { IsPlacing self.old.start block self.old.slots self.new.slots segment.now
             result }
     {
-        place(self.slots.as_mut_slice(), self.start, block, k, seg)
+        place(self.slots.as_mut_slice(), self.start, block, k, segment)
     }
 
     /// The interval that begins with the window, or the empty segment there.

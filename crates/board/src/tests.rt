@@ -37,9 +37,9 @@ impl Table {
         self.board.begin(starts);
     }
 
-    fn deposit(&mut self, rt: &impl Abort, seg: &Segment) -> Deposit {
-        assert!(rt; seg.grid() == self.grid);
-        self.board.deposit(seg)
+    fn deposit(&mut self, rt: &impl Abort, segment: &Segment) -> Deposit {
+        assert!(rt; segment.grid() == self.grid);
+        self.board.deposit(segment)
     }
 
     fn front(&self, rt: &impl Abort, gauge: u16) -> &Segment {

@@ -3,7 +3,7 @@ ghost use Rattle.recording.specs.declared.TheConstants.{MAX_SAMPLES};
 ghost use Rattle.block_pool.specs.declared.TheConstants.{MAX_BLOCK};
 ghost use Rattle.board.specs.declared.TheConstants.{MAX_GAUGES};
 ghost use Rattle.calibration.specs.Gain.{GainValue};
-ghost use Rattle.board.specs.Deposits.{Numbered};
+ghost use Rattle.board.specs.Deposits.{IsBlockNumber};
 
 use crate::intervals::{Intervals, begin_all};
 use crate::{BLOCKS_PER_WINDOW, OutOfMemory};
@@ -61,7 +61,7 @@ impl Model for Board {
 fn number_in(start: u64, block: u32, gauges: usize, name: Name) -> Option<u64>
     requires start { start ≤ MAX_SAMPLES }
     requires block { (1 ≤ block) × (block ≤ MAX_BLOCK) }
-    ensures { Numbered block gauges start name result }
+    ensures { IsBlockNumber block gauges start name result }
 {
     let length = block as u64;
     let is_known = (name.gauge as usize) < gauges;
@@ -76,7 +76,7 @@ fn number_in(start: u64, block: u32, gauges: usize, name: Name) -> Option<u64>
 }
 
 impl Board {
-    ghost use Rattle.board.specs.Board.{IsBoard, IsBegun, SameBoard, Carries, StandsIn, IsFront};
+    ghost use Rattle.board.specs.Board.{IsBoard, IsBegun, SameBoard, CarriesSamples, StandsIn, IsFront};
     ghost use Rattle.board.specs.Deposits.{IsDepositAnswer};
 
     /// An empty board for blocks of so many samples, whose windows begin at 0. Takes all memory
@@ -117,15 +117,16 @@ impl Board {
 
     /// Joins the segment with the intervals beside it, unless it is no block of its window or its
     /// first sample is there already. Takes no memory.
-    pub fn deposit(&mut self, seg: &Segment) -> Deposit
-        requires grid { seg.now.grid ≡ self.old.grid }
-        ensures answer { IsDepositAnswer self.old self.new seg.now result }
+    pub fn deposit(&mut self, segment: &Segment) -> Deposit
+        requires grid { segment.now.grid ≡ self.old.grid }
+        ensures answer { IsDepositAnswer self.old self.new segment.now result }
         ensures same { SameBoard self.old self.new }
-        ensures carries { (gain : ℕ → GainValue) (w : ℕ → List ℤ) → Carries self.old gain w →
-            StandsIn seg.now (gain seg.now.gauge) (w seg.now.gauge) → Carries self.new gain w }
+        ensures carries { (gain : ℕ → GainValue) (w : ℕ → List ℤ) → CarriesSamples self.old gain w →
+            StandsIn segment.now (gain segment.now.gauge) (w segment.now.gauge) →
+            CarriesSamples self.new gain w }
         ensures board { IsBoard self.new }
     {
-        let name = seg.name();
+        let name = segment.name();
         let gauge = name.gauge as usize;
         if gauge >= self.rows.len() {
             return Deposit::Stranger(name);
@@ -134,7 +135,7 @@ impl Board {
         let Some(number) = number_in(start, self.block, self.rows.len(), name) else {
             return Deposit::Stranger(name);
         };
-        match self.rows[gauge].place(self.block, number as usize, seg) {
+        match self.rows[gauge].place(self.block, number as usize, segment) {
             Some(interval) => Deposit::Double(interval),
             None => {
                 self.arrivals.push_reserved(name);

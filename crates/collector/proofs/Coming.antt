@@ -10,8 +10,8 @@ use Rattle.block_pool.specs.Units.{CountedValue, PoolValue}
 use Rattle.board.specs.Board.{BoardValue}
 use Rattle.flow.specs.Flow.{with_value}
 use Rattle.flow.proofs.Counting.{changed_same, changed_other}
-use Rattle.deposits.specs.Deposited.{Deposited}
-use Rattle.deposits.specs.Mixed.Mixed.{nothing}
+use Rattle.deposits.specs.Deposited.{DepositsUnits}
+use Rattle.deposits.specs.Mixed.IsMixOf.{nothing}
 use Rattle.deposits.proofs.Going.{deposited_none, deposited_more}
 use Rattle.deposits.proofs.Mixing.{mixed_next}
 use Rattle.block_workers.specs.declared.item.Back.{Back}
@@ -19,15 +19,15 @@ use Rattle.block_workers.specs.declared.item.Back.TheVariants.{Over}
 use Rattle.block_workers.specs.Working.{back_of}
 use Rattle.block_workers.proofs.Blocks.{no_both}
 use Rattle.collector.specs.declared.collecting.Return.{Return}
-use Rattle.collector.specs.Collecting.{IsAwaited, NoUnit, OneUnit, Looked, Coming, Collecting, Collected}
+use Rattle.collector.specs.Collecting.{IsAwaited, NoUnit, OneUnit, LooksAtRing, UnitsCameSoFar, IsCollectedSoFar, IsCollected}
 
 same_return : (a : Taker Back) → IsSameTaker a a
 same_return a = search rules
 
 -- no unit came from the ring
-still_coming : (old now new : Return) (us : List CountedValue) → Coming old now us → IsSameTaker now.taker new.taker
+still_coming : (old now new : Return) (us : List CountedValue) → UnitsCameSoFar old now us → IsSameTaker now.taker new.taker
     → (((new.awaited ≡ now.awaited) × (taken new.taker ≡ taken now.taker)) ⊎
-    (IsAwaited now × (new.awaited ≡ false) × (taken new.taker ≡ taken now.taker ++ Over ∷ []))) → Coming old new us
+    (IsAwaited now × (new.awaited ≡ false) × (taken new.taker ≡ taken now.taker ++ Over ∷ []))) → UnitsCameSoFar old new us
 still_coming old now new us h s (inl e) = record {
   same = same_takers old.taker now.taker new.taker h.same s;
   awaited = λ o. e.1 ∙ h.awaited (sym e.0 ∙ o);
@@ -40,8 +40,9 @@ still_coming old now new us h s (inr e) = record {
 }
 
 -- a unit came from it
-more_coming : (old now new : Return) (us : List CountedValue) (u : CountedValue) → Coming old now us → IsSameTaker now.taker new.taker
-    → IsAwaited now × IsAwaited new → taken new.taker ≡ taken now.taker ++ back_of u ∷ [] → Coming old new (us ++ u ∷ [])
+more_coming : (old now new : Return) (us : List CountedValue) (u : CountedValue) → UnitsCameSoFar old now us →
+    IsSameTaker now.taker new.taker
+    → IsAwaited now × IsAwaited new → taken new.taker ≡ taken now.taker ++ back_of u ∷ [] → UnitsCameSoFar old new (us ++ u ∷ [])
 more_coming old now new us u h s o t = record {
   same = same_takers old.taker now.taker new.taker h.same s;
   awaited = λ k. t ∙ ap (λ l. l ++ back_of u ∷ []) (h.awaited o.0) ∙ append_assoc (taken old.taker) (map back_of us) (back_of u ∷ [])
@@ -51,19 +52,19 @@ more_coming old now new us u h s o t = record {
 
 -- one of the rings was looked at
 each_coming : (olds nows : List Return) (f h : ℕ → List CountedValue) (v : ℕ) (y : Return) → v < length nows
-    → ((u : ℕ) (d : Return) → u < length olds → Coming (get_or olds u d) (get_or nows u d) (f u))
-    → ((d : Return) → Coming (get_or olds v d) y (h v)) → ((u : ℕ) → u ≢ v → h u ≡ f u)
-    → (u : ℕ) (d : Return) → u < length olds → Coming (get_or olds u d) (get_or (set nows v y) u d) (h u)
+    → ((u : ℕ) (d : Return) → u < length olds → UnitsCameSoFar (get_or olds u d) (get_or nows u d) (f u))
+    → ((d : Return) → UnitsCameSoFar (get_or olds v d) y (h v)) → ((u : ℕ) → u ≢ v → h u ≡ f u)
+    → (u : ℕ) (d : Return) → u < length olds → UnitsCameSoFar (get_or olds u d) (get_or (set nows v y) u d) (h u)
 each_coming olds nows f h v y l each new others u d m = by (cases_eq u v)
   where
-    by : ((u ≡ v) ⊎ (u ≡ v → ⊥)) → Coming (get_or olds u d) (get_or (set nows v y) u d) (h u)
-    by (inl e) = subst (λ i. Coming (get_or olds i d) (get_or (set nows v y) i d) (h i)) (sym e)
-        (subst (λ x. Coming (get_or olds v d) x (h v)) (sym (get_or-set_same nows v y d l)) (new d))
-    by (inr o) = subst (λ x. Coming (get_or olds u d) x (h u)) (sym (get_or-set_other nows v u y d o))
-        (subst (Coming (get_or olds u d) (get_or nows u d)) (sym (others u o)) (each u d m))
+    by : ((u ≡ v) ⊎ (u ≡ v → ⊥)) → UnitsCameSoFar (get_or olds u d) (get_or (set nows v y) u d) (h u)
+    by (inl e) = subst (λ i. UnitsCameSoFar (get_or olds i d) (get_or (set nows v y) i d) (h i)) (sym e)
+        (subst (λ x. UnitsCameSoFar (get_or olds v d) x (h v)) (sym (get_or-set_same nows v y d l)) (new d))
+    by (inr o) = subst (λ x. UnitsCameSoFar (get_or olds u d) x (h u)) (sym (get_or-set_other nows v u y d o))
+        (subst (UnitsCameSoFar (get_or olds u d) (get_or nows u d)) (sym (others u o)) (each u d m))
 
 pub none_came : (b : BoardValue) (p : PoolValue) (rs : List Return) → ((v : ℕ) (d : Return) → v < length rs → IsAwaited (get_or rs v d))
-    → Collecting b b p p rs rs
+    → IsCollectedSoFar b b p p rs rs
 none_came b p rs all = record {
   long = refl;
   lists = λ v. [];
@@ -79,13 +80,14 @@ none_came b p rs all = record {
 }
 
 pub looked_more : (b c d : BoardValue) (p q r : PoolValue) (olds nows : List Return) (v : ℕ) (x y : Return) → v < length nows
-    → ((e : Return) → get_or nows v e ≡ x) → Collecting b c p q olds nows → Looked c d q r x y → Collecting b d p r olds (set nows v y)
+    → ((e : Return) → get_or nows v e ≡ x) → IsCollectedSoFar b c p q olds nows → LooksAtRing c d q r x y →
+    IsCollectedSoFar b d p r olds (set nows v y)
 looked_more b c d p q r olds nows v x y l at h k = by k.came
   where
-    was : (e : Return) → Coming (get_or olds v e) x (h.lists v)
-    was e = subst (λ z. Coming (get_or olds v e) z (h.lists v)) (at e) (h.each v e (omega (arith, l, h.long)))
+    was : (e : Return) → UnitsCameSoFar (get_or olds v e) x (h.lists v)
+    was e = subst (λ z. UnitsCameSoFar (get_or olds v e) z (h.lists v)) (at e) (h.each v e (omega (arith, l, h.long)))
 
-    by : (NoUnit c d q r x y ⊎ OneUnit c d q r x y) → Collecting b d p r olds (set nows v y)
+    by : (NoUnit c d q r x y ⊎ OneUnit c d q r x y) → IsCollectedSoFar b d p r olds (set nows v y)
     by (inl n) = record {
       long = length-set nows v y ∙ h.long;
       lists = h.lists;
@@ -93,13 +95,14 @@ looked_more b c d p q r olds nows v x y l at h k = by k.came
           (λ u o. refl);
       units = h.units;
       mixed = h.mixed;
-      deposited = subst (λ z. Deposited b z p r h.units) (sym n.board) (subst (λ z. Deposited b c p z h.units) (sym n.pool) h.deposited);
+      deposited = subst (λ z. DepositsUnits b z p r h.units) (sym n.board)
+          (subst (λ z. DepositsUnits b c p z h.units) (sym n.pool) h.deposited);
     }
     by (inr n) = record {
       long = length-set nows v y ∙ h.long;
       lists = with_value h.lists v (h.lists v ++ n.unit ∷ []);
       each = each_coming olds nows h.lists (with_value h.lists v (h.lists v ++ n.unit ∷ [])) v y l h.each
-          (λ e. subst (Coming (get_or olds v e) y) (sym (changed_same h.lists v (h.lists v ++ n.unit ∷ [])))
+          (λ e. subst (UnitsCameSoFar (get_or olds v e) y) (sym (changed_same h.lists v (h.lists v ++ n.unit ∷ [])))
           (more_coming (get_or olds v e) x y (h.lists v) n.unit (was e) k.same n.awaited n.taken))
           (λ u o. changed_other h.lists v (h.lists v ++ n.unit ∷ []) u o);
       units = h.units ++ n.unit ∷ [];
@@ -107,8 +110,8 @@ looked_more b c d p q r olds nows v x y l at h k = by k.came
       deposited = deposited_more b c d p q r h.units n.unit h.deposited n.stepped;
     }
 
-pub all_came : (b c : BoardValue) (p q : PoolValue) (olds news : List Return) → Collecting b c p q olds news
-    → ((v : ℕ) (d : Return) → v < length news → (get_or news v d).awaited ≡ false) → Collected b c p q olds news
+pub all_came : (b c : BoardValue) (p q : PoolValue) (olds news : List Return) → IsCollectedSoFar b c p q olds news
+    → ((v : ℕ) (d : Return) → v < length news → (get_or news v d).awaited ≡ false) → IsCollected b c p q olds news
 all_came b c p q olds news h all = record {
   long = h.long;
   lists = h.lists;

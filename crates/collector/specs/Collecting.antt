@@ -1,15 +1,15 @@
 -- What comes back from the workers.
 --   IsAwaited   the mark of a ring is still to come
---   Looked      one look at a return ring
---   Coming      the units that came from a ring so far, and behind them the mark, where the round has ended
---   Collecting  what came from all rings so far: a mix of the workers' units, deposited in this order
---   Collected   the same where the mark of each ring came
+--   LooksAtRing   one look at a return ring
+--   UnitsCameSoFar   the units that came from a ring so far, and behind them the mark, where the round has ended
+--   IsCollectedSoFar  what came from all rings so far: a mix of the workers' units, deposited in this order
+--   IsCollected   the same where the mark of each ring came
 use Rattle.std.specs.Prelude.{◌≡◌, ◌⊎◌, ◌<◌, ℕ, List, [], ◌∷◌, ◌++◌, length, map, slice_index_or, true, false}
 use Rattle.gauge_ring.specs.Ends.{taken, IsSameTaker}
 use Rattle.block_pool.specs.Units.{CountedValue, PoolValue}
 use Rattle.board.specs.Board.{BoardValue}
-use Rattle.deposits.specs.Deposited.{Stepped, Deposited}
-use Rattle.deposits.specs.Mixed.{Mixed}
+use Rattle.deposits.specs.Deposited.{DepositsUnit, DepositsUnits}
+use Rattle.deposits.specs.Mixed.{IsMixOf}
 use Rattle.block_workers.specs.declared.item.Back.TheVariants.{Over}
 use Rattle.block_workers.specs.Working.{back_of, return_round}
 use Rattle.collector.specs.declared.collecting.Return.{Return}
@@ -29,28 +29,29 @@ pub record NoUnit (b c : BoardValue) (p q : PoolValue) (old new : Return) : Type
 
 pub record OneUnit (b c : BoardValue) (p q : PoolValue) (old new : Return) : Type 0 where
   pub unit : CountedValue
-  pub stepped : Stepped b c p q unit
+  pub stepped : DepositsUnit b c p q unit
   pub awaited : IsAwaited old × IsAwaited new
   pub taken : taken new.taker ≡ taken old.taker ++ back_of unit ∷ []
 
-pub record Looked (b c : BoardValue) (p q : PoolValue) (old new : Return) : Type 0 where
+pub record LooksAtRing (b c : BoardValue) (p q : PoolValue) (old new : Return) : Type 0 where
   pub same : IsSameTaker old.taker new.taker
   pub came : NoUnit b c p q old new ⊎ OneUnit b c p q old new
 
-pub record Coming (old now : Return) (us : List CountedValue) : Type 0 where
+pub record UnitsCameSoFar (old now : Return) (us : List CountedValue) : Type 0 where
   pub same : IsSameTaker old.taker now.taker
   pub awaited : IsAwaited now → taken now.taker ≡ taken old.taker ++ map back_of us
   pub marked : now.awaited ≡ false → taken now.taker ≡ taken old.taker ++ return_round us
 
-pub record Collecting (b c : BoardValue) (p q : PoolValue) (old now : List Return) : Type 0 where
+pub record IsCollectedSoFar (b c : BoardValue) (p q : PoolValue) (old now : List Return) : Type 0 where
   pub long : length now ≡ length old
   pub lists : ℕ → List CountedValue
-  pub each : (v : ℕ) (d : Return) → v < length old → Coming (slice_index_or old v d) (slice_index_or now v d) (lists v)
+  pub each : (v : ℕ) (d : Return) → v < length old →
+      UnitsCameSoFar (slice_index_or old v d) (slice_index_or now v d) (lists v)
   pub units : List CountedValue
-  pub mixed : Mixed (length old) lists units
-  pub deposited : Deposited b c p q units
+  pub mixed : IsMixOf (length old) lists units
+  pub deposited : DepositsUnits b c p q units
 
-pub record Collected (b c : BoardValue) (p q : PoolValue) (old new : List Return) : Type 0 where
+pub record IsCollected (b c : BoardValue) (p q : PoolValue) (old new : List Return) : Type 0 where
   pub long : length new ≡ length old
   pub lists : ℕ → List CountedValue
   pub taken : (v : ℕ) (d : Return) → v < length old
@@ -58,5 +59,5 @@ pub record Collected (b c : BoardValue) (p q : PoolValue) (old new : List Return
   pub same : (v : ℕ) (d : Return) → v < length old →
       IsSameTaker (slice_index_or old v d).taker (slice_index_or new v d).taker
   pub units : List CountedValue
-  pub mixed : Mixed (length old) lists units
-  pub deposited : Deposited b c p q units
+  pub mixed : IsMixOf (length old) lists units
+  pub deposited : DepositsUnits b c p q units

@@ -1,6 +1,6 @@
 -- What is known of both ends of the return rings, once they are in one thread.
 --   ReturnAt, AllReturns    the ends are of one ring; of each worker's
---   Opened, SameFeeding     a taker and a worker after a look at both ends
+--   IsStillAwaited, SameFeeding   a taker and a worker after a look at both ends
 --   BackFifo                what was fed back is what was taken and what is left
 use Rattle.std.specs.Prelude.{◌≡◌, ◌<◌, ◌++◌, ℕ, List, length, slice_index_or}
 use Rattle.gauge_ring.specs.Ends.{fed, taken, AreOneRing, IsSameFeeder, IsSameTaker}
@@ -14,7 +14,7 @@ pub record ReturnAt (w : Worker) (r : Return) : Type 0 where
   pub one : AreOneRing w.back r.taker
 
 -- awaited, and the same but for what is known of the ring
-pub record Opened (old new : Return) : Type 0 where
+pub record IsStillAwaited (old new : Return) : Type 0 where
   pub awaited : IsAwaited new
   pub taken : taken new.taker ≡ taken old.taker
   pub same : IsSameTaker old.taker new.taker

@@ -1,5 +1,5 @@
 ghost use Rattle.std.specs.Prelude.{◌≡◌, ◌<◌, ℕ, length, slice_index_or, true, false};
-ghost use Rattle.collector.specs.Collecting.{AllAwaited, Looked, Collected};
+ghost use Rattle.collector.specs.Collecting.{AllAwaited, LooksAtRing, IsCollected};
 
 use block_pool::{Counted, Pool};
 use block_workers::Back;
@@ -22,7 +22,7 @@ pub struct Return {
 // mark ends the round. Answers whether anything came.
 fn look(board: &mut Board, pool: &mut Pool, back: &mut Return) -> bool
     requires grid { board.old.grid ≡ pool.old.grid }
-    ensures { Looked board.old board.new pool.old pool.new back.old back.new }
+    ensures { LooksAtRing board.old board.new pool.old pool.new back.old back.new }
 {
     if !back.awaited {
         return false;
@@ -58,7 +58,7 @@ fn all_marked(returns: &[Return]) -> bool
 pub fn collect<R: Wait>(rt: &R, board: &mut Board, pool: &mut Pool, returns: &mut [Return])
     requires grid { board.old.grid ≡ pool.old.grid }
     requires awaited { AllAwaited returns.old }
-    ensures { Collected board.old board.new pool.old pool.new returns.old returns.new }
+    ensures { IsCollected board.old board.new pool.old pool.new returns.old returns.new }
 {
     for _ in rt.forever() {
         if all_marked(returns) {

@@ -1,7 +1,7 @@
 ghost use Rattle.std.specs.Prelude.{◌≡◌, ◌<◌};
 ghost use Rattle.std.specs.List.{All};
 ghost use Rattle.block_workers.specs.Jobs.{CanRead, AllRead, CanWork, AllWorked};
-ghost use Rattle.collector.specs.Collecting.{AllAwaited, Collected};
+ghost use Rattle.collector.specs.Collecting.{AllAwaited, IsCollected};
 
 use crate::{Return, collect};
 use block_pool::Pool;
@@ -26,7 +26,7 @@ pub fn run_round<R: Threads + Wait + Sync, C: Source + Send, G: Gate + Sync>(
     requires awaited { AllAwaited returns.old }
     requires read { All CanRead readers.old }
     requires work { All CanWork workers.old }
-    ensures collected { Collected board.old board.new pool.old pool.new returns.old returns.new }
+    ensures collected { IsCollected board.old board.new pool.old pool.new returns.old returns.new }
     ensures readers { AllRead C.tells C.left C.faults readers.old readers.new }
     ensures workers { AllWorked workers.old workers.new }
 {

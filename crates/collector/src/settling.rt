@@ -1,5 +1,5 @@
 ghost use Rattle.std.specs.Prelude.{◌≡◌, ◌<◌, ◌≤◌, ℕ, length, slice_index_or};
-ghost use Rattle.collector.specs.Settling.{ReturnAt, AllReturns, SameFeeding, Opened, BackFifo};
+ghost use Rattle.collector.specs.Settling.{ReturnAt, AllReturns, SameFeeding, IsStillAwaited, BackFifo};
 
 use crate::Return;
 use block_workers::Worker;
@@ -7,7 +7,7 @@ use block_workers::Worker;
 // Looks at both ends of one return ring.
 fn settle_return(back: &mut Return, worker: &mut Worker)
     requires ring { ReturnAt worker.old back.old }
-    ensures back { Opened back.old back.new }
+    ensures back { IsStillAwaited back.old back.new }
     ensures worker { SameFeeding worker.old worker.new }
     ensures fifo { BackFifo worker.old back.old }
 {
@@ -22,7 +22,7 @@ pub fn settle_returns(returns: &mut [Return], workers: &mut [Worker])
     ensures long { (length returns.new ≡ length returns.old)
         × (length workers.new ≡ length workers.old) }
     ensures returns { (v : ℕ) (d : _) → v < length returns.old
-        → Opened (slice_index_or returns.old v d) (slice_index_or returns.new v d) }
+        → IsStillAwaited (slice_index_or returns.old v d) (slice_index_or returns.new v d) }
     ensures workers { (v : ℕ) (d : _) → v < length workers.old
         → SameFeeding (slice_index_or workers.old v d) (slice_index_or workers.new v d) }
     ensures fifo { (v : ℕ) (d : _) (e : _) → v < length workers.old

@@ -1,5 +1,5 @@
 ghost use Rattle.std.specs.Prelude.{◌≡◌, ◌≢◌, ◌++◌, ℤ, List, Ok, OnOk, OnErr};
-ghost use Rattle.outside.specs.Fault.{HasCause, Rose};
+ghost use Rattle.outside.specs.Fault.{HasCause, CountRose};
 ghost use Rattle.outside.specs.Sink.{AppendsPrefix};
 ghost use Rattle.csv_recording.specs.Column.{column_of};
 ghost use Rattle.csv_recording.specs.Recording.{recording_bytes};
@@ -28,7 +28,7 @@ pub(crate) fn write_column<O: Sink>(
     ensures nothing { O.tells → result ≢ Done → result ≢ WriteFault →
         O.written out.new ≡ O.written out.old }
     ensures answer { IsColumnEnd (column_of name.now text.now) result }
-    ensures write { result ≡ WriteFault → Rose (O.faults out.old) (O.faults out.new) }
+    ensures write { result ≡ WriteFault → CountRose (O.faults out.old) (O.faults out.new) }
 {
     match column(alloc, text, name) {
         Ok(samples) => match write_recording(head, samples.as_slice(), out) {

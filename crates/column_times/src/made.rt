@@ -28,14 +28,14 @@ fn mixed(state: u64, value: u64) -> u64 {
 
 /// The records of a text, counted, and the bytes of their last fields.
 pub fn walk_digest(alloc: Global, text: &[u8]) -> io::Result<u64> {
-    let mut rdr = ReaderBuilder::new()
+    let mut reader = ReaderBuilder::new()
         .has_headers(false)
         .flexible(true)
         .from_reader(alloc, text);
     let mut row = ByteRecord::new(alloc);
     let mut digest = 1;
     for _ in 0..u64::MAX {
-        match rdr.read_byte_record(&mut row) {
+        match reader.read_byte_record(&mut row) {
             Ok(true) => digest = mixed(digest, row.get(3).map_or(0, |field| field.len() as u64)),
             _ => return Ok(digest),
         }

@@ -1,5 +1,5 @@
 ghost use Rattle.std.specs.Prelude.{◌≡◌, ◌≢◌, ◌≤◌, ◌+◌, IfOk, IfErr, Err, length};
-ghost use Rattle.outside.specs.Fault.{Rose};
+ghost use Rattle.outside.specs.Fault.{CountRose};
 ghost use Rattle.site_config.specs.Configuration.{config_of_bytes};
 ghost use Rattle.site_config.specs.Valid.{IsConfig};
 ghost use Rattle.site_config.specs.declared.limits.TheConstants.{MAX_BYTES};
@@ -18,7 +18,7 @@ pub fn read_config<C: Source>(alloc: Global, config: &mut C) -> Result<Config, S
     ensures valid { IfOk result IsConfig }
     // What it may refuse with.
     ensures refusal { IfErr result IsRefusal }
-    ensures cause { result ≡ Err ReadFault → Rose (C.faults config.old) (C.faults config.new) }
+    ensures cause { result ≡ Err ReadFault → CountRose (C.faults config.old) (C.faults config.new) }
     ensures later { C.faults config.old ≤ C.faults config.new }
 {
     let Ok(mut bytes) = vec![in alloc; 0; MAX_BYTES + 1] else {
@@ -33,7 +33,7 @@ fn read_front<C: Source>(alloc: Global, config: &mut C, bytes: &mut [u8]) -> Res
     ensures meaning { C.tells → MeansAs (config_of_bytes (C.left config.old)) result }
     ensures valid { IfOk result IsConfig }
     ensures refusal { IfErr result IsRefusal }
-    ensures cause { result ≡ Err ReadFault → Rose (C.faults config.old) (C.faults config.new) }
+    ensures cause { result ≡ Err ReadFault → CountRose (C.faults config.old) (C.faults config.new) }
     ensures later { C.faults config.old ≤ C.faults config.new }
 {
     match take_front(config, bytes) {

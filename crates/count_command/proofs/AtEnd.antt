@@ -26,7 +26,7 @@ use Rattle.held_samples.specs.Told.{Acknowledges}
 use Rattle.held_samples.specs.Going.{IsStored}
 use Rattle.site_lanes.specs.Answers.{AllOpened, AllSound}
 use Rattle.site_lanes.specs.Ending.{lane_fault, NoFaultBelow}
-use Rattle.site_lanes.specs.Lanes.{Stood, AreLanes, AreHeldTo, HasEnded, HasNotFailed, IsWhole}
+use Rattle.site_lanes.specs.Lanes.{SourceStands, AreLanes, AreHeldTo, HasEnded, HasNotFailed, IsWhole}
 use Rattle.held_rounds.specs.Telling.{HasTold}
 use Rattle.count_command.specs.Holding.{HoldsBy, HeldAt, HeldCut, LeavesStore, whole, limited_length}
 use Rattle.count_command.specs.Printed.{AllStandFor, Prints}
@@ -59,12 +59,12 @@ sound_lane g (end.Torn b) other is = absurd cc
 sound_lane g end.ReadFault other is = absurd cc
 sound_lane g end.TooLong other is = absurd cc
 
-ended_at : (w : List ℤ) (rest : ℕ) (left : List ℕ) (at : ℕ) (e : End) → e ≡ end.Ended → Stood w rest left at e →
+ended_at : (w : List ℤ) (rest : ℕ) (left : List ℕ) (at : ℕ) (e : End) → e ≡ end.Ended → SourceStands w rest left at e →
     (at ≡ length w) × (rest ≡ 0)
-ended_at w rest left at e is s = subst (λ (x : End). Stood w rest left at x) is s
+ended_at w rest left at e is s = subst (λ (x : End). SourceStands w rest left at x) is s
 
 cut_at : (w : List ℤ) (rest : ℕ) (left : List ℕ) (at : ℕ) (e : End) → at ≤ MAX_SAMPLES → e ≢ end.More → e ≢ end.ReadFault →
-    Stood w rest left at e → at ≡ min (length w) (MAX_SAMPLES)
+    SourceStands w rest left at e → at ≡ min (length w) (MAX_SAMPLES)
 cut_at w rest left at end.More le other read s = absurd (other refl)
 cut_at w rest left at end.Ended le other read s = grind (arith, le, s.0)
 cut_at w rest left at (end.Torn b) le other read s = grind (arith, le, s.0)
@@ -153,7 +153,7 @@ module _ {C : Type 0} {tells : Type 0} {left : C → List ℕ} (c : Config) (fil
   r = recordings c files
 
   stood : (g : ℕ) (d : Lane C) (lt : g < length lanes) →
-      Stood (samples (body_in (files (file_of c g)))) (torn_bytes (body_in (files (file_of c g)))) (left (held g d lt).0.src)
+      SourceStands (samples (body_in (files (file_of c g)))) (torn_bytes (body_in (files (file_of c g)))) (left (held g d lt).0.src)
       (slice_index_or lanes g d).at (slice_index_or lanes g d).end
   stood g d lt = (are g d lt).stood t (held g d lt).0.src (held g d lt).0.has
 
@@ -182,7 +182,7 @@ module _ {C : Type 0} {tells : Type 0} {left : C → List ℕ} (c : Config) (fil
       (held g d lt).0.at (is d) (stood g d lt)
     where
       by_end : (at : ℕ) (l : List ℕ) (e : End) → at ≤ MAX_SAMPLES → lane_fault g e ≡ Some s →
-          Stood (samples (body_in (files (file_of c g)))) (torn_bytes (body_in (files (file_of c g)))) l at e → EndAnswers c files s
+          SourceStands (samples (body_in (files (file_of c g)))) (torn_bytes (body_in (files (file_of c g)))) l at e → EndAnswers c files s
       by_end at l end.More le is st = absurd cc
       by_end at l end.Ended le is st = absurd cc
       by_end at l (end.Torn b) le is st = subst (EndAnswers c files) (same_Some _ _ is)
@@ -324,17 +324,17 @@ over_refused c image files fault.DiskFault h = tt
 over_refused c image files fault.OutOfMemory h = tt
 
 -- and over a configuration that was read
-pub count_answers : (conf : Result Config ConfigFault) (c : Config) (image : Image) (files : Files) → conf ≡ Ok c → (s : Status) →
-    IsCounting s → MayAnswerOver c image files s → CountAnswers conf image files s
-count_answers conf c image files is Done k a = (c, is, a)
-count_answers conf c image files is WriteFault k a = (c, is, a)
-count_answers conf c image files is (Torn g b) k a = (c, is, a)
-count_answers conf c image files is (TooLong g) k a = (c, is, a)
-count_answers conf c image files is (Recording g f) k a = (c, is, a)
-count_answers conf c image files is (BadStore f) k a = (c, is, a)
-count_answers conf c image files is DiskFault k a = (c, is, a)
-count_answers conf c image files is ReadFault k a = tt
-count_answers conf c image files is OutOfMemory k a = tt
-count_answers conf c image files is Usage k a = absurd k
-count_answers conf c image files is (BadConfig f) k a = absurd k
-count_answers conf c image files is (Differs g w x y) k a = absurd k
+pub count_answers : (bridge : Result Config ConfigFault) (c : Config) (image : Image) (files : Files) → bridge ≡ Ok c → (s : Status) →
+    IsCounting s → MayAnswerOver c image files s → CountAnswers bridge image files s
+count_answers bridge c image files is Done k a = (c, is, a)
+count_answers bridge c image files is WriteFault k a = (c, is, a)
+count_answers bridge c image files is (Torn g b) k a = (c, is, a)
+count_answers bridge c image files is (TooLong g) k a = (c, is, a)
+count_answers bridge c image files is (Recording g f) k a = (c, is, a)
+count_answers bridge c image files is (BadStore f) k a = (c, is, a)
+count_answers bridge c image files is DiskFault k a = (c, is, a)
+count_answers bridge c image files is ReadFault k a = tt
+count_answers bridge c image files is OutOfMemory k a = tt
+count_answers bridge c image files is Usage k a = absurd k
+count_answers bridge c image files is (BadConfig f) k a = absurd k
+count_answers bridge c image files is (Differs g w x y) k a = absurd k

@@ -104,20 +104,20 @@ complete_resume (resume.Damaged x y) is = is
 complete_resume resume.DiskFault is = tt
 complete_resume resume.OutOfMemory is = tt
 
-pub complete_read : (conf : Result Config ConfigFault) (c : Config) → conf ≡ Ok c → (s : Status) → IsRefusal s →
-    MeansAs conf (Err s) → IsComplete s
-complete_read conf c is Done k a = absurd k
-complete_read conf c is Usage k a = absurd k
-complete_read conf c is (BadConfig f) k a = (let e : Ok c ≡ Err f = sym is ∙ a in cc)
-complete_read conf c is (BadStore f) k a = absurd k
-complete_read conf c is (Recording g f) k a = absurd k
-complete_read conf c is (Torn g b) k a = absurd k
-complete_read conf c is ReadFault k a = tt
-complete_read conf c is WriteFault k a = absurd k
-complete_read conf c is DiskFault k a = absurd k
-complete_read conf c is OutOfMemory k a = tt
-complete_read conf c is (TooLong g) k a = absurd k
-complete_read conf c is (Differs g w x y) k a = absurd k
+pub complete_read : (bridge : Result Config ConfigFault) (c : Config) → bridge ≡ Ok c → (s : Status) → IsRefusal s →
+    MeansAs bridge (Err s) → IsComplete s
+complete_read bridge c is Done k a = absurd k
+complete_read bridge c is Usage k a = absurd k
+complete_read bridge c is (BadConfig f) k a = (let e : Ok c ≡ Err f = sym is ∙ a in cc)
+complete_read bridge c is (BadStore f) k a = absurd k
+complete_read bridge c is (Recording g f) k a = absurd k
+complete_read bridge c is (Torn g b) k a = absurd k
+complete_read bridge c is ReadFault k a = tt
+complete_read bridge c is WriteFault k a = absurd k
+complete_read bridge c is DiskFault k a = absurd k
+complete_read bridge c is OutOfMemory k a = tt
+complete_read bridge c is (TooLong g) k a = absurd k
+complete_read bridge c is (Differs g w x y) k a = absurd k
 
 pub done_or_memory : (s : Status) → IsComplete s → (s ≡ ReadFault → ⊥) → (s ≡ WriteFault → ⊥) → (s ≡ DiskFault → ⊥) →
     (s ≡ Done) ⊎ (s ≡ OutOfMemory)

@@ -23,10 +23,11 @@ cut_read r leaves = by_refusal (λ (s : Status). HeldCut s r leaves) (λ f. tt) 
 pub prints_read : (c : Config) (w : ℕ → List ℤ) (old : List ℕ) (s : Status) → IsRefusal s → Prints s c w old old
 prints_read c w old = by_refusal (λ (s : Status). Prints s c w old old) (λ f. refl) refl refl
 
-pub answers_read : (conf : Result Config ConfigFault) (image : Image) (files : Files) (s : Status) → IsRefusal s → MeansAs conf (Err s) →
-    CountAnswers conf image files s
-answers_read conf image files =
-    by_refusal (λ (s : Status). MeansAs conf (Err s) → CountAnswers conf image files s) (λ f a. a) (λ a. tt) (λ a. tt)
+pub answers_read : (bridge : Result Config ConfigFault) (image : Image) (files : Files) (s : Status) → IsRefusal s →
+    MeansAs bridge (Err s) →
+    CountAnswers bridge image files s
+answers_read bridge image files =
+    by_refusal (λ (s : Status). MeansAs bridge (Err s) → CountAnswers bridge image files s) (λ f a. a) (λ a. tt) (λ a. tt)
 
 pub not_done_read : (s : Status) → IsRefusal s → s ≢ Done
 not_done_read = by_refusal (λ s. s ≢ Done) (λ f is. absurd cc) (λ is. absurd cc) (λ is. absurd cc)

@@ -64,10 +64,10 @@ MayAnswerOver c image files status =
     (h : HeadValue) × ((n : List ℕ) × ReadsAs c.setup h n image × RunAnswers c h.heads (slice_index n) files status)
 
 abbrev pub CountAnswers : Result Config ConfigFault → Image → Files → Status → Type 0
-CountAnswers conf image files (BadConfig fault) = conf ≡ Err fault
-CountAnswers conf image files ReadFault = Unit {0}
-CountAnswers conf image files OutOfMemory = Unit {0}
-CountAnswers conf image files status = (c : Config) × (conf ≡ Ok c) × MayAnswerOver c image files status
+CountAnswers bridge image files (BadConfig fault) = bridge ≡ Err fault
+CountAnswers bridge image files ReadFault = Unit {0}
+CountAnswers bridge image files OutOfMemory = Unit {0}
+CountAnswers bridge image files status = (c : Config) × (bridge ≡ Ok c) × MayAnswerOver c image files status
 
 abbrev pub IsEnding : Status → Type 0
 IsEnding Done = Unit {0}

@@ -1,5 +1,5 @@
 ghost use Rattle.std.specs.Prelude.{◌≡◌, ◌≢◌, ◌≤◌, ◌⊎◌, ℕ, List, length, IfSome, Ok};
-ghost use Rattle.outside.specs.Fault.{Rose};
+ghost use Rattle.outside.specs.Fault.{CountRose};
 ghost use Rattle.station.specs.Station.{Image, Lines};
 ghost use Rattle.round_making.specs.declared.TheConstants.{MAX_WORKERS};
 ghost use Rattle.segment_store.specs.Holds.{Holds};
@@ -54,47 +54,47 @@ pub fn count_command<
     requires workers { IfSome workers (λ n. (1 ≤ n) × (n ≤ MAX_WORKERS)) }
     // Every moment since entry holds at least what was acknowledged before, and what was told in
     // this call up to it.
-    ensures every_moment { K.tells → T.tells → C.tells → (conf : Config) →
-        config_of_bytes (C.left config.old) ≡ Ok conf → (a : List ℕ) →
-        AllHold (recordings conf (T.files site.old)) a (K.leaves station.old) →
+    ensures every_moment { K.tells → T.tells → C.tells → (bridge : Config) →
+        config_of_bytes (C.left config.old) ≡ Ok bridge → (a : List ℕ) →
+        AllHold (recordings bridge (T.files site.old)) a (K.leaves station.old) →
         (lines : Lines) (c : Image) → K.moments station.new (K.clock station.old) lines c →
-        IsKept (recordings conf (T.files site.old)) a (K.told station.old) lines c }
+        IsKept (recordings bridge (T.files site.old)) a (K.told station.old) lines c }
     // At a good end all samples are held, and where a recording is torn or too long, as many as a
     // recording may have.
-    ensures ended { K.tells → T.tells → C.tells → (conf : Config) →
-        config_of_bytes (C.left config.old) ≡ Ok conf → (a : List ℕ) →
-        AllHold (recordings conf (T.files site.old)) a (K.leaves station.old) →
-        HeldAt result (recordings conf (T.files site.old)) (K.leaves station.new) }
-    ensures cut { K.tells → T.tells → C.tells → (conf : Config) →
-        config_of_bytes (C.left config.old) ≡ Ok conf → (a : List ℕ) →
-        AllHold (recordings conf (T.files site.old)) a (K.leaves station.old) →
-        (Rose (T.faults site.old) (T.faults site.new) → ⊥) →
-        HeldCut result (recordings conf (T.files site.old)) (K.leaves station.new) }
+    ensures ended { K.tells → T.tells → C.tells → (bridge : Config) →
+        config_of_bytes (C.left config.old) ≡ Ok bridge → (a : List ℕ) →
+        AllHold (recordings bridge (T.files site.old)) a (K.leaves station.old) →
+        HeldAt result (recordings bridge (T.files site.old)) (K.leaves station.new) }
+    ensures cut { K.tells → T.tells → C.tells → (bridge : Config) →
+        config_of_bytes (C.left config.old) ≡ Ok bridge → (a : List ℕ) →
+        AllHold (recordings bridge (T.files site.old)) a (K.leaves station.old) →
+        (CountRose (T.faults site.old) (T.faults site.new) → ⊥) →
+        HeldCut result (recordings bridge (T.files site.old)) (K.leaves station.new) }
     // The report is that of all samples, and each round was acknowledged.
-    ensures prints { O.tells → K.tells → T.tells → C.tells → (conf : Config) →
-        config_of_bytes (C.left config.old) ≡ Ok conf → (a : List ℕ) →
-        AllHold (recordings conf (T.files site.old)) a (K.leaves station.old) →
-        Prints result conf (recordings conf (T.files site.old)).samples
+    ensures prints { O.tells → K.tells → T.tells → C.tells → (bridge : Config) →
+        config_of_bytes (C.left config.old) ≡ Ok bridge → (a : List ℕ) →
+        AllHold (recordings bridge (T.files site.old)) a (K.leaves station.old) →
+        Prints result bridge (recordings bridge (T.files site.old)).samples
         (O.written out.old) (O.written out.new) }
     ensures nothing { O.tells → (IsPrinting result → ⊥) → O.written out.new ≡ O.written out.old }
-    ensures acknowledged { K.tells → T.tells → C.tells → (conf : Config) →
-        config_of_bytes (C.left config.old) ≡ Ok conf → (n : List ℕ) →
-        Holds conf.setup (recordings conf (T.files site.old)).samples n (K.seen station.old) →
-        result ≡ Done → Acknowledges conf.block (recordings conf (T.files site.old)) n
+    ensures acknowledged { K.tells → T.tells → C.tells → (bridge : Config) →
+        config_of_bytes (C.left config.old) ≡ Ok bridge → (n : List ℕ) →
+        Holds bridge.setup (recordings bridge (T.files site.old)).samples n (K.seen station.old) →
+        result ≡ Done → Acknowledges bridge.block (recordings bridge (T.files site.old)) n
         (K.told station.old) (K.told station.new) }
     // Which answer it is.
     ensures answer { K.tells → T.tells → C.tells →
         CountAnswers (config_of_bytes (C.left config.old))
         (K.seen station.old) (T.files site.old) result }
-    ensures complete { K.tells → T.tells → C.tells → (conf : Config) →
-        config_of_bytes (C.left config.old) ≡ Ok conf → (n : List ℕ)
-        (h : Holds conf.setup (recordings conf (T.files site.old)).samples n
-        (K.seen station.old)) → HeadsFit conf h.head.heads (T.files site.old) →
-        AllSound conf (T.files site.old) (length conf.gauges) →
-        (Rose (C.faults config.old) (C.faults config.new) → ⊥) →
-        (Rose (T.faults site.old) (T.faults site.new) → ⊥) →
-        (Rose (K.faults station.old) (K.faults station.new) → ⊥) →
-        (Rose (O.faults out.old) (O.faults out.new) → ⊥) →
+    ensures complete { K.tells → T.tells → C.tells → (bridge : Config) →
+        config_of_bytes (C.left config.old) ≡ Ok bridge → (n : List ℕ)
+        (h : Holds bridge.setup (recordings bridge (T.files site.old)).samples n
+        (K.seen station.old)) → HeadsFit bridge h.head.heads (T.files site.old) →
+        AllSound bridge (T.files site.old) (length bridge.gauges) →
+        (CountRose (C.faults config.old) (C.faults config.new) → ⊥) →
+        (CountRose (T.faults site.old) (T.faults site.new) → ⊥) →
+        (CountRose (K.faults station.old) (K.faults station.new) → ⊥) →
+        (CountRose (O.faults out.old) (O.faults out.new) → ⊥) →
         (result ≡ Done) ⊎ (result ≡ OutOfMemory) }
     // After these nothing was stored and acknowledged.
     ensures quiet { K.tells → LeavesStore result → (name : List ℕ)
@@ -103,13 +103,13 @@ pub fn count_command<
         (K.told station.old) (K.told station.new) (K.seen station.old) (K.seen station.new)
         (K.leaves station.old) (K.leaves station.new) }
     ensures named { result ≢ Status.Usage }
-    ensures read { result ≡ ReadFault → Rose (C.faults config.old) (C.faults config.new)
-        ⊎ Rose (T.faults site.old) (T.faults site.new) }
-    ensures write { result ≡ WriteFault → Rose (O.faults out.old) (O.faults out.new) }
-    ensures disk { result ≡ DiskFault → Rose (K.faults station.old) (K.faults station.new) }
+    ensures read { result ≡ ReadFault → CountRose (C.faults config.old) (C.faults config.new)
+        ⊎ CountRose (T.faults site.old) (T.faults site.new) }
+    ensures write { result ≡ WriteFault → CountRose (O.faults out.old) (O.faults out.new) }
+    ensures disk { result ≡ DiskFault → CountRose (K.faults station.old) (K.faults station.new) }
     // The last line told is the answer's.
     ensures last { K.tells → C.tells → result ≢ Done →
-        Rose (K.faults station.old) (K.faults station.new)
+        CountRose (K.faults station.old) (K.faults station.new)
         ⊎ EndsIn (fault_line result (name_by (config_of_bytes (C.left config.old)) result))
         (K.told station.new) }
     // The gauges' files are asked for, in their order and each once, and no other.
@@ -122,15 +122,15 @@ pub fn count_command<
         tell_no_memory(station);
         return Status::OutOfMemory;
     };
-    let conf = match read_config(rt.alloc(), config) {
-        Ok(conf) => conf,
+    let bridge = match read_config(rt.alloc(), config) {
+        Ok(bridge) => bridge,
         Err(status) => {
             tell_fault(station, &mut line, status, "");
             return status;
         }
     };
-    let workers = workers.unwrap_or(conf.workers);
-    let status = count_by(rt, workers, &conf, site, station, out, gate);
-    tell_fault(station, &mut line, status, name_in(&conf, status));
+    let workers = workers.unwrap_or(bridge.workers);
+    let status = count_by(rt, workers, &bridge, site, station, out, gate);
+    tell_fault(station, &mut line, status, name_in(&bridge, status));
     status
 }

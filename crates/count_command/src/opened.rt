@@ -1,6 +1,6 @@
 ghost use Rattle.std.specs.Prelude.{◌≡◌, ◌≤◌, ℕ, ℤ, List, false, length};
 ghost use Rattle.std.specs.List.{All};
-ghost use Rattle.outside.specs.Fault.{Rose};
+ghost use Rattle.outside.specs.Fault.{CountRose};
 ghost use Rattle.outside.specs.Site.{Files};
 ghost use Rattle.round_making.specs.declared.TheConstants.{MAX_WORKERS};
 ghost use Rattle.segment_store.specs.Held.{ends_of};
@@ -8,7 +8,7 @@ ghost use Rattle.segment_store.specs.Moments.{IsThere};
 ghost use Rattle.segment_store.specs.Quiet.{IsQuiet};
 ghost use Rattle.site_config.specs.Valid.{IsConfig};
 ghost use Rattle.recorded.specs.Recorded.{recordings};
-ghost use Rattle.held_samples.specs.Going.{Going, IsStored};
+ghost use Rattle.held_samples.specs.Going.{HoldsSinceEntry, IsStored};
 ghost use Rattle.held_samples.specs.Told.{Acknowledges};
 ghost use Rattle.site_lanes.specs.Lanes.{AreLanes, AreHeldTo, HasSource, IsFaulty, HasNotFailed};
 ghost use Rattle.site_report.specs.Room.{HasRoom};
@@ -33,17 +33,17 @@ use std::sync::Wait;
 use std::thread::Threads;
 
 // Prints the report of what is held.
-fn print_held<O: Sink>(conf: &Config, store: &Store, report: &mut Report, out: &mut O) -> Status
-    requires conf { IsConfig conf.now }
-    requires setup { store.now.head.setup ≡ conf.now.setup }
-    requires gauges { length store.now.held ≡ length conf.now.gauges }
-    requires room { HasRoom conf.now report.old }
-    ensures prints { O.tells → (w : ℕ → List ℤ) → AllStandFor conf.now.setup w store.now.held →
-        Prints result conf.now w (O.written out.old) (O.written out.new) }
+fn print_held<O: Sink>(bridge: &Config, store: &Store, report: &mut Report, out: &mut O) -> Status
+    requires bridge { IsConfig bridge.now }
+    requires setup { store.now.head.setup ≡ bridge.now.setup }
+    requires gauges { length store.now.held ≡ length bridge.now.gauges }
+    requires room { HasRoom bridge.now report.old }
+    ensures prints { O.tells → (w : ℕ → List ℤ) → AllStandFor bridge.now.setup w store.now.held →
+        Prints result bridge.now w (O.written out.old) (O.written out.new) }
     ensures kind { IsPrinting result }
-    ensures write { result ≡ WriteFault → Rose (O.faults out.old) (O.faults out.new) }
+    ensures write { result ≡ WriteFault → CountRose (O.faults out.old) (O.faults out.new) }
 {
-    match report.print(conf, store, out) {
+    match report.print(bridge, store, out) {
         Ok(()) => Status::Done,
         Err(_) => Status::WriteFault,
     }
@@ -60,7 +60,7 @@ pub fn count_opened<
 >(
     rt: &R,
     workers: u8,
-    conf: &Config,
+    bridge: &Config,
     store: &mut Store,
     lanes: &mut [Lane<C>],
     station: &mut K,
@@ -68,65 +68,69 @@ pub fn count_opened<
     gate: &G,
 ) -> Status
     requires workers { (1 ≤ workers) × (workers ≤ MAX_WORKERS) }
-    requires conf { IsConfig conf.now }
+    requires bridge { IsConfig bridge.now }
     requires usable { store.old.shut ≡ false }
-    requires gauges { (length store.old.held ≡ length conf.now.gauges)
-        × (length lanes.old ≡ length conf.now.gauges) }
-    requires setup { store.old.head.setup ≡ conf.now.setup }
+    requires gauges { (length store.old.held ≡ length bridge.now.gauges)
+        × (length lanes.old ≡ length bridge.now.gauges) }
+    requires setup { store.old.head.setup ≡ bridge.now.setup }
     requires lanes { AreHeldTo (ends_of store.old.held) lanes.old }
     requires sources { All HasSource lanes.old }
     requires faulty { All (IsFaulty C.faults) lanes.old }
     requires on { K.tells → IsThere store.old (K.seen station.old) (K.leaves station.old) }
     // Every moment is kept, whatever it answers.
     ensures going { K.tells → C.tells → (files : Files) →
-        AreLanes C.tells C.left (recordings conf.now files) lanes.old →
-        IsStored (recordings conf.now files) store.old (K.seen station.old) (K.leaves station.old) →
-        Going (recordings conf.now files) (ends_of store.old.held)
+        AreLanes C.tells C.left (recordings bridge.now files) lanes.old →
+        IsStored (recordings bridge.now files) store.old (K.seen station.old)
+        (K.leaves station.old) →
+        HoldsSinceEntry (recordings bridge.now files) (ends_of store.old.held)
         (K.clock station.old) (K.moments station.old) (K.told station.old)
         (K.clock station.new) (K.moments station.new) (K.told station.new)
         (K.leaves station.new) (ends_of store.new.held) }
     // What is held at the end.
     ensures ended { K.tells → C.tells → (files : Files) →
-        AreLanes C.tells C.left (recordings conf.now files) lanes.old →
-        IsStored (recordings conf.now files) store.old (K.seen station.old) (K.leaves station.old) →
-        HeldAt result (recordings conf.now files) (K.leaves station.new) }
+        AreLanes C.tells C.left (recordings bridge.now files) lanes.old →
+        IsStored (recordings bridge.now files) store.old (K.seen station.old)
+        (K.leaves station.old) →
+        HeldAt result (recordings bridge.now files) (K.leaves station.new) }
     ensures cut { K.tells → C.tells → (files : Files) →
-        AreLanes C.tells C.left (recordings conf.now files) lanes.old →
-        IsStored (recordings conf.now files) store.old (K.seen station.old) (K.leaves station.old) →
+        AreLanes C.tells C.left (recordings bridge.now files) lanes.old →
+        IsStored (recordings bridge.now files) store.old (K.seen station.old)
+        (K.leaves station.old) →
         All HasNotFailed lanes.new →
-        HeldCut result (recordings conf.now files) (K.leaves station.new) }
+        HeldCut result (recordings bridge.now files) (K.leaves station.new) }
     // What is told and printed.
     ensures acknowledged { K.tells → C.tells → (files : Files) →
-        AreLanes C.tells C.left (recordings conf.now files) lanes.old → result ≡ Done →
-        Acknowledges conf.now.block (recordings conf.now files) (ends_of store.old.held)
+        AreLanes C.tells C.left (recordings bridge.now files) lanes.old → result ≡ Done →
+        Acknowledges bridge.now.block (recordings bridge.now files) (ends_of store.old.held)
         (K.told station.old) (K.told station.new) }
     ensures prints { O.tells → K.tells → C.tells → (files : Files) →
-        AreLanes C.tells C.left (recordings conf.now files) lanes.old →
-        IsStored (recordings conf.now files) store.old (K.seen station.old) (K.leaves station.old) →
-        Prints result conf.now (recordings conf.now files).samples
+        AreLanes C.tells C.left (recordings bridge.now files) lanes.old →
+        IsStored (recordings bridge.now files) store.old (K.seen station.old)
+        (K.leaves station.old) →
+        Prints result bridge.now (recordings bridge.now files).samples
         (O.written out.old) (O.written out.new) }
     ensures nothing { O.tells → (IsPrinting result → ⊥) → O.written out.new ≡ O.written out.old }
     // Which answer it is.
     ensures answer { C.tells → (files : Files) →
-        AreLanes C.tells C.left (recordings conf.now files) lanes.old →
-        EndAnswers conf.now files result }
+        AreLanes C.tells C.left (recordings bridge.now files) lanes.old →
+        EndAnswers bridge.now files result }
     ensures kind { IsEnding result }
     ensures quiet { K.tells → LeavesStore result → IsQuiet
         (K.clock station.old) (K.moments station.old) (K.clock station.new) (K.moments station.new)
         (K.told station.old) (K.told station.new) (K.seen station.old) (K.seen station.new)
         (K.leaves station.old) (K.leaves station.new) }
     ensures read { result ≡ ReadFault → All HasNotFailed lanes.new → ⊥ }
-    ensures write { result ≡ WriteFault → Rose (O.faults out.old) (O.faults out.new) }
-    ensures disk { result ≡ DiskFault → Rose (K.faults station.old) (K.faults station.new) }
+    ensures write { result ≡ WriteFault → CountRose (O.faults out.old) (O.faults out.new) }
+    ensures disk { result ≡ DiskFault → CountRose (K.faults station.old) (K.faults station.new) }
     ensures later { K.faults station.old ≤ K.faults station.new }
     ensures sources { All HasSource lanes.new }
     ensures faulty { All (IsFaulty C.faults) lanes.new }
     ensures count { length lanes.new ≡ length lanes.old }
 {
     let plan = Plan {
-        grid: conf.setup.grid,
-        gauges: conf.gauges.as_slice().len() as u16,
-        block: conf.block,
+        grid: bridge.setup.grid,
+        gauges: bridge.gauges.as_slice().len() as u16,
+        block: bridge.block,
         workers,
     };
     let Ok(mut prepared) = Prepared::new(rt.alloc(), &plan) else {
@@ -135,7 +139,7 @@ pub fn count_opened<
     let Ok(board) = Board::new(rt.alloc(), plan.gauges, plan.block, &plan.grid) else {
         return Status::OutOfMemory;
     };
-    let Ok(mut report) = Report::new(rt.alloc(), conf) else {
+    let Ok(mut report) = Report::new(rt.alloc(), bridge) else {
         return Status::OutOfMemory;
     };
     let Ok(mut line) = HeldLine::new(rt.alloc()) else {
@@ -146,7 +150,7 @@ pub fn count_opened<
         &mut prepared,
         board,
         lanes,
-        conf,
+        bridge,
         store,
         station,
         gate,
@@ -157,6 +161,6 @@ pub fn count_opened<
     }
     match first_fault(lanes) {
         Some(status) => status,
-        None => print_held(conf, store, &mut report, out),
+        None => print_held(bridge, store, &mut report, out),
     }
 }

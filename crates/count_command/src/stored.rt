@@ -10,7 +10,7 @@ ghost use Rattle.std.specs.Prelude.{
   vec_capacity,
 };
 ghost use Rattle.std.specs.List.{All};
-ghost use Rattle.outside.specs.Fault.{Rose};
+ghost use Rattle.outside.specs.Fault.{CountRose};
 ghost use Rattle.round_making.specs.declared.TheConstants.{MAX_WORKERS};
 ghost use Rattle.segment_store.specs.Held.{ends_of};
 ghost use Rattle.segment_store.specs.Holds.{Holds};
@@ -19,7 +19,7 @@ ghost use Rattle.segment_store.specs.Quiet.{IsQuiet};
 ghost use Rattle.site_config.specs.Valid.{IsConfig};
 ghost use Rattle.recorded.specs.Recorded.{recordings};
 ghost use Rattle.recorded.specs.Asked.{AsksFirst, file_names};
-ghost use Rattle.held_samples.specs.Going.{AllHold, Going, Safe, IsStored};
+ghost use Rattle.held_samples.specs.Going.{AllHold, HoldsSinceEntry, Safe, IsStored};
 ghost use Rattle.held_samples.specs.Told.{Acknowledges};
 ghost use Rattle.site_lanes.specs.Answers.{HeadsFit, AllSound};
 ghost use Rattle.site_lanes.specs.Lanes.{HasSource, IsFaulty, HasNotFailed};
@@ -50,7 +50,7 @@ fn count_stored<
 >(
     rt: &R,
     workers: u8,
-    conf: &Config,
+    bridge: &Config,
     store: &mut Store,
     site: &mut T,
     lanes: &mut Vec<Lane<T::Src>>,
@@ -59,41 +59,43 @@ fn count_stored<
     gate: &G,
 ) -> Status
     requires workers { (1 ≤ workers) × (workers ≤ MAX_WORKERS) }
-    requires conf { IsConfig conf.now }
+    requires bridge { IsConfig bridge.now }
     requires home { T.out site.old ≡ 0 }
     requires none { vec_len lanes.old ≡ 0 }
-    requires room { length conf.now.gauges ≤ vec_capacity lanes.old }
+    requires room { length bridge.now.gauges ≤ vec_capacity lanes.old }
     requires usable { store.old.shut ≡ false }
-    requires gauges { (length store.old.held ≡ length conf.now.gauges)
-        × (length store.old.head.heads ≡ length conf.now.gauges) }
-    requires setup { store.old.head.setup ≡ conf.now.setup }
+    requires gauges { (length store.old.held ≡ length bridge.now.gauges)
+        × (length store.old.head.heads ≡ length bridge.now.gauges) }
+    requires setup { store.old.head.setup ≡ bridge.now.setup }
     requires on { K.tells → IsThere store.old (K.seen station.old) (K.leaves station.old) }
     // Every moment is kept, whatever it answers.
-    ensures going { K.tells → T.tells → IsStored (recordings conf.now (T.files site.old)) store.old
+    ensures going { K.tells → T.tells → IsStored
+        (recordings bridge.now (T.files site.old)) store.old
         (K.seen station.old) (K.leaves station.old) →
-        Going (recordings conf.now (T.files site.old)) (ends_of store.old.held)
+        HoldsSinceEntry (recordings bridge.now (T.files site.old)) (ends_of store.old.held)
         (K.clock station.old) (K.moments station.old) (K.told station.old)
         (K.clock station.new) (K.moments station.new) (K.told station.new)
         (K.leaves station.new) (ends_of store.new.held) }
     // What is held at the end.
-    ensures ended { K.tells → T.tells → IsStored (recordings conf.now (T.files site.old)) store.old
+    ensures ended { K.tells → T.tells → IsStored
+        (recordings bridge.now (T.files site.old)) store.old
         (K.seen station.old) (K.leaves station.old) →
-        HeldAt result (recordings conf.now (T.files site.old)) (K.leaves station.new) }
-    ensures cut { K.tells → T.tells → IsStored (recordings conf.now (T.files site.old)) store.old
+        HeldAt result (recordings bridge.now (T.files site.old)) (K.leaves station.new) }
+    ensures cut { K.tells → T.tells → IsStored (recordings bridge.now (T.files site.old)) store.old
         (K.seen station.old) (K.leaves station.old) → All HasNotFailed lanes.new.items →
-        HeldCut result (recordings conf.now (T.files site.old)) (K.leaves station.new) }
+        HeldCut result (recordings bridge.now (T.files site.old)) (K.leaves station.new) }
     // What is told and printed.
     ensures acknowledged { K.tells → T.tells → result ≡ Done →
-        Acknowledges conf.now.block (recordings conf.now (T.files site.old))
+        Acknowledges bridge.now.block (recordings bridge.now (T.files site.old))
         (ends_of store.old.held) (K.told station.old) (K.told station.new) }
     ensures prints { O.tells → K.tells → T.tells →
-        IsStored (recordings conf.now (T.files site.old)) store.old
+        IsStored (recordings bridge.now (T.files site.old)) store.old
         (K.seen station.old) (K.leaves station.old) →
-        Prints result conf.now (recordings conf.now (T.files site.old)).samples
+        Prints result bridge.now (recordings bridge.now (T.files site.old)).samples
         (O.written out.old) (O.written out.new) }
     ensures nothing { O.tells → (IsPrinting result → ⊥) → O.written out.new ≡ O.written out.old }
     // Which answer it is.
-    ensures answer { T.tells → RunAnswers conf.now store.old.head.heads
+    ensures answer { T.tells → RunAnswers bridge.now store.old.head.heads
         (slice_index (ends_of store.old.held)) (T.files site.old) result }
     ensures kind { IsRunning result }
     ensures quiet { K.tells → LeavesStore result → IsQuiet
@@ -101,11 +103,11 @@ fn count_stored<
         (K.told station.old) (K.told station.new) (K.seen station.old) (K.seen station.new)
         (K.leaves station.old) (K.leaves station.new) }
     ensures read { result ≡ ReadFault → All HasNotFailed lanes.new.items →
-        Rose (T.faults site.old) (T.faults site.new) }
-    ensures write { result ≡ WriteFault → Rose (O.faults out.old) (O.faults out.new) }
-    ensures disk { result ≡ DiskFault → Rose (K.faults station.old) (K.faults station.new) }
+        CountRose (T.faults site.old) (T.faults site.new) }
+    ensures write { result ≡ WriteFault → CountRose (O.faults out.old) (O.faults out.new) }
+    ensures disk { result ≡ DiskFault → CountRose (K.faults station.old) (K.faults station.new) }
     ensures asked { AsksFirst (T.names_asked site.old) (T.names_asked site.new)
-        (file_names conf.now) }
+        (file_names bridge.now) }
     ensures out { T.out site.new ≡ vec_len lanes.new }
     ensures sources { All HasSource lanes.new.items }
     ensures faulty { All (IsFaulty T.Src.faults) lanes.new.items }
@@ -113,14 +115,14 @@ fn count_stored<
     ensures site { T.faults site.old ≤ T.faults site.new }
     ensures later { K.faults station.old ≤ K.faults station.new }
 {
-    match open_lanes(conf, store, site, lanes) {
+    match open_lanes(bridge, store, site, lanes) {
         Ok(()) => {}
         Err(status) => return status,
     }
     count_opened(
         rt,
         workers,
-        conf,
+        bridge,
         store,
         lanes.as_mut_slice(),
         station,
@@ -139,72 +141,72 @@ pub fn count_by<
 >(
     rt: &R,
     workers: u8,
-    conf: &Config,
+    bridge: &Config,
     site: &mut T,
     station: &mut K,
     out: &mut O,
     gate: &G,
 ) -> Status
     requires workers { (1 ≤ workers) × (workers ≤ MAX_WORKERS) }
-    requires conf { IsConfig conf.now }
+    requires bridge { IsConfig bridge.now }
     requires home { T.out site.old ≡ 0 }
     // Every moment is kept, whatever it answers.
     ensures safe { K.tells → T.tells → (a : List ℕ) →
-        AllHold (recordings conf.now (T.files site.old)) a (K.leaves station.old) →
-        Safe (recordings conf.now (T.files site.old)) a
+        AllHold (recordings bridge.now (T.files site.old)) a (K.leaves station.old) →
+        Safe (recordings bridge.now (T.files site.old)) a
         (K.clock station.old) (K.moments station.old) (K.told station.old)
         (K.clock station.new) (K.moments station.new) (K.told station.new)
         (K.leaves station.new) }
     // What is held at the end.
     ensures ended { K.tells → T.tells → (a : List ℕ) →
-        AllHold (recordings conf.now (T.files site.old)) a (K.leaves station.old) →
-        HeldAt result (recordings conf.now (T.files site.old)) (K.leaves station.new) }
+        AllHold (recordings bridge.now (T.files site.old)) a (K.leaves station.old) →
+        HeldAt result (recordings bridge.now (T.files site.old)) (K.leaves station.new) }
     ensures cut { K.tells → T.tells → (a : List ℕ) →
-        AllHold (recordings conf.now (T.files site.old)) a (K.leaves station.old) →
-        (Rose (T.faults site.old) (T.faults site.new) → ⊥) →
-        HeldCut result (recordings conf.now (T.files site.old)) (K.leaves station.new) }
+        AllHold (recordings bridge.now (T.files site.old)) a (K.leaves station.old) →
+        (CountRose (T.faults site.old) (T.faults site.new) → ⊥) →
+        HeldCut result (recordings bridge.now (T.files site.old)) (K.leaves station.new) }
     // What is told and printed.
     ensures acknowledged { K.tells → T.tells → (n : List ℕ) →
-        Holds conf.now.setup (recordings conf.now (T.files site.old)).samples n
+        Holds bridge.now.setup (recordings bridge.now (T.files site.old)).samples n
         (K.seen station.old) → result ≡ Done →
-        Acknowledges conf.now.block (recordings conf.now (T.files site.old)) n
+        Acknowledges bridge.now.block (recordings bridge.now (T.files site.old)) n
         (K.told station.old) (K.told station.new) }
     ensures prints { O.tells → K.tells → T.tells → (a : List ℕ) →
-        AllHold (recordings conf.now (T.files site.old)) a (K.leaves station.old) →
-        Prints result conf.now (recordings conf.now (T.files site.old)).samples
+        AllHold (recordings bridge.now (T.files site.old)) a (K.leaves station.old) →
+        Prints result bridge.now (recordings bridge.now (T.files site.old)).samples
         (O.written out.old) (O.written out.new) }
     ensures nothing { O.tells → (IsPrinting result → ⊥) → O.written out.new ≡ O.written out.old }
     // Which answer it is.
     ensures answer { K.tells → T.tells →
-        MayAnswerOver conf.now (K.seen station.old) (T.files site.old) result }
+        MayAnswerOver bridge.now (K.seen station.old) (T.files site.old) result }
     // Over a sound store and sound recordings there is no refusal.
     ensures complete { K.tells → T.tells → (n : List ℕ)
-        (h : Holds conf.now.setup (recordings conf.now (T.files site.old)).samples n
-        (K.seen station.old)) → HeadsFit conf.now h.head.heads (T.files site.old) →
-        AllSound conf.now (T.files site.old) (length conf.now.gauges) → IsComplete result }
+        (h : Holds bridge.now.setup (recordings bridge.now (T.files site.old)).samples n
+        (K.seen station.old)) → HeadsFit bridge.now h.head.heads (T.files site.old) →
+        AllSound bridge.now (T.files site.old) (length bridge.now.gauges) → IsComplete result }
     ensures kind { IsCounting result }
     ensures quiet { K.tells → LeavesStore result → IsQuiet
         (K.clock station.old) (K.moments station.old) (K.clock station.new) (K.moments station.new)
         (K.told station.old) (K.told station.new) (K.seen station.old) (K.seen station.new)
         (K.leaves station.old) (K.leaves station.new) }
-    ensures read { result ≡ ReadFault → Rose (T.faults site.old) (T.faults site.new) }
-    ensures write { result ≡ WriteFault → Rose (O.faults out.old) (O.faults out.new) }
-    ensures disk { result ≡ DiskFault → Rose (K.faults station.old) (K.faults station.new) }
+    ensures read { result ≡ ReadFault → CountRose (T.faults site.old) (T.faults site.new) }
+    ensures write { result ≡ WriteFault → CountRose (O.faults out.old) (O.faults out.new) }
+    ensures disk { result ≡ DiskFault → CountRose (K.faults station.old) (K.faults station.new) }
     ensures asked { AsksFirst (T.names_asked site.old) (T.names_asked site.new)
-        (file_names conf.now) }
+        (file_names bridge.now) }
     ensures back { T.out site.new ≡ 0 }
     ensures files { T.tells → T.files site.new ≡ T.files site.old }
     ensures later { K.faults station.old ≤ K.faults station.new }
 {
-    let mut store = match Store::resume(rt.alloc(), station, &conf.setup) {
+    let mut store = match Store::resume(rt.alloc(), station, &bridge.setup) {
         Ok(store) => store,
         Err(fault) => return status_of(fault),
     };
-    let Ok(mut lanes) = Vec::with_capacity(rt.alloc(), conf.gauges.as_slice().len()) else {
+    let Ok(mut lanes) = Vec::with_capacity(rt.alloc(), bridge.gauges.as_slice().len()) else {
         return Status::OutOfMemory;
     };
     let status = count_stored(
-        rt, workers, conf, &mut store, site, &mut lanes, station, out, gate,
+        rt, workers, bridge, &mut store, site, &mut lanes, station, out, gate,
     );
     give_back(site, lanes);
     status

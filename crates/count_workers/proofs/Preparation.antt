@@ -17,7 +17,7 @@ use Rattle.lane_loans.proofs.Walking.{some_of}
 use Rattle.block_pool.specs.Units.{PoolValue}
 use Rattle.board.specs.Board.{BoardValue}
 use Rattle.collector.specs.declared.collecting.Return.{Return}
-use Rattle.count_workers.specs.Preparing.{IsFreshReader, NewReaders, Connected, NewWorker}
+use Rattle.count_workers.specs.Preparing.{IsFreshReader, NewReaders, ConnectsRing, NewWorker}
 use Rattle.flow.specs.declared.TheConstants.{BLOCKS_PER_WINDOW}
 
 pushed_by : {A : Type 0} → (P : ℕ → A → Type 0) (xs : List A) (x : A) (k u : ℕ) (d : A) → length xs ≡ k → (u < k → P u (get_or xs u d))
@@ -57,7 +57,7 @@ two_pushed R xs ys zs ws a b k p q m n before here u d e l =
     (subst (λ j. R a (get_or (zs ++ b ∷ []) j c)) n (subst (R a) (sym (get_or-append_seam zs b [] c)) here))) u d l e
 
 module _ {C : Type 0} where
-  pub fresh_more : (plan : Plan) (g k : ℕ) (old new : Reader C) (t : Taker Item) → IsFreshReader plan g k old → Connected old new t
+  pub fresh_more : (plan : Plan) (g k : ℕ) (old new : Reader C) (t : Taker Item) → IsFreshReader plan g k old → ConnectsRing old new t
       → IsFreshReader plan g (k + 1) new
   fresh_more plan g k old new t h c = record {
     src = c.src ∙ h.src;
@@ -76,7 +76,7 @@ module _ {C : Type 0} where
 
   -- the rings that were there
   pub even_still : (w : Worker) (old new : Reader C) (g v k : ℕ) (t : Taker Item) → vec_len old.desk.feeders ≡ k → v < k
-      → Connected old new t → IsEven w old g v → IsEven w new g v
+      → ConnectsRing old new t → IsEven w old g v → IsEven w new g v
   even_still w old new g v k t n l c h =
       let a = old.desk.feeders.ok.0 in
       let same : (e : Feeder Item) → get_or new.desk.feeders.items v e ≡ get_or old.desk.feeders.items v e =
@@ -88,7 +88,7 @@ module _ {C : Type 0} where
 
   -- and the new one
   pub even_new : (w : Worker) (old new : Reader C) (g k : ℕ) → vec_len old.desk.feeders ≡ k
-      → ((e : Taker Item) → Connected old new (get_or w.takers.items g e)) → IsEven w new g k
+      → ((e : Taker Item) → ConnectsRing old new (get_or w.takers.items g e)) → IsEven w new g k
   even_new w old new g k n c =
       let a = old.desk.feeders.ok.0 in
       let last : (d : Taker Item) (e : Feeder Item) → get_or new.desk.feeders.items k e ≡ (c d).feeder = λ d e.

@@ -27,7 +27,7 @@ module _ {C : Type 0} where
       IsFreshReader plan g rings (slice_index_or readers g d)
 
   -- a ring more, in which nothing is
-  pub record Connected (old new : Reader C) (taker : Taker Item) : Type 0 where
+  pub record ConnectsRing (old new : Reader C) (taker : Taker Item) : Type 0 where
     pub src : new.src ≡ old.src
     pub gauge : new.desk.gauge ≡ old.desk.gauge
     pub size : new.desk.block ≡ old.desk.block
@@ -46,4 +46,4 @@ module _ {C : Type 0} where
     pub long : length new ≡ length old
     pub takers : vec_len w.takers ≡ length old
     pub rings : (g : ℕ) (d : Reader C) (e : Taker Item) → g < length old
-        → Connected (slice_index_or old g d) (slice_index_or new g d) (slice_index_or w.takers.items g e)
+        → ConnectsRing (slice_index_or old g d) (slice_index_or new g d) (slice_index_or w.takers.items g e)

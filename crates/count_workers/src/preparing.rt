@@ -1,5 +1,5 @@
 ghost use Rattle.std.specs.Prelude.{◌≡◌, ◌+◌, ◌*◌, ◌<◌, ◌≤◌, ℕ, length, slice_index_or, vec_len, vec_capacity, IfOk};
-ghost use Rattle.count_workers.specs.Preparing.{IsFreshReader, NewReaders, Connected, NewWorker};
+ghost use Rattle.count_workers.specs.Preparing.{IsFreshReader, NewReaders, ConnectsRing, NewWorker};
 
 use crate::{OutOfMemory, Plan};
 use block_workers::{Back, Desk, Item, Reader, Worker};
@@ -52,7 +52,7 @@ pub(crate) fn new_readers<C: Source>(
 // Makes a ring from the reader, which has places for a round's blocks and a mark.
 fn connect<C: Source>(alloc: Global, reader: &mut Reader<C>) -> Result<Taker<Item>, OutOfMemory>
     requires { vec_len reader.old.desk.feeders < vec_capacity reader.old.desk.feeders }
-    ensures { IfOk result (λ taker. Connected reader.old reader.new taker) }
+    ensures { IfOk result (λ taker. ConnectsRing reader.old reader.new taker) }
 {
     let (feeder, taker) = ring(alloc, BLOCKS_PER_WINDOW + 1)?;
     reader.desk.feeders.push_reserved(feeder);

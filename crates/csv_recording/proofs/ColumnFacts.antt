@@ -3,7 +3,7 @@ use Rattle.std.proofs.Common.{◌≡◌, ◌+◌, if◌then◌else◌, ◌∙◌
 use Rattle.std.specs.Str.{bytes_eq}
 use Rattle.std.proofs.lemmas.List.{append-nil}
 use Rattle.csv.specs.Records.{field_at}
-use Rattle.csv_recording.specs.Column.{◌>>=◌, Gives, place_of, sample_of_row, samples_of_rows}
+use Rattle.csv_recording.specs.Column.{◌>>=◌, GivesColumn, place_of, sample_of_row, samples_of_rows}
 use Rattle.csv_recording.specs.declared.columns.ColumnFault.{ColumnFault}
 use Rattle.csv_recording.specs.declared.columns.ColumnFault.TheVariants.{NoColumn, ShortRow, Cell, OutOfMemory}
 
@@ -76,7 +76,7 @@ unfolding samples_of_rows
 behind-fault place row fields rows samples fault e = rw e refl
 
 pub gives-fault : {S : Type 0} (see : S → List ℤ) (fault : ColumnFault) (asked : Result (List ℤ) ColumnFault) → asked ≡ Err fault
-    → Gives see (Err fault) asked
+    → GivesColumn see (Err fault) asked
 gives-fault see NoColumn asked e = e
 gives-fault see (ShortRow row fields) asked e = e
 gives-fault see (Cell row) asked e = e

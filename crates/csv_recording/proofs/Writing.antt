@@ -6,7 +6,7 @@ use Rattle.csv.specs.declared.writer.QuoteStyle.TheVariants as style
 use Rattle.csv.specs.declared.writer.Writer.{Writer}
 use Rattle.csv.proofs.WriteFacts.{row-more, blank-more}
 use Rattle.csv_recording.specs.Sheet.{cells_at, rows_from, text_of_rows}
-use Rattle.csv_recording.specs.Writers.{Wrote}
+use Rattle.csv_recording.specs.Writers.{HasWrittenText}
 
 abbrev Bytes : Type 0
 Bytes = Vec ℕ Global
@@ -28,7 +28,7 @@ pub record TookField (field : List ℕ) (w new : Writer Bytes) : Type 0 where
   pub stays : (has_written w ≡ true) → has_written new ≡ true
 
 pub field_more : (w new : Writer Bytes) (text : List ℕ) (fields : List (List ℕ)) (field : List ℕ) → length fields < 2 ^ 64 - 1
-    → TookField field w new → Wrote text fields w → Wrote text (fields ++ field ∷ []) new
+    → TookField field w new → HasWrittenText text fields w → HasWrittenText text (fields ++ field ∷ []) new
 field_more w new text fields field few e h =
     let size : length (fields ++ field ∷ []) ≡ length fields + 1 = length-append fields (field ∷ []) in
     let added = rw (h.setup, h.count) at e.text no_numbers in
@@ -48,8 +48,8 @@ pub record EndedRecord (w new : Writer Bytes) : Type 0 where
   pub wrote : has_written new ≡ false
   pub same : writer_setup new ≡ writer_setup w
 
-pub record_done : (w new : Writer Bytes) (text : List ℕ) (fields : List (List ℕ)) → EndedRecord w new → Wrote text fields w
-    → Wrote (text ++ row_text default_writer fields) [] new
+pub record_done : (w new : Writer Bytes) (text : List ℕ) (fields : List (List ℕ)) → EndedRecord w new → HasWrittenText text fields w
+    → HasWrittenText (text ++ row_text default_writer fields) [] new
 unfolding is_blank
 record_done w new text fields e h =
     let added = rw (h.setup, h.count) at e.bytes in
@@ -75,6 +75,6 @@ rows_next recordings i (suc n) =
 
 -- a writer that has just been made
 pub begun : (w : Writer Bytes) → writer_setup w ≡ default_writer → vec_items (writer_under w) ++ writer_pending w ≡ []
-    → fields_written w ≡ 0 → has_written w ≡ false → Wrote [] [] w
+    → fields_written w ≡ 0 → has_written w ≡ false → HasWrittenText [] [] w
 unfolding is_blank
 begun w setup bytes count wrote = record { setup = setup; bytes = bytes; count = count; blank = rw wrote refl }

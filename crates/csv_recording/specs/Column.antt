@@ -23,15 +23,15 @@ abbrev pub ◌>>=◌ : {A B : Type 0} → Result A ColumnFault → (A → Result
 Ok x >>= f = f x
 Err fault >>= f = Err fault
 
-abbrev pub present : {A : Type 0} → Option A → ColumnFault → Result A ColumnFault
-present (Some x) fault = Ok x
-present None fault = Err fault
+abbrev pub value_or_fault : {A : Type 0} → Option A → ColumnFault → Result A ColumnFault
+value_or_fault (Some x) fault = Ok x
+value_or_fault None fault = Err fault
 
 -- the sample that the row of this number has at this place
 abbrev pub sample_of_row : ℕ → ℕ → List (List ℕ) → Result ℤ ColumnFault
 sample_of_row place row fields = do
-  cell ← present (field_at fields place) (ShortRow row (length fields))
-  present (cell_sample cell) (Cell row)
+  cell ← value_or_fault (field_at fields place) (ShortRow row (length fields))
+  value_or_fault (cell_sample cell) (Cell row)
 
 -- those of rows, the first of which has this number
 unfoldable pub samples_of_rows : ℕ → ℕ → List (List (List ℕ)) → Result (List ℤ) ColumnFault
@@ -45,16 +45,16 @@ samples_of_rows place row (fields ∷ rows) = do
 abbrev pub column_in : List ℕ → List (List (List ℕ)) → Result (List ℤ) ColumnFault
 column_in name [] = Err NoColumn
 column_in name (header ∷ rows) = do
-  place ← present (place_of name header) NoColumn
+  place ← value_or_fault (place_of name header) NoColumn
   samples_of_rows place 0 rows
 
 abbrev pub column_of : List ℕ → List ℕ → Result (List ℤ) ColumnFault
 column_of name text = column_in name (records_of text)
 
 -- What a reading of the column answers, by what its samples are seen as: want of memory may come at any time.
-abbrev pub Gives : {S : Type 0} → (S → List ℤ) → Result S ColumnFault → Result (List ℤ) ColumnFault → Type 0
-Gives see (Ok samples) asked = asked ≡ Ok (see samples)
-Gives see (Err NoColumn) asked = asked ≡ Err NoColumn
-Gives see (Err (ShortRow row fields)) asked = asked ≡ Err (ShortRow row fields)
-Gives see (Err (Cell row)) asked = asked ≡ Err (Cell row)
-Gives see (Err OutOfMemory) asked = ⊤
+abbrev pub GivesColumn : {S : Type 0} → (S → List ℤ) → Result S ColumnFault → Result (List ℤ) ColumnFault → Type 0
+GivesColumn see (Ok samples) asked = asked ≡ Ok (see samples)
+GivesColumn see (Err NoColumn) asked = asked ≡ Err NoColumn
+GivesColumn see (Err (ShortRow row fields)) asked = asked ≡ Err (ShortRow row fields)
+GivesColumn see (Err (Cell row)) asked = asked ≡ Err (Cell row)
+GivesColumn see (Err OutOfMemory) asked = ⊤

@@ -6,7 +6,7 @@ use Rattle.csv.specs.declared.writer.Writer.{Writer}
 
 -- This text of whole records, and then these fields of one more. Whether the fields show a byte is known as long as
 -- that counts: a record that shows none gets two quotes at its end.
-pub record Wrote (text : List ℕ) (fields : List (List ℕ)) (w : Writer (Vec ℕ Global)) : Type 0 where
+pub record HasWrittenText (text : List ℕ) (fields : List (List ℕ)) (w : Writer (Vec ℕ Global)) : Type 0 where
   pub setup : writer_setup w ≡ default_writer
   pub bytes : vec_items (writer_under w) ++ writer_pending w ≡ text ++ row_body default_writer fields
   pub count : fields_written w ≡ length fields

@@ -1,7 +1,7 @@
 ghost use Rattle.std.specs.Prelude.{◌≡◌, length, Some};
 ghost use Rattle.csv.specs.Records.{fields_of};
 ghost use Rattle.csv_recording.specs.Column as spec;
-ghost use Rattle.csv_recording.specs.Column.{Gives, column_of};
+ghost use Rattle.csv_recording.specs.Column.{GivesColumn, column_of};
 ghost use Rattle.csv_recording.specs.declared.columns.ColumnFault.TheVariants.{OutOfMemory};
 
 use crate::Samples;
@@ -68,7 +68,7 @@ impl Error for ColumnFault {}
 ///
 /// The first row that is faulty decides.
 pub fn column(alloc: Global, bytes: &[u8], name: &[u8]) -> Result<Samples, ColumnFault>
-    ensures { Gives (λ samples. samples.items) result (column_of name.now bytes.now) }
+    ensures { GivesColumn (λ samples. samples.items) result (column_of name.now bytes.now) }
 {
     let mut reader = reader_over(alloc, bytes);
     let mut row = ByteRecord::new(alloc);

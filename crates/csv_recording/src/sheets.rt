@@ -4,7 +4,7 @@ ghost use Rattle.csv.specs.Writing.{default_writer, row_text};
 ghost use Rattle.csv_recording.specs.Cells.{missing, cell_text};
 ghost use Rattle.csv_recording.specs.Sheet.{longest as longest_of, cells_at, rows_from};
 ghost use Rattle.csv_recording.specs.Sheet.{sheet_text, text_of_rows};
-ghost use Rattle.csv_recording.specs.Writers.{Wrote};
+ghost use Rattle.csv_recording.specs.Writers.{HasWrittenText};
 
 use crate::Samples;
 use csv::{Writer, WriterBuilder};
@@ -47,8 +47,9 @@ fn text_of(alloc: Global, names: &[String], samples: &[Samples]) -> Result<Vec<u
 }
 
 fn write_names(writer: &mut Writer<Vec<u8>>, names: &[String]) -> Result<(), AllocError>
-    ensures { OnOk result ((text : List ℕ) → Wrote text [] writer.old →
-        Wrote (text ++ row_text default_writer (map string_bytes names.now)) [] writer.new) }
+    ensures { OnOk result ((text : List ℕ) → HasWrittenText text [] writer.old →
+        HasWrittenText (text ++ row_text default_writer (map string_bytes names.now))
+        [] writer.new) }
 {
     for name in names {
         write_field(writer, name.as_bytes())?;
@@ -57,8 +58,8 @@ fn write_names(writer: &mut Writer<Vec<u8>>, names: &[String]) -> Result<(), All
 }
 
 fn write_rows(writer: &mut Writer<Vec<u8>>, recordings: &[Samples]) -> Result<(), AllocError>
-    ensures { OnOk result ((text : List ℕ) → Wrote text [] writer.old →
-        Wrote (text ++ text_of_rows (rows_from (map (λ s. s.items) recordings.now) 0
+    ensures { OnOk result ((text : List ℕ) → HasWrittenText text [] writer.old →
+        HasWrittenText (text ++ text_of_rows (rows_from (map (λ s. s.items) recordings.now) 0
         (longest_of (map (λ s. s.items) recordings.now)))) [] writer.new) }
 {
     for row in 0..longest(recordings) {
@@ -82,8 +83,9 @@ fn write_row(
     recordings: &[Samples],
     row: usize,
 ) -> Result<(), AllocError>
-    ensures { OnOk result ((text : List ℕ) → Wrote text [] writer.old →
-        Wrote (text ++ row_text default_writer (cells_at row (map (λ s. s.items) recordings.now)))
+    ensures { OnOk result ((text : List ℕ) → HasWrittenText text [] writer.old →
+        HasWrittenText (text ++ row_text default_writer
+        (cells_at row (map (λ s. s.items) recordings.now)))
         [] writer.new) }
 {
     for samples in recordings {
@@ -95,8 +97,9 @@ fn write_row(
 // The sample of this number, or that there is none.
 fn write_cell(writer: &mut Writer<Vec<u8>>, samples: &[i32], row: usize) -> Result<(), AllocError>
     ensures { OnOk result ((text : List ℕ) (fields : List (List ℕ)) → length fields < 2 ^ 64 - 1 →
-        Wrote text fields writer.old →
-        Wrote text (fields ++ cell_text (slice_index_or samples.now row missing) ∷ []) writer.new) }
+        HasWrittenText text fields writer.old →
+        HasWrittenText text (fields ++ cell_text (slice_index_or samples.now row missing) ∷
+        []) writer.new) }
 {
     match samples.get(row) {
         Some(&sample) if sample != i32::MIN => {
@@ -109,7 +112,8 @@ fn write_cell(writer: &mut Writer<Vec<u8>>, samples: &[i32], row: usize) -> Resu
 // A writer to memory fails for want of memory alone.
 fn write_field(writer: &mut Writer<Vec<u8>>, field: &[u8]) -> Result<(), AllocError>
     ensures { OnOk result ((text : List ℕ) (fields : List (List ℕ)) → length fields < 2 ^ 64 - 1 →
-        Wrote text fields writer.old → Wrote text (fields ++ field.now ∷ []) writer.new) }
+        HasWrittenText text fields writer.old → HasWrittenText text
+        (fields ++ field.now ∷ []) writer.new) }
 {
     if writer.write_field(field).is_err() {
         return Err(AllocError);
@@ -119,8 +123,9 @@ fn write_field(writer: &mut Writer<Vec<u8>>, field: &[u8]) -> Result<(), AllocEr
 
 // As with a field; the records are all of one length.
 fn end_record(writer: &mut Writer<Vec<u8>>) -> Result<(), AllocError>
-    ensures { OnOk result ((text : List ℕ) (fields : List (List ℕ)) → Wrote text fields writer.old →
-        Wrote (text ++ row_text default_writer fields) [] writer.new) }
+    ensures { OnOk result ((text : List ℕ) (fields : List (List ℕ)) →
+        HasWrittenText text fields writer.old →
+        HasWrittenText (text ++ row_text default_writer fields) [] writer.new) }
 {
     if writer.end_record().is_err() {
         return Err(AllocError);

@@ -4,7 +4,7 @@ use Rattle.std.proofs.Math.Seq.{take-add}
 use Rattle.std.proofs.lemmas.List.{get_or-replicate}
 use Rattle.std.specs.Prelude.{Some, slice_index_or}
 use Rattle.std.specs.List.{All}
-use Rattle.outside.specs.Fault.{Rose}
+use Rattle.outside.specs.Fault.{CountRose}
 use Rattle.recording.specs.Samples.{samples, sample_bytes}
 use Rattle.recording.specs.declared.TheConstants.{MAX_SAMPLES}
 use Rattle.flow.specs.declared.TheConstants.{BLOCKS_PER_WINDOW}
@@ -20,7 +20,7 @@ use Rattle.lane_loans.specs.declared.lane.Lane.{Lane}
 use Rattle.lane_loans.proofs.Walking.{some_of}
 use Rattle.round_making.specs.Resting.{PreparedValue}
 use Rattle.round_making.specs.Round.{LaneDone, FrontDone, RoundDone}
-use Rattle.site_lanes.specs.Lanes.{Stood, IsLane, AreReady, AreLanes, IsWhole}
+use Rattle.site_lanes.specs.Lanes.{SourceStands, IsLane, AreReady, AreLanes, IsWhole}
 use Rattle.site_lanes.proofs.AfterRound.{stood_more}
 use Rattle.site_lanes.proofs.AllLanes.{ready_after, lanes_after, all_reached}
 use Rattle.demo_command.specs.declared.TheConstants.{MAX_DEMO_SAMPLES}
@@ -50,12 +50,12 @@ pub record IsCounted (seed all rounds : ℕ) (p : PreparedValue) (lanes : List D
 
 -- a lane at the start
 module _ (seed all g : ℕ) (lt : g < GAUGES) (lane : DemoLane) (start : IsStart seed all g lane) where
-  start_stood : (left : List ℕ) → lane.src ≡ Some left → Stood (made_at seed all g) 0 left lane.at lane.end
+  start_stood : (left : List ℕ) → lane.src ≡ Some left → SourceStands (made_at seed all g) 0 left lane.at lane.end
   start_stood left has =
       let is : left ≡ sample_bytes (made_at seed all g) = same_some has start.src in
-      subst (λ (l : List ℕ). Stood (made_at seed all g) 0 l lane.at lane.end) (sym is)
-      (subst (λ (n : ℕ). Stood (made_at seed all g) 0 (sample_bytes (made_at seed all g)) n lane.end) (sym start.at)
-      (subst (λ (e : End). Stood (made_at seed all g) 0 (sample_bytes (made_at seed all g)) 0 e) (sym start.end)
+      subst (λ (l : List ℕ). SourceStands (made_at seed all g) 0 l lane.at lane.end) (sym is)
+      (subst (λ (n : ℕ). SourceStands (made_at seed all g) 0 (sample_bytes (made_at seed all g)) n lane.end) (sym start.at)
+      (subst (λ (e : End). SourceStands (made_at seed all g) 0 (sample_bytes (made_at seed all g)) 0 e) (sym start.end)
       (samples-made all (seed + g), torn_bytes-made all (seed + g))))
 
   pub start_lane : IsLane (Unit {0}) (λ (left : List ℕ). left) (demo_recordings seed all) g lane
@@ -80,7 +80,7 @@ module _ (seed all g : ℕ) {block : ℕ} {old new : DemoLane}
   short : all ≤ MAX_DEMO_SAMPLES → length (made_at seed all g) < MAX_SAMPLES
   short few = omega (arith, few, length-made all (seed + g))
 
-  not_too_long : (w : List ℤ) (left : List ℕ) (at : ℕ) (end : End) → length w < MAX_SAMPLES → Stood w 0 left at end → end ≢ TooLong
+  not_too_long : (w : List ℤ) (left : List ℕ) (at : ℕ) (end : End) → length w < MAX_SAMPLES → SourceStands w 0 left at end → end ≢ TooLong
   not_too_long w left at More less s = λ e. absurd cc
   not_too_long w left at Ended less s = λ e. absurd cc
   not_too_long w left at (Torn b) less s = λ e. absurd cc
@@ -94,7 +94,7 @@ module _ (seed all g : ℕ) {block : ℕ} {old new : DemoLane}
     not_too_long (made_at seed all g) done.now new.at new.end (short few) (lane.stood tt done.now done.has),
   )
     where
-      never : Rose 0 0 → ⊥
+      never : CountRose 0 0 → ⊥
       never rose = omega (arith, rose)
 
   -- what the front stands for

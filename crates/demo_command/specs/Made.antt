@@ -1,5 +1,5 @@
 -- The recordings that are made from a seed, and how they are counted.
---   demo_grid, demo_gain   128 classes of 1 MPa from -64 MPa on, and a raw value of 1 is 1 MPa
+--   demo_grid, demo_gain   128 classes of 1 N/mm² from -64 N/mm² on, and a raw value of 1 is 1 N/mm²
 --   made_at                the samples of a gauge: those from the seed and its number
 --   demo_recordings        the recordings of four gauges
 --   IsStart                a lane at the start of its recording

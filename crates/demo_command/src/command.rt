@@ -1,5 +1,5 @@
 ghost use Rattle.std.specs.Prelude.{◌≡◌, ◌≢◌, ◌≤◌, ◌++◌, List, ℕ};
-ghost use Rattle.outside.specs.Fault.{Rose};
+ghost use Rattle.outside.specs.Fault.{CountRose};
 ghost use Rattle.outside.specs.Sink.{AppendsPrefix};
 ghost use Rattle.demo_command.specs.Summary.{IsSummary};
 ghost use Rattle.status.specs.Printing.{IsPrinting};
@@ -39,7 +39,7 @@ pub fn demo_command<R: AllocGlobal + Threads + Wait + Sync, O: Sink, G: Gate + S
     // There is such a text.
     ensures some { IsPrinting result → (text : List ℕ) × IsSummary seed samples text }
     ensures answer { IsDemoAnswer result }
-    ensures cause { result ≡ WriteFault → Rose (O.faults out.old) (O.faults out.new) }
+    ensures cause { result ≡ WriteFault → CountRose (O.faults out.old) (O.faults out.new) }
     ensures later { O.faults out.old ≤ O.faults out.new }
 {
     let Ok(totals) = count_made(rt, seed, samples, workers, gate) else {
@@ -56,7 +56,7 @@ fn print<O: Sink>(text: &str, out: &mut O) -> Status
     ensures front { O.tells → result ≡ WriteFault →
         AppendsPrefix (O.written out.old) (O.written out.new) text.now }
     ensures printing { IsPrinting result }
-    ensures cause { result ≡ WriteFault → Rose (O.faults out.old) (O.faults out.new) }
+    ensures cause { result ≡ WriteFault → CountRose (O.faults out.old) (O.faults out.new) }
     ensures later { O.faults out.old ≤ O.faults out.new }
 {
     match out.put(text.as_bytes()) {

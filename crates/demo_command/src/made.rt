@@ -13,7 +13,7 @@ pub const GAUGES: usize = 4;
 /// The classes.
 pub const CLASSES: u16 = 128;
 
-/// How many half MPa a class is wide.
+/// How many half N/mm² a class is wide.
 pub const WIDTH: u16 = 2;
 
 /// The lower end of the lowest class, in kPa.
@@ -28,7 +28,7 @@ pub const KPA: i64 = 1000;
 /// Samples of a block.
 pub const BLOCK: u32 = 1024;
 
-/// 128 classes of 1 MPa from -64 MPa on: each made sample has a class of its own.
+/// 128 classes of 1 N/mm² from -64 N/mm² on: each made sample has a class of its own.
 pub fn grid_of_demo() -> Grid
     ensures { result ≡ demo_grid }
 {

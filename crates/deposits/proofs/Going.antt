@@ -10,10 +10,10 @@ use Rattle.board.specs.declared.windows.Deposit.{Deposit}
 use Rattle.board.specs.declared.windows.Deposit.TheVariants.{Placed, Stranger, Double}
 use Rattle.board.specs.Deposits.{IsDepositAnswer}
 use Rattle.block_pool.specs.Units.{CountedValue, PoolValue}
-use Rattle.flow.specs.Flow.{has, hits}
-use Rattle.flow.proofs.Counting.{hits-append, has_inside}
-use Rattle.board.specs.Board.{BoardValue, Carries, StandsIn, SameBoard, Fits}
-use Rattle.deposits.specs.Deposited.{Each, unit_name, unit_names, IsOfPool, IsGood, SamePool, UnitStands, Came, Stepped, Deposited}
+use Rattle.flow.specs.Flow.{hits_of_name, hits}
+use Rattle.flow.proofs.Counting.{hits-append, hits_of_name_inside}
+use Rattle.board.specs.Board.{BoardValue, CarriesSamples, StandsIn, SameBoard, Fits}
+use Rattle.deposits.specs.Deposited.{Each, unit_name, unit_names, IsOfPool, IsGood, SamePool, UnitStands, UnitsArePlaced, DepositsUnit, DepositsUnits}
 use Rattle.deposits.specs.Deposited.Each.{none, both}
 
 -- the front of a list, and its last item
@@ -69,22 +69,23 @@ free_last : (b : BoardValue) (p : PoolValue) (us : List CountedValue) (u : Count
 free_last b p us u h =
     let g = u.segment.gauge in let i = u.segment.from in
     let f = (each_before us u h.blocks).1 in
-    let all : hits g i (b.arrivals ++ unit_names (us ++ u ∷ [])) ≡ hits g i (b.arrivals ++ unit_names us) + (has g i (unit_name u) + 0) =
+    let all : hits g i (b.arrivals ++ unit_names (us ++ u ∷ []))
+    ≡ hits g i (b.arrivals ++ unit_names us) + (hits_of_name g i (unit_name u) + 0) =
     ap (λ l. hits g i (b.arrivals ++ l)) (unit_names-push us u)
     ∙ ap (hits g i) (sym (append_assoc b.arrivals (unit_names us) (unit_name u ∷ [])))
     ∙ hits-append g i (b.arrivals ++ unit_names us) (unit_name u ∷ []) in
-    let here : has g i (unit_name u) ≡ 1 = has_inside g i (unit_name u) refl (omega arith) f.some in
+    let here : hits_of_name g i (unit_name u) ≡ 1 = hits_of_name_inside g i (unit_name u) refl (omega arith) f.some in
     let most = h.once g i in omega (arith, all, here, most)
 
-pub deposited_none : (b : BoardValue) (p : PoolValue) → Deposited b b p p []
+pub deposited_none : (b : BoardValue) (p : PoolValue) → DepositsUnits b b p p []
 deposited_none b p = record {
   board = record { grid = refl; block = refl; gauges = refl; starts = λ g. refl };
   pool = record { units = refl; block = refl; grid = refl };
   came = λ h. record { arrivals = sym (append-nil b.arrivals); inside = omega arith; carries = λ gain w a e. a };
 }
 
-pub deposited_more : (b c d : BoardValue) (p q r : PoolValue) (us : List CountedValue) (u : CountedValue) → Deposited b c p q us
-    → Stepped c d q r u → Deposited b d p r (us ++ u ∷ [])
+pub deposited_more : (b c d : BoardValue) (p q r : PoolValue) (us : List CountedValue) (u : CountedValue) → DepositsUnits b c p q us
+    → DepositsUnit c d q r u → DepositsUnits b d p r (us ++ u ∷ [])
 deposited_more b c d p q r us u h s = record {
   board = same_board b c d h.board s.board;
   pool = same_pool p q r h.pool s.pool;
@@ -105,11 +106,12 @@ deposited_more b c d p q r us u h s = record {
 }
 
 -- what one deposit answers
-pub stepped : (b c : BoardValue) (p q : PoolValue) (u : CountedValue) (seg : SegmentValue) (answer : Deposit) → seg ≡ u.segment
-    → IsDepositAnswer b c seg answer → SameBoard b c
-    → ((gain : ℕ → GainValue) (w : ℕ → List ℤ) → Carries b gain w → StandsIn seg (gain seg.gauge) (w seg.gauge) → Carries c gain w)
-    → q ≡ record { units = p.units; block = p.block; grid = p.grid; inside = p.inside + 1 } → Stepped b c p q u
-stepped b c p q u seg answer e a s carries g = record {
+pub stepped : (b c : BoardValue) (p q : PoolValue) (u : CountedValue) (segment : SegmentValue) (answer : Deposit) → segment ≡ u.segment
+    → IsDepositAnswer b c segment answer → SameBoard b c
+    → ((gain : ℕ → GainValue) (w : ℕ → List ℤ) → CarriesSamples b gain w → StandsIn segment (gain segment.gauge) (w segment.gauge) →
+    CarriesSamples c gain w)
+    → q ≡ record { units = p.units; block = p.block; grid = p.grid; inside = p.inside + 1 } → DepositsUnit b c p q u
+stepped b c p q u segment answer e a s carries g = record {
   board = s;
   pool = record {
     units = ap (λ (v : PoolValue). v.units) g;
@@ -117,27 +119,29 @@ stepped b c p q u seg answer e a s carries g = record {
     grid =
         ap (λ (v : PoolValue). v.grid) g;
   };
-  came = λ fits free unit room. came_by b c p q u seg answer e a fits free
+  came = λ fits free unit room. came_by b c p q u segment answer e a fits free
       (λ gain w h k. carries gain w h (subst (λ x. StandsIn x (gain x.gauge) (w x.gauge)) (sym e) k)) (ap (λ (v : PoolValue). v.inside) g);
 }
   where
     one : {P : CountedValue → Type 0} (u : CountedValue) → Each P (u ∷ []) → P u
     one u (both p d) = p
 
-    came_by : (b c : BoardValue) (p q : PoolValue) (u : CountedValue) (seg : SegmentValue) (answer : Deposit) → seg ≡ u.segment
-        → IsDepositAnswer b c seg answer → Fits b (unit_name u) → hits u.segment.gauge u.segment.from b.arrivals ≡ 0
-        → ((gain : ℕ → GainValue) (w : ℕ → List ℤ) → Carries b gain w → UnitStands gain w u → Carries c gain w) → q.inside ≡ p.inside + 1
-        → Came b c p q (u ∷ [])
-    came_by b c p q u seg Placed e a fits free carries inside =
+    came_by : (b c : BoardValue) (p q : PoolValue) (u : CountedValue) (segment : SegmentValue) (answer : Deposit) → segment ≡ u.segment
+        → IsDepositAnswer b c segment answer → Fits b (unit_name u) → hits u.segment.gauge u.segment.from b.arrivals ≡ 0
+        → ((gain : ℕ → GainValue) (w : ℕ → List ℤ) → CarriesSamples b gain w → UnitStands gain w u → CarriesSamples c gain w) → q.inside
+        ≡ p.inside + 1
+        → UnitsArePlaced b c p q (u ∷ [])
+    came_by b c p q u segment Placed e a fits free carries inside =
         record {
           arrivals = a.2 ∙ ap (λ x. b.arrivals ++ name_of x ∷ []) e;
           inside = inside;
           carries =
               λ gain w h k. carries gain w h (one u k);
         }
-    came_by b c p q u seg (Stranger n) e a fits free carries inside = absurd (a.0 (subst (λ x. Fits b (name_of x)) (sym e) fits))
-    came_by b c p q u seg (Double n) e a fits free carries inside =
-        absurd (let held = a.1 in let none_there : hits seg.gauge seg.from b.arrivals ≡ 0 = ap (λ x. hits x.gauge x.from b.arrivals) e
+    came_by b c p q u segment (Stranger n) e a fits free carries inside = absurd (a.0 (subst (λ x. Fits b (name_of x)) (sym e) fits))
+    came_by b c p q u segment (Double n) e a fits free carries inside =
+        absurd (let held = a.1 in let none_there : hits segment.gauge segment.from b.arrivals ≡ 0 =
+        ap (λ x. hits x.gauge x.from b.arrivals) e
         ∙ free in omega (arith, held, none_there))
 
 -- with nothing placed before, units that name no sample twice are good

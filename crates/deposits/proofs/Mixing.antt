@@ -4,22 +4,22 @@ use Rattle.std.specs.List.{filter}
 use Rattle.std.proofs.lemmas.Bool.{cases_eq}
 use Rattle.std.proofs.lemmas.List.{append-nil}
 use Rattle.segment_rules.specs.declared.name.Name.{Name}
-use Rattle.flow.specs.Flow.{has, hits, with_value}
+use Rattle.flow.specs.Flow.{hits_of_name, hits, with_value}
 use Rattle.flow.specs.Kept.{over}
 use Rattle.flow.proofs.Counting.{over_one, over_none, hits-append, changed_same, changed_other}
 use Rattle.deposits.specs.Deposited.{Each}
 use Rattle.deposits.specs.Deposited.Each.{none, both}
-use Rattle.deposits.specs.Mixed.{Mixed}
+use Rattle.deposits.specs.Mixed.{IsMixOf}
 use Rattle.deposits.proofs.Going.{each_before}
-use Rattle.deposits.specs.Mixed.Mixed.{nothing, next}
+use Rattle.deposits.specs.Mixed.IsMixOf.{nothing, next}
 
 -- a sample is named as often as in all the workers' lists
-pub mixed_hits : (n g i : ℕ) (f : ℕ → List Name) (l : List Name) → Mixed n f l → hits g i l ≡ over n (λ v. hits g i (f v))
+pub mixed_hits : (n g i : ℕ) (f : ℕ → List Name) (l : List Name) → IsMixOf n f l → hits g i l ≡ over n (λ v. hits g i (f v))
 mixed_hits n g i f [] (nothing e) = sym (over_none n (λ v. hits g i (f v)) (λ v m. ap (hits g i) (e v)))
 mixed_hits n g i h _ (next {f = f} {l = l} x v m k same others) =
     let before : hits g i l ≡ over n (λ u. hits g i (f u)) = mixed_hits n g i f l k in
-    let more : hits g i (l ++ x ∷ []) ≡ hits g i l + (has g i x + 0) = hits-append g i l (x ∷ []) in
-    let here : hits g i (h v) ≡ hits g i (f v) + (has g i x + 0) = ap (hits g i) same ∙ hits-append g i (f v) (x ∷ []) in
+    let more : hits g i (l ++ x ∷ []) ≡ hits g i l + (hits_of_name g i x + 0) = hits-append g i l (x ∷ []) in
+    let here : hits g i (h v) ≡ hits g i (f v) + (hits_of_name g i x + 0) = ap (hits g i) same ∙ hits-append g i (f v) (x ∷ []) in
     let one : over n (λ u. hits g i (h u)) + hits g i (f v) ≡ over n (λ u. hits g i (f u)) + hits g i (h v) =
     over_one n v (λ u. hits g i (h u)) (λ u. hits g i (f u)) m (λ u d. ap (hits g i) (others u d)) in
     omega (arith, before, more, here, one)
@@ -55,7 +55,7 @@ filter_step w v t f h l x clear rec same others (inr d) =
     ap (λ y. filter t l ++ y) parts.1 ∙ append-nil (filter t l) ∙ before ∙ sym (ap (filter t) (others w (λ q. d (sym q))))
 
 -- the names that pass a test which only one worker's names pass
-pub mixed_filter : (n w : ℕ) (t : Name → Bool) (f : ℕ → List Name) (l : List Name) → ((u : ℕ) → u ≢ w → filter t (f u) ≡ []) → Mixed n f l
+pub mixed_filter : (n w : ℕ) (t : Name → Bool) (f : ℕ → List Name) (l : List Name) → ((u : ℕ) → u ≢ w → filter t (f u) ≡ []) → IsMixOf n f l
     → filter t l ≡ filter t (f w)
 mixed_filter n w t f [] other (nothing e) = sym (ap (filter t) (e w))
 mixed_filter n w t h _ other (next {f = f} {l = l} x v m k same others) =
@@ -66,19 +66,19 @@ map_push k [] x = refl
 map_push k (y ∷ l) x = ap (λ m. k y ∷ m) (map_push k l x)
 
 -- a mix, item by item
-pub mixed_map : {A B : Type 0} → (k : A → B) (n : ℕ) (f : ℕ → List A) (l : List A) → Mixed n f l → Mixed n (λ v. map k (f v)) (map k l)
+pub mixed_map : {A B : Type 0} → (k : A → B) (n : ℕ) (f : ℕ → List A) (l : List A) → IsMixOf n f l → IsMixOf n (λ v. map k (f v)) (map k l)
 mixed_map k n f [] (nothing e) = nothing (λ v. ap (map k) (e v))
 mixed_map k n h _ (next {f = f} {l = l} x v m d same others) =
-    subst (Mixed n (λ u. map k (h u))) (sym (map_push k l x))
+    subst (IsMixOf n (λ u. map k (h u))) (sym (map_push k l x))
     (next (k x) v m (mixed_map k n f l d) (ap (map k) same ∙ map_push k (f v) x) (λ u o. ap (map k) (others u o)))
 
 -- a list more than the first one
-pub mixed_next : {A : Type 0} → (n : ℕ) (f : ℕ → List A) (l : List A) (x : A) (v : ℕ) → v < n → Mixed n f l
-    → Mixed n (with_value f v (f v ++ x ∷ [])) (l ++ x ∷ [])
+pub mixed_next : {A : Type 0} → (n : ℕ) (f : ℕ → List A) (l : List A) (x : A) (v : ℕ) → v < n → IsMixOf n f l
+    → IsMixOf n (with_value f v (f v ++ x ∷ [])) (l ++ x ∷ [])
 mixed_next n f l x v m d = next x v m d (changed_same f v (f v ++ x ∷ [])) (λ u o. changed_other f v (f v ++ x ∷ []) u o)
 
 -- it is as long as all the lists
-pub mixed_long : {A : Type 0} → (n : ℕ) (f : ℕ → List A) (l : List A) → Mixed n f l → length l ≡ over n (λ v. length (f v))
+pub mixed_long : {A : Type 0} → (n : ℕ) (f : ℕ → List A) (l : List A) → IsMixOf n f l → length l ≡ over n (λ v. length (f v))
 mixed_long n f [] (nothing e) = sym (over_none n (λ v. length (f v)) (λ v m. ap length (e v)))
 mixed_long n h _ (next {f = f} {l = l} x v m k same others) =
     let before : length l ≡ over n (λ u. length (f u)) = mixed_long n f l k in
@@ -99,7 +99,7 @@ each_still {P = P} f h x v u d same others (inl e) =
 each_still {P = P} f h x v u d same others (inr o) = subst (Each P) (others u o) d
 
 -- what holds of each item of the lists holds of each of the mix
-pub mixed_each : {A : Type 0} {P : A → Type 0} → (n : ℕ) (f : ℕ → List A) (l : List A) → Mixed n f l → ((v : ℕ) → v < n → Each P (f v))
+pub mixed_each : {A : Type 0} {P : A → Type 0} → (n : ℕ) (f : ℕ → List A) (l : List A) → IsMixOf n f l → ((v : ℕ) → v < n → Each P (f v))
     → Each P l
 mixed_each n f [] (nothing e) all = none
 mixed_each {P = P} n h _ (next {f = f} {l = l} x v m k same others) all =
@@ -107,7 +107,7 @@ mixed_each {P = P} n h _ (next {f = f} {l = l} x v m k same others) all =
     (each_before (f v) x (subst (Each P) same (all v m))).1
 
 -- there is nothing beyond the workers' lists
-pub mixed_beyond : {A : Type 0} → (n u : ℕ) (f : ℕ → List A) (l : List A) → Mixed n f l → n ≤ u → f u ≡ []
+pub mixed_beyond : {A : Type 0} → (n u : ℕ) (f : ℕ → List A) (l : List A) → IsMixOf n f l → n ≤ u → f u ≡ []
 mixed_beyond n u f [] (nothing e) h = e u
 mixed_beyond n u h _ (next {f = f} {l = l} x v m k same others) b = others u (λ q. absurd (omega (arith, q, m, b)))
     ∙ mixed_beyond n u f l k b

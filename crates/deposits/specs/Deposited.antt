@@ -3,16 +3,16 @@
 --   unit_name    the name of a unit, and the names of units
 --   IsGood       the units are blocks of the board's windows and of the pool, and no sample is named twice
 --   UnitStands   a unit's segment stands for the samples that its name names
---   Came         what comes of good units
---   Stepped      one unit was deposited and given back
---   Deposited    a list of units was, in this order; what comes of it is said where the list is good
+--   UnitsArePlaced   what comes of good units
+--   DepositsUnit   one unit was deposited and given back
+--   DepositsUnits   a list of units was, in this order; what comes of it is said where the list is good
 use Rattle.std.specs.Prelude.{◌≡◌, ◌+◌, ◌<◌, ◌≤◌, ℕ, ℤ, List, [], ◌∷◌, ◌++◌, length, map}
 use Rattle.calibration.specs.Gain.{GainValue}
 use Rattle.segment_rules.specs.declared.name.Name.{Name}
 use Rattle.segment.specs.Name.{name_of}
 use Rattle.block_pool.specs.Units.{CountedValue, PoolValue}
 use Rattle.flow.specs.Flow.{hits}
-use Rattle.board.specs.Board.{BoardValue, Carries, StandsIn, SameBoard, Fits}
+use Rattle.board.specs.Board.{BoardValue, CarriesSamples, StandsIn, SameBoard, Fits}
 
 pub data Each {A : Type 0} (P : A → Type 0) : List A → Type 0 where
   none : Each P []
@@ -44,20 +44,20 @@ abbrev pub UnitStands : (ℕ → GainValue) → (ℕ → List ℤ) → CountedVa
 UnitStands gain w u = StandsIn u.segment (gain u.segment.gauge) (w u.segment.gauge)
 
 -- each is placed, is in the pool again, and the board carries what they stand for
-pub record Came (b c : BoardValue) (p q : PoolValue) (us : List CountedValue) : Type 0 where
+pub record UnitsArePlaced (b c : BoardValue) (p q : PoolValue) (us : List CountedValue) : Type 0 where
   pub arrivals : c.arrivals ≡ b.arrivals ++ unit_names us
   pub inside : q.inside ≡ p.inside + length us
-  pub carries : (gain : ℕ → GainValue) (w : ℕ → List ℤ) → Carries b gain w → Each (UnitStands gain w) us →
-      Carries c gain w
+  pub carries : (gain : ℕ → GainValue) (w : ℕ → List ℤ) → CarriesSamples b gain w → Each (UnitStands gain w) us →
+      CarriesSamples c gain w
 
-pub record Stepped (b c : BoardValue) (p q : PoolValue) (u : CountedValue) : Type 0 where
+pub record DepositsUnit (b c : BoardValue) (p q : PoolValue) (u : CountedValue) : Type 0 where
   pub board : SameBoard b c
   pub pool : SamePool p q
   pub came : Fits b (unit_name u) → hits u.segment.gauge u.segment.from b.arrivals ≡ 0 → IsOfPool p u →
       p.inside < p.units
-      → Came b c p q (u ∷ [])
+      → UnitsArePlaced b c p q (u ∷ [])
 
-pub record Deposited (b c : BoardValue) (p q : PoolValue) (us : List CountedValue) : Type 0 where
+pub record DepositsUnits (b c : BoardValue) (p q : PoolValue) (us : List CountedValue) : Type 0 where
   pub board : SameBoard b c
   pub pool : SamePool p q
-  pub came : IsGood b p us → Came b c p q us
+  pub came : IsGood b p us → UnitsArePlaced b c p q us

@@ -2,7 +2,7 @@
 use Rattle.std.specs.Prelude.{◌≡◌, ◌≢◌, ◌<◌, ◌++◌, ◌∷◌, [], ℕ, List}
 
 -- the list has the items of each worker's list, in that list's order, mixed in any way
-pub data Mixed {A : Type 0} (workers : ℕ) : (ℕ → List A) → List A → Type 0 where
-  nothing : {f : ℕ → List A} → ((v : ℕ) → f v ≡ []) → Mixed workers f []
-  next : {f h : ℕ → List A} {l : List A} → (x : A) (v : ℕ) → v < workers → Mixed workers f l → h v ≡ f v ++ x ∷ []
-      → ((u : ℕ) → u ≢ v → h u ≡ f u) → Mixed workers h (l ++ x ∷ [])
+pub data IsMixOf {A : Type 0} (workers : ℕ) : (ℕ → List A) → List A → Type 0 where
+  nothing : {f : ℕ → List A} → ((v : ℕ) → f v ≡ []) → IsMixOf workers f []
+  next : {f h : ℕ → List A} {l : List A} → (x : A) (v : ℕ) → v < workers → IsMixOf workers f l → h v ≡ f v ++ x ∷ []
+      → ((u : ℕ) → u ≢ v → h u ≡ f u) → IsMixOf workers h (l ++ x ∷ [])

@@ -1,5 +1,5 @@
 ghost use Rattle.std.specs.Prelude.{◌≡◌};
-ghost use Rattle.deposits.specs.Deposited.{Stepped};
+ghost use Rattle.deposits.specs.Deposited.{DepositsUnit};
 
 use block_pool::{Counted, Pool};
 use board::Board;
@@ -8,7 +8,7 @@ use board::Board;
 /// has room. A unit that does not fit the pool is dropped.
 pub fn deposit_one(board: &mut Board, pool: &mut Pool, unit: Counted)
     requires grid { board.old.grid ≡ pool.old.grid }
-    ensures { Stepped board.old board.new pool.old pool.new unit }
+    ensures { DepositsUnit board.old board.new pool.old pool.new unit }
 {
     if pool.fits(&unit) {
         let _ = board.deposit(unit.segment());

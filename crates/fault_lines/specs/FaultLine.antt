@@ -93,12 +93,12 @@ fault_line (Differs gauge what held found) name =
 
 -- Other answers have no gauge.
 abbrev pub name_for : Configuration → Status → List ℕ
-name_for conf (Recording gauge fault) = name_of conf gauge
-name_for conf (Torn gauge bytes) = name_of conf gauge
-name_for conf (TooLong gauge) = name_of conf gauge
-name_for conf (Differs gauge what held found) = name_of conf gauge
-name_for conf status = []
+name_for bridge (Recording gauge fault) = name_of bridge gauge
+name_for bridge (Torn gauge bytes) = name_of bridge gauge
+name_for bridge (TooLong gauge) = name_of bridge gauge
+name_for bridge (Differs gauge what held found) = name_of bridge gauge
+name_for bridge status = []
 
 abbrev pub name_by : Result Configuration ConfigFault → Status → List ℕ
-name_by (Ok conf) status = name_for conf status
+name_by (Ok bridge) status = name_for bridge status
 name_by (Err fault) status = []

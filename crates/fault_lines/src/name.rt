@@ -6,22 +6,22 @@ use site_config::Config;
 use status::Status;
 
 /// The name of the gauge of a status. Other statuses have none.
-pub fn name_in(conf: &Config, status: Status) -> &str
-    ensures { result.now ≡ name_for conf.now status }
+pub fn name_in(bridge: &Config, status: Status) -> &str
+    ensures { result.now ≡ name_for bridge.now status }
 {
     match status {
         Status::Recording { gauge, .. }
         | Status::Torn { gauge, .. }
         | Status::TooLong { gauge }
-        | Status::Differs { gauge, .. } => name_at(conf, gauge),
+        | Status::Differs { gauge, .. } => name_at(bridge, gauge),
         _ => "",
     }
 }
 
-fn name_at(conf: &Config, gauge: u16) -> &str
-    ensures { result.now ≡ name_of conf.now gauge }
+fn name_at(bridge: &Config, gauge: u16) -> &str
+    ensures { result.now ≡ name_of bridge.now gauge }
 {
-    match conf.gauges.as_slice().get(gauge as usize) {
+    match bridge.gauges.as_slice().get(gauge as usize) {
         Some(gauge) => gauge.name.as_str(),
         None => "",
     }

@@ -1,5 +1,5 @@
 ghost use Rattle.std.specs.Prelude.{◌≡◌, ◌≢◌, ◌≤◌, ◌⊎◌, ◌++◌, [], ◌∷◌, length};
-ghost use Rattle.outside.specs.Fault.{Rose};
+ghost use Rattle.outside.specs.Fault.{CountRose};
 ghost use Rattle.fault_lines.specs.FaultLine.{fault_line};
 ghost use Rattle.fault_lines.specs.Telling.{TellsAtMost};
 ghost use Rattle.status.specs.declared.status.Status.TheVariants.{OutOfMemory};
@@ -18,7 +18,7 @@ pub fn tell_fault<K: Station>(station: &mut K, line: &mut FaultLine, status: Sta
         (K.leaves station.old) (K.leaves station.new) }
     ensures nothing { K.tells → status ≡ Status.Done → K.told station.new ≡ K.told station.old }
     ensures last { K.tells → status ≢ Status.Done →
-        Rose (K.faults station.old) (K.faults station.new) ⊎
+        CountRose (K.faults station.old) (K.faults station.new) ⊎
         (K.told station.new ≡ K.told station.old ++ fault_line status name.now ∷ []) }
     ensures later { K.faults station.old ≤ K.faults station.new }
     ensures room { line.new.name_bytes ≡ line.old.name_bytes }
@@ -35,7 +35,7 @@ pub fn tell_no_memory<K: Station>(station: &mut K)
         (K.clock station.old) (K.moments station.old) (K.clock station.new) (K.moments station.new)
         (K.told station.old) (K.told station.new) (K.seen station.old) (K.seen station.new)
         (K.leaves station.old) (K.leaves station.new) }
-    ensures last { K.tells → Rose (K.faults station.old) (K.faults station.new) ⊎
+    ensures last { K.tells → CountRose (K.faults station.old) (K.faults station.new) ⊎
         (K.told station.new ≡ K.told station.old ++ fault_line OutOfMemory [] ∷ []) }
     ensures later { K.faults station.old ≤ K.faults station.new }
 {
@@ -47,7 +47,7 @@ fn tell_line<K: Station>(station: &mut K, line: &[u8])
         (K.clock station.old) (K.moments station.old) (K.clock station.new) (K.moments station.new)
         (K.told station.old) (K.told station.new) (K.seen station.old) (K.seen station.new)
         (K.leaves station.old) (K.leaves station.new) }
-    ensures last { K.tells → Rose (K.faults station.old) (K.faults station.new) ⊎
+    ensures last { K.tells → CountRose (K.faults station.old) (K.faults station.new) ⊎
         (K.told station.new ≡ K.told station.old ++ line.now ∷ []) }
     ensures later { K.faults station.old ≤ K.faults station.new }
 {

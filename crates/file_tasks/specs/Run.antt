@@ -6,7 +6,7 @@
 --   usage_task       the task of words that are no command
 --   no_memory_task   what is left where memory ran out while the words were read
 use Rattle.std.specs.Prelude.{◌≡◌, ◌≢◌, ℕ, List, [], ◌++◌, Option, None, IsSomeAnd}
-use Rattle.outside.specs.Fault.{Rose}
+use Rattle.outside.specs.Fault.{CountRose}
 use Rattle.outside.specs.Sink.{AppendsPrefix}
 use Rattle.outside.specs.Site.{Files, Asked, Asks}
 use Rattle.outside.specs.declared.site.Site as site
@@ -58,10 +58,10 @@ pub record Runs (task : Task) (before after : Outside) (answer : Status) : Type 
       after.written ≡ before.written
   -- Which answer it is. A fault comes only where a count rose.
   pub answer_may : before.site_tells → task.MayAnswer answer
-  pub complete : before.site_tells → ¬ Rose before.site_faults after.site_faults →
-      ¬ Rose before.output_faults after.output_faults → task.IsAnswer answer
-  pub read : answer ≡ ReadFault → Rose before.site_faults after.site_faults
-  pub write : answer ≡ WriteFault → Rose before.output_faults after.output_faults
+  pub complete : before.site_tells → ¬ CountRose before.site_faults after.site_faults →
+      ¬ CountRose before.output_faults after.output_faults → task.IsAnswer answer
+  pub read : answer ≡ ReadFault → CountRose before.site_faults after.site_faults
+  pub write : answer ≡ WriteFault → CountRose before.output_faults after.output_faults
   -- What it asks for, and what stays.
   pub asked : Asks before.names_asked after.names_asked task.names
   pub back : after.out ≡ 0

@@ -4,11 +4,11 @@ use Rattle.std.specs.List.{filter}
 use Rattle.std.proofs.lemmas.Bool.Decides.{nat_tests}
 use Rattle.std.proofs.lemmas.Bool.{cases_eq, eq-eqb, ne_eqb}
 use Rattle.segment_rules.specs.declared.name.Name.{Name}
-use Rattle.flow.specs.Flow.{has, hits, In, with_value, with_value_at, stays}
+use Rattle.flow.specs.Flow.{hits_of_name, hits, In, with_value, with_value_at, is_left_over}
 use Rattle.flow.specs.Flow.In.{here, there}
-use Rattle.flow.specs.Kept.{Every, Ascends, over, between}
+use Rattle.flow.specs.Kept.{Every, NamesAscend, over, between}
 use Rattle.flow.specs.Kept.Every.{none, both}
-use Rattle.flow.specs.Kept.Ascends.{empty, step}
+use Rattle.flow.specs.Kept.NamesAscend.{empty, step}
 
 pub hits-append : (g i : ℕ) (k l : List Name) → hits g i (k ++ l) ≡ hits g i k + hits g i l
 hits-append g i [] l = omega arith
@@ -44,34 +44,34 @@ every_in none i = elim i [ ]
 every_in (both p d) here = p
 every_in (both p d) (there i) = every_in d i
 
-pub ascends_drop : (l : List Name) → Ascends l → Ascends (drop 1 l)
+pub ascends_drop : (l : List Name) → NamesAscend l → NamesAscend (drop 1 l)
 ascends_drop [] empty = empty
 ascends_drop (n ∷ l) (step p d) = d
 
-pub ascends_push : (l : List Name) (m : Name) → Ascends l → Every (λ n. n.from < m.from) l → Ascends (l ++ m ∷ [])
+pub ascends_push : (l : List Name) (m : Name) → NamesAscend l → Every (λ n. n.from < m.from) l → NamesAscend (l ++ m ∷ [])
 ascends_push [] m empty none = step none empty
 ascends_push (n ∷ l) m (step p d) (both q e) = step (every_append l (m ∷ []) p (both q none)) (ascends_push l m d e)
 
-pub has_other : (g i : ℕ) (n : Name) → n.gauge ≢ g → has g i n ≡ 0
-has_other g i n h = grind (arith, nat_tests)
+pub hits_of_name_other : (g i : ℕ) (n : Name) → n.gauge ≢ g → hits_of_name g i n ≡ 0
+hits_of_name_other g i n h = grind (arith, nat_tests)
 
 pub hits_other : (g i : ℕ) (l : List Name) → Every (λ n. n.gauge ≢ g) l → hits g i l ≡ 0
 hits_other g i [] none = refl
-hits_other g i (n ∷ l) (both p d) = omega (arith, has_other g i n p, hits_other g i l d)
+hits_other g i (n ∷ l) (both p d) = omega (arith, hits_of_name_other g i n p, hits_other g i l d)
 
-pub has_past : (g i : ℕ) (n : Name) → (n.gauge ≡ g → i < n.from) → has g i n ≡ 0
-has_past g i n h = grind (arith, nat_tests)
+pub hits_of_name_past : (g i : ℕ) (n : Name) → (n.gauge ≡ g → i < n.from) → hits_of_name g i n ≡ 0
+hits_of_name_past g i n h = grind (arith, nat_tests)
 
 -- names that begin behind a sample do not name it
 pub hits_past : (g i : ℕ) (l : List Name) → Every (λ n. n.gauge ≡ g → i < n.from) l → hits g i l ≡ 0
 hits_past g i [] none = refl
-hits_past g i (n ∷ l) (both p d) = omega (arith, has_past g i n p, hits_past g i l d)
+hits_past g i (n ∷ l) (both p d) = omega (arith, hits_of_name_past g i n p, hits_past g i l d)
 
-pub has_inside : (g i : ℕ) (n : Name) → n.gauge ≡ g → n.from ≤ i → i < n.to → has g i n ≡ 1
-has_inside g i n a b c = grind (arith, nat_tests)
+pub hits_of_name_inside : (g i : ℕ) (n : Name) → n.gauge ≡ g → n.from ≤ i → i < n.to → hits_of_name g i n ≡ 1
+hits_of_name_inside g i n a b c = grind (arith, nat_tests)
 
-has_means : (g i : ℕ) (n : Name) → (has g i n ≡ 0) ⊎ ((n.gauge ≡ g) × (n.from ≤ i) × (i < n.to))
-has_means g i n = grind (arith, nat_tests)
+hits_of_name_means : (g i : ℕ) (n : Name) → (hits_of_name g i n ≡ 0) ⊎ ((n.gauge ≡ g) × (n.from ≤ i) × (i < n.to))
+hits_of_name_means g i n = grind (arith, nat_tests)
 
 -- one of the names that names it
 pub record Found (g i : ℕ) (l : List Name) : Type 0 where
@@ -81,29 +81,30 @@ pub record Found (g i : ℕ) (l : List Name) : Type 0 where
   pub from : name.from ≤ i
   pub to : i < name.to
 
-found_or : (g i : ℕ) (n : Name) (l : List Name) → (1 ≤ hits g i l → Found g i l) → 1 ≤ has g i n + hits g i l
-    → ((has g i n ≡ 0) ⊎ ((n.gauge ≡ g) × (n.from ≤ i) × (i < n.to))) → Found g i (n ∷ l)
+found_or : (g i : ℕ) (n : Name) (l : List Name) → (1 ≤ hits g i l → Found g i l) → 1 ≤ hits_of_name g i n + hits g i l
+    → ((hits_of_name g i n ≡ 0) ⊎ ((n.gauge ≡ g) × (n.from ≤ i) × (i < n.to))) → Found g i (n ∷ l)
 found_or g i n l more h (inl not_it) = let f =
     more (omega (arith, h, not_it)) in record { name = f.name; among = there f.among; gauge = f.gauge; from = f.from; to = f.to }
 found_or g i n l more h (inr (a, b, c)) = record { name = n; among = here; gauge = a; from = b; to = c }
 
 pub found : (g i : ℕ) (l : List Name) → 1 ≤ hits g i l → Found g i l
 found g i [] h = absurd (omega (arith, h))
-found g i (n ∷ l) h = found_or g i n l (found g i l) h (has_means g i n)
+found g i (n ∷ l) h = found_or g i n l (found g i l) h (hits_of_name_means g i n)
 
 -- what is left keeps the hits of a sample that the names taken out do not name
-stays_more : (g e h i : ℕ) (n : Name) (b : Bool) → stays g e n ≡ b → (h ≡ g → e ≤ i) → (b ≡ false → has h i n ≡ 0)
-stays_more g e h i n b q p = grind (arith, nat_tests)
+is_left_over_more : (g e h i : ℕ) (n : Name) (b : Bool) → is_left_over g e n ≡ b → (h ≡ g → e ≤ i) → (b ≡ false → hits_of_name h i n ≡ 0)
+is_left_over_more g e h i n b q p = grind (arith, nat_tests)
 
-filtered : (g e h i : ℕ) (n : Name) (k l : List Name) (b : Bool) → hits h i k ≡ hits h i l → (b ≡ false → has h i n ≡ 0)
-    → hits h i (cond b (n ∷ k) k) ≡ has h i n + hits h i l
+filtered : (g e h i : ℕ) (n : Name) (k l : List Name) (b : Bool) → hits h i k ≡ hits h i l → (b ≡ false → hits_of_name h i n ≡ 0)
+    → hits h i (cond b (n ∷ k) k) ≡ hits_of_name h i n + hits h i l
 filtered g e h i n k l true q p = omega (arith, q)
 filtered g e h i n k l false q p = omega (arith, q, p refl)
 
-pub hits_filter : (g e h i : ℕ) (l : List Name) → (h ≡ g → e ≤ i) → hits h i (filter (stays g e) l) ≡ hits h i l
+pub hits_filter : (g e h i : ℕ) (l : List Name) → (h ≡ g → e ≤ i) → hits h i (filter (is_left_over g e) l) ≡ hits h i l
 hits_filter g e h i [] p = refl
 hits_filter g e h i (n ∷ l) p =
-    filtered g e h i n (filter (stays g e) l) l (stays g e n) (hits_filter g e h i l p) (stays_more g e h i n (stays g e n) refl p)
+    filtered g e h i n (filter (is_left_over g e) l) l (is_left_over g e n) (hits_filter g e h i l p)
+    (is_left_over_more g e h i n (is_left_over g e n) refl p)
 
 -- what stays has P, where each that stays has it
 every_cond : {P : Name → Type 0} → (n : Name) (k : List Name) (b : Bool) → (b ≡ true → P n) → Every P k → Every P (cond b (n ∷ k) k)
@@ -210,5 +211,5 @@ between_one a b x h k = grind (arith, nat_tests)
 pub nothing_between : (a x : ℕ) → between a a x ≡ 0
 nothing_between a x = grind (arith, nat_tests)
 
-pub has_between : (g i : ℕ) (n : Name) → n.gauge ≡ g → has g i n ≡ between n.from n.to i
-has_between g i n h = grind (arith, nat_tests)
+pub hits_of_name_between : (g i : ℕ) (n : Name) → n.gauge ≡ g → hits_of_name g i n ≡ between n.from n.to i
+hits_of_name_between g i n h = grind (arith, nat_tests)

@@ -4,12 +4,12 @@ use Rattle.std.proofs.lemmas.Bool.Decides.{nat_tests}
 use Rattle.std.proofs.lemmas.Bool.{cases_eq, cases_lt}
 use Rattle.std.proofs.Math.Nat.{mul-le-mul_right}
 use Rattle.segment_rules.specs.declared.name.Name.{Name}
-use Rattle.flow.specs.Flow.{Flow, Event, has, hits, with_value, with_value_at, Cover, EndsAt, stays, next, worker_of_next, Allowed, AllAllowed, IsStart, after, run}
+use Rattle.flow.specs.Flow.{Flow, Event, hits_of_name, hits, with_value, with_value_at, NamesCover, EndsAt, is_left_over, next, worker_of_next, IsAllowed, AllAllowed, IsStart, after, run}
 use Rattle.flow.specs.Flow.Event.{Feed, Count, Deposit, Commit, Stop}
-use Rattle.flow.specs.Kept.{Every, Ascends, over, between, everywhere, IsBlock, IsDealt, IsLine, Meets, IsThrough}
+use Rattle.flow.specs.Kept.{Every, NamesAscend, over, between, everywhere, IsBlock, IsDealt, IsLine, MeetsInvariant, IsThrough}
 use Rattle.flow.specs.Kept.Every.{none, both}
-use Rattle.flow.specs.Kept.Ascends.{empty}
-use Rattle.flow.proofs.Counting.{hits-append, hits-split, every_append, every_map, every_drop, every_take, every_in, ascends_drop, ascends_push, hits_other, hits_past, has_inside, found, hits_filter, every_filter, every_both, over_same, over_one, over_at, over_none, changed_same, changed_other, changed_at_same, changed_at_gauge, changed_at_worker, changed_all, changed_at_all, between_parts, has_between, between_one, nothing_between}
+use Rattle.flow.specs.Kept.NamesAscend.{empty}
+use Rattle.flow.proofs.Counting.{hits-append, hits-split, every_append, every_map, every_drop, every_take, every_in, ascends_drop, ascends_push, hits_other, hits_past, hits_of_name_inside, found, hits_filter, every_filter, every_both, over_same, over_one, over_at, over_none, changed_same, changed_other, changed_at_same, changed_at_gauge, changed_at_worker, changed_all, changed_at_all, between_parts, hits_of_name_between, between_one, nothing_between}
 
 module _ (block workers : ℕ) where
   -- a block stays one where nothing is stored and no less is read
@@ -77,7 +77,8 @@ module _ (block workers : ℕ) where
       ((h i).rings u w))
 
   -- one block more is fed
-  fed_once : (s : Flow) (g i v : ℕ) (m : Name) → Meets block workers s → v < workers → m.gauge ≡ g → m.from ≡ s.read g → m.from ≤ m.to →
+  fed_once : (s : Flow) (g i v : ℕ) (m : Name) → MeetsInvariant block workers s → v < workers → m.gauge ≡ g → m.from ≡ s.read g →
+      m.from ≤ m.to →
       over workers
       (λ u. hits g i (with_value_at s.rings g v (s.rings g v ++ m ∷ []) g u) + hits g i (s.counted u)) + hits g i s.placed
       ≡ between (s.stored g) m.to i
@@ -87,11 +88,11 @@ module _ (block workers : ℕ) where
       let one : over workers f + k v ≡ over workers k + f v =
       over_one workers v f k w
       (λ u d. ap (λ l. hits g i l + hits g i (s.counted u)) (changed_at_worker s.rings g v (s.rings g v ++ m ∷ []) g u d)) in
-      let new : f v ≡ hits g i (s.rings g v) + has g i m + hits g i (s.counted v) =
+      let new : f v ≡ hits g i (s.rings g v) + hits_of_name g i m + hits g i (s.counted v) =
       ap (λ l. hits g i l + hits g i (s.counted v)) (changed_at_same s.rings g v (s.rings g v ++ m ∷ []))
       ∙ omega (arith, hits-append g i (s.rings g v) (m ∷ [])) in
       let was : over workers k + hits g i s.placed ≡ between (s.stored g) (s.read g) i = h.once g i in
-      let more : has g i m ≡ between m.from m.to i = has_between g i m a in
+      let more : hits_of_name g i m ≡ between m.from m.to i = hits_of_name_between g i m a in
       let both_ways : between (s.stored g) m.from i + between m.from m.to i ≡ between (s.stored g) m.to i =
       between_parts (s.stored g) m.from m.to i (omega (arith, h.stored g, b)) c in
       let at : between (s.stored g) (s.read g) i ≡ between (s.stored g) m.from i = ap (λ r. between (s.stored g) r i) (sym b) in
@@ -103,7 +104,7 @@ module _ (block workers : ℕ) where
   fed_elsewhere s g i v l h d =
       over_same workers _ _ (λ u k. ap (λ x. hits h i x + hits h i (s.counted u)) (changed_at_gauge s.rings g v l h u d))
 
-  fed_or : (s : Flow) (g i v : ℕ) (m : Name) (h : ℕ) → Meets block workers s → v < workers → m.gauge ≡ g → m.from ≡ s.read g
+  fed_or : (s : Flow) (g i v : ℕ) (m : Name) (h : ℕ) → MeetsInvariant block workers s → v < workers → m.gauge ≡ g → m.from ≡ s.read g
       → m.from ≤ m.to → ((h ≡ g) ⊎ (h ≡ g → ⊥)) →
       over workers
       (λ u. hits h i (with_value_at s.rings g v (s.rings g v ++ m ∷ []) h u) + hits h i (s.counted u)) + hits h i s.placed
@@ -130,8 +131,8 @@ module _ (block workers : ℕ) where
   le_or : (a b : ℕ) → (a ≤ b) ⊎ (b ≤ a)
   le_or a b = grind arith
 
-  pub feed : (s : Flow) (g : ℕ) → 0 < block → 0 < workers → Meets block workers s → s.read g < length (s.samples g)
-      → worker_of_next block workers s g < workers → Meets block workers (after block workers s (Feed g))
+  pub feed : (s : Flow) (g : ℕ) → 0 < block → 0 < workers → MeetsInvariant block workers s → s.read g < length (s.samples g)
+      → worker_of_next block workers s g < workers → MeetsInvariant block workers (after block workers s (Feed g))
   feed s g pos many h l w =
       let m = next block workers s g in
       let v = worker_of_next block workers s g in
@@ -158,7 +159,7 @@ module _ (block workers : ℕ) where
               read =
                   omega (arith, changed_same s.read g m.to);
             }) none));
-        ascend = changed_at_all (λ i j x. Ascends x) s.rings g v (s.rings g v ++ m ∷ []) h.ascend
+        ascend = changed_at_all (λ i j x. NamesAscend x) s.rings g v (s.rings g v ++ m ∷ []) h.ascend
             (ascends_push (s.rings g v) m (h.ascend g v) (every_map (s.rings g v)
             (λ n b. omega (arith, b.some, b.read)) (h.rings g v w)));
         counted = λ j q. every_map (s.counted j) (λ n b. up n.gauge n b) (h.counted j q);
@@ -172,7 +173,7 @@ module _ (block workers : ℕ) where
       }
 
   -- a block goes from a ring to the counted ones
-  count_same : (s : Flow) (g v : ℕ) (h i u : ℕ) → v < workers → Meets block workers s → ((h ≡ g) ⊎ (h ≡ g → ⊥))
+  count_same : (s : Flow) (g v : ℕ) (h i u : ℕ) → v < workers → MeetsInvariant block workers s → ((h ≡ g) ⊎ (h ≡ g → ⊥))
       → ((u ≡ v) ⊎ (u ≡ v → ⊥)) →
       hits h i (with_value_at s.rings g v (drop 1 (s.rings g v)) h u)
       + hits h i (with_value s.counted v (s.counted v ++ take 1 (s.rings g v)) u) ≡ hits h i (s.rings h u) + hits h i (s.counted u)
@@ -206,7 +207,8 @@ module _ (block workers : ℕ) where
       ap (hits h i) (changed_other s.counted v (s.counted v ++ take 1 (s.rings g v)) u f) in
       omega (arith, r, c)
 
-  pub count : (s : Flow) (v g : ℕ) → v < workers → Meets block workers s → Meets block workers (after block workers s (Count v g))
+  pub count : (s : Flow) (v g : ℕ) → v < workers → MeetsInvariant block workers s →
+      MeetsInvariant block workers (after block workers s (Count v g))
   count s v g w h =
       let t = after block workers s (Count v g) in
       let up : (i : ℕ) (n : Name) → IsBlock block s i n → IsBlock block t i n = λ i n b. grown s t i n refl refl (omega arith) b in
@@ -221,7 +223,7 @@ module _ (block workers : ℕ) where
             → Every (IsBlock block t i) x) s.rings g v (drop 1 (s.rings g v)) (λ i j q. every_map (s.rings i j) (up i) (h.rings i j q))
             (λ q. every_drop (s.rings g v) (every_map (s.rings g v) (up g) (h.rings g v w)));
         ascend = changed_at_all
-            (λ i j x. Ascends x) s.rings g v (drop 1 (s.rings g v)) h.ascend (ascends_drop (s.rings g v) (h.ascend g v));
+            (λ i j x. NamesAscend x) s.rings g v (drop 1 (s.rings g v)) h.ascend (ascends_drop (s.rings g v) (h.ascend g v));
         counted =
             changed_all
             (λ j x. j < workers
@@ -241,7 +243,8 @@ module _ (block workers : ℕ) where
             (λ r. every_drop (s.rings g v) ((h.line g).rings v r)) i u q);
       }
 
-  pub deposit : (s : Flow) (v : ℕ) → v < workers → Meets block workers s → Meets block workers (after block workers s (Deposit v))
+  pub deposit : (s : Flow) (v : ℕ) → v < workers → MeetsInvariant block workers s →
+      MeetsInvariant block workers (after block workers s (Deposit v))
   deposit s v w h =
       let t = after block workers s (Deposit v) in
       let up : (n : Name) → IsBlock block s n.gauge n → IsBlock block t n.gauge n =
@@ -327,15 +330,15 @@ module _ (block workers : ℕ) where
         p,
         λ q. elim (cases_lt e n.to) [
           | inl k ↦ k
-          | inr k ↦ (let one : has g n.from n ≡ 1 =
-              has_inside g n.from n q (omega arith) p.some in let zero : has g n.from n + hits g n.from l ≡ 0 =
+          | inr k ↦ (let one : hits_of_name g n.from n ≡ 1 =
+              hits_of_name_inside g n.from n q (omega arith) p.some in let zero : hits_of_name g n.from n + hits g n.from l ≡ 0 =
               h n.from (begins q) (omega (arith, p.some, k)) in absurd (omega (arith, one, zero)))
         ],
       )
-      (clear s g e l d (λ x a b. let zero : has g x n + hits g x l ≡ 0 = h x a b in omega (arith, zero)))
+      (clear s g e l d (λ x a b. let zero : hits_of_name g x n + hits g x l ≡ 0 = h x a b in omega (arith, zero)))
 
-  stays_means : (g e : ℕ) (n : Name) → stays g e n ≡ true → n.gauge ≡ g → e < n.to
-  stays_means g e n h q = grind (arith, nat_tests)
+  is_left_over_means : (g e : ℕ) (n : Name) → is_left_over g e n ≡ true → n.gauge ≡ g → e < n.to
+  is_left_over_means g e n h q = grind (arith, nat_tests)
 
   between_none : (a b x : ℕ) → x < a → between a b x ≡ 0
   between_none a b x h = grind (arith, nat_tests)
@@ -371,8 +374,8 @@ module _ (block workers : ℕ) where
         )) q within pos (cases_lt a.number c))
       ]
 
-  pub commit : (s : Flow) (g e : ℕ) → 0 < block → Meets block workers s → s.stored g < e → EndsAt g e s.placed
-      → Cover g (s.stored g) e s.placed → Meets block workers (after block workers s (Commit g e))
+  pub commit : (s : Flow) (g e : ℕ) → 0 < block → MeetsInvariant block workers s → s.stored g < e → EndsAt g e s.placed
+      → NamesCover g (s.stored g) e s.placed → MeetsInvariant block workers (after block workers s (Commit g e))
   commit s g e pos h later ends covers =
       let t = after block workers s (Commit g e) in
       let m = ends.name in
@@ -387,7 +390,7 @@ module _ (block workers : ℕ) where
       let move : (i : ℕ) (n : Name) → IsBlock block s i n → (i ≡ g → e < n.to) → IsBlock block t i n =
       λ i n b q. moved_or s g e m pos last ends.to (h.read g) i n b q (cases_eq i g) in
       let left : Every (λ n. IsBlock block t n.gauge n) t.placed =
-      every_filter (stays g e) s.placed (λ n b q. move n.gauge n b (stays_means g e n q)) h.placed in
+      every_filter (is_left_over g e) s.placed (λ n b q. move n.gauge n b (is_left_over_means g e n q)) h.placed in
       let at : t.stored g ≡ e = changed_same s.stored g e in
       record {
         once = λ i x. elim (cases_eq i g) [
@@ -435,7 +438,8 @@ module _ (block workers : ℕ) where
             (λ j. omega arith) (omega (arith, later)) i) refl refl refl (h.line i).rings;
       }
 
-  pub stop : (s : Flow) (more : ℕ → List ℤ) → Meets block workers s → Meets block workers (after block workers s (Stop more))
+  pub stop : (s : Flow) (more : ℕ → List ℤ) → MeetsInvariant block workers s →
+      MeetsInvariant block workers (after block workers s (Stop more))
   stop s more h = record {
     once = λ i x.
         let zero : over workers (λ v. 0 + 0) ≡ 0 = over_none workers (λ v. 0 + 0) (λ v w. refl) in
@@ -455,20 +459,20 @@ module _ (block workers : ℕ) where
     };
   }
 
-  pub each_event : (s : Flow) (e : Event) → 0 < block → 0 < workers → Meets block workers s → Allowed block workers s e
-      → Meets block workers (after block workers s e)
+  pub each_event : (s : Flow) (e : Event) → 0 < block → 0 < workers → MeetsInvariant block workers s → IsAllowed block workers s e
+      → MeetsInvariant block workers (after block workers s e)
   each_event s (Feed g) pos many h a = feed s g pos many h a (omega (arith, many))
   each_event s (Count v g) pos many h a = count s v g a.0 h
   each_event s (Deposit v) pos many h a = deposit s v a.0 h
   each_event s (Commit g e) pos many h a = commit s g e pos h a.0 a.1 a.2
   each_event s (Stop more) pos many h a = stop s more h
 
-  pub kept : (es : List Event) (s : Flow) → 0 < block → 0 < workers → Meets block workers s → AllAllowed block workers es s
-      → Meets block workers (run block workers es s)
+  pub kept : (es : List Event) (s : Flow) → 0 < block → 0 < workers → MeetsInvariant block workers s → AllAllowed block workers es s
+      → MeetsInvariant block workers (run block workers es s)
   kept [] s pos many h a = h
   kept (e ∷ es) s pos many h a = kept es (after block workers s e) pos many (each_event s e pos many h a.0) a.1
 
-  at_start : (s : Flow) → IsStart s → Meets block workers s
+  at_start : (s : Flow) → IsStart s → MeetsInvariant block workers s
   at_start s h = record {
     once = λ i x.
         let r : (v : ℕ) → hits i x (s.rings i v) ≡ 0 = λ v. ap (hits i x) (h.rings i v) in
@@ -480,7 +484,7 @@ module _ (block workers : ℕ) where
         ∙ nothing_between (s.stored i) x in
         omega (arith, zero, p, none_between);
     rings = λ i v w. subst (Every (IsBlock block s i)) (sym (h.rings i v)) none;
-    ascend = λ i v. subst Ascends (sym (h.rings i v)) empty;
+    ascend = λ i v. subst NamesAscend (sym (h.rings i v)) empty;
     counted = λ v w. subst (Every (λ n. IsBlock block s n.gauge n)) (sym (h.counted v)) none;
     placed = subst (Every (λ n. IsBlock block s n.gauge n)) (sym h.placed) none;
     stored = λ i. omega (arith, h.read i);
@@ -495,10 +499,10 @@ module _ (block workers : ℕ) where
   }
 
   pub each_schedule : (es : List Event) (s : Flow) → 0 < block → 0 < workers → IsStart s → AllAllowed block workers es s
-      → Meets block workers (run block workers es s)
+      → MeetsInvariant block workers (run block workers es s)
   each_schedule es s pos many h a = kept es s pos many (at_start s h) a
 
-  rises : (s : Flow) (e : Event) (g : ℕ) → Allowed block workers s e → s.stored g ≤ (after block workers s e).stored g
+  rises : (s : Flow) (e : Event) (g : ℕ) → IsAllowed block workers s e → s.stored g ≤ (after block workers s e).stored g
   rises s (Feed h) g a = omega arith
   rises s (Count v h) g a = omega arith
   rises s (Deposit v) g a = omega arith
@@ -510,15 +514,15 @@ module _ (block workers : ℕ) where
   never_falls (e ∷ es) s g a = omega (arith, rises s e g a.0, never_falls es (after block workers s e) g a.1)
 
   -- where nothing of a gauge is on its way, all of it is stored or one commit stores it
-  pub through : (s : Flow) (g : ℕ) → Meets block workers s → IsThrough workers s g → (s.stored g ≡ length (s.samples g))
-      ⊎ Allowed block workers s (Commit g (length (s.samples g)))
+  pub through : (s : Flow) (g : ℕ) → MeetsInvariant block workers s → IsThrough workers s g → (s.stored g ≡ length (s.samples g))
+      ⊎ IsAllowed block workers s (Commit g (length (s.samples g)))
   through s g h done =
       let n = length (s.samples g) in
       let zero : (x : ℕ) → over workers (λ v. hits g x (s.rings g v) + hits g x (s.counted v)) ≡ 0 =
       λ x. over_none workers (λ v. hits g x (s.rings g v) + hits g x (s.counted v)) (λ v w.
       let r : hits g x (s.rings g v) ≡ 0 =
       ap (hits g x) (done.rings v w) in omega (arith, r, hits_other g x (s.counted v) (done.counted v w))) in
-      let covers : Cover g (s.stored g) n s.placed =
+      let covers : NamesCover g (s.stored g) n s.placed =
       λ x a b. omega (arith, zero x, h.once g x, between_one (s.stored g) (s.read g) x a (omega (arith, b, done.read))) in
       elim (cases_lt (s.stored g) n) [
         | inl l ↦ inr (

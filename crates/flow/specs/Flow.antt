@@ -2,8 +2,8 @@
 --   Flow, Event      the state, and what may happen
 --   name_of_samples  the name of these samples of a gauge
 --   hits             how many names name a sample
---   Cover, EndsAt    names without a gap; a name that ends there
---   Allowed, after   where an event may come, and what it does
+--   NamesCover, EndsAt   names without a gap; a name that ends there
+--   IsAllowed, after   where an event may come, and what it does
 --   run, AllAllowed  a list of events
 --   IsStart          the state in which a run starts
 use Rattle.std.specs.Prelude.{◌≡◌, ◌+◌, ◌%◌, ◌<◌, ◌≤◌, ◌&&◌, ℕ, ℤ, List, [], ◌∷◌, ◌++◌, length, take, drop, min, cond, not, eqb, leb, ltb, Bool}
@@ -42,21 +42,21 @@ abbrev pub with_value_at : {A : Type 0} → (ℕ → ℕ → A) → ℕ → ℕ 
 with_value_at f g v x i j = cond (eqb i g) (cond (eqb j v) x (f i j)) (f i j)
 
 -- a sample of a gauge is one that the name names
-abbrev pub has : ℕ → ℕ → Name → ℕ
-has g i n = cond (eqb n.gauge g) (cond (leb n.from i) (cond (ltb i n.to) 1 0) 0) 0
+abbrev pub hits_of_name : ℕ → ℕ → Name → ℕ
+hits_of_name g i n = cond (eqb n.gauge g) (cond (leb n.from i) (cond (ltb i n.to) 1 0) 0) 0
 
 -- how many of the names name it
 abbrev pub hits : ℕ → ℕ → List Name → ℕ
 hits g i [] = 0
-hits g i (n ∷ l) = has g i n + hits g i l
+hits g i (n ∷ l) = hits_of_name g i n + hits g i l
 
 pub data In (n : Name) : List Name → Type 0 where
   here : {l : List Name} → In n (n ∷ l)
   there : {m : Name} {l : List Name} → In n l → In n (m ∷ l)
 
 -- the names of a gauge cover the samples between without a gap
-abbrev pub Cover : ℕ → ℕ → ℕ → List Name → Type 0
-Cover g low high l = (i : ℕ) → low ≤ i → i < high → 1 ≤ hits g i l
+abbrev pub NamesCover : ℕ → ℕ → ℕ → List Name → Type 0
+NamesCover g low high l = (i : ℕ) → low ≤ i → i < high → 1 ≤ hits g i l
 
 -- one of the names of the gauge ends there
 pub record EndsAt (g e : ℕ) (l : List Name) : Type 0 where
@@ -66,8 +66,8 @@ pub record EndsAt (g e : ℕ) (l : List Name) : Type 0 where
   pub to : name.to ≡ e
 
 -- the names that are left where those of a gauge up to an end are taken out
-abbrev pub stays : ℕ → ℕ → Name → Bool
-stays g e n = not (eqb n.gauge g && leb n.to e)
+abbrev pub is_left_over : ℕ → ℕ → Name → Bool
+is_left_over g e n = not (eqb n.gauge g && leb n.to e)
 
 module _ (block workers : ℕ) where
   -- the next block of a gauge, and the worker that gets it
@@ -77,12 +77,12 @@ module _ (block workers : ℕ) where
   abbrev pub worker_of_next : Flow → ℕ → ℕ
   worker_of_next s g = (s.fed g % BLOCKS_PER_WINDOW) % workers
 
-  abbrev pub Allowed : Flow → Event → Type 0
-  Allowed s (Feed g) = s.read g < length (s.samples g)
-  Allowed s (Count v g) = (v < workers) × (0 < length (s.rings g v))
-  Allowed s (Deposit v) = (v < workers) × (0 < length (s.counted v))
-  Allowed s (Commit g e) = (s.stored g < e) × EndsAt g e s.placed × Cover g (s.stored g) e s.placed
-  Allowed s (Stop more) = Unit {0}
+  abbrev pub IsAllowed : Flow → Event → Type 0
+  IsAllowed s (Feed g) = s.read g < length (s.samples g)
+  IsAllowed s (Count v g) = (v < workers) × (0 < length (s.rings g v))
+  IsAllowed s (Deposit v) = (v < workers) × (0 < length (s.counted v))
+  IsAllowed s (Commit g e) = (s.stored g < e) × EndsAt g e s.placed × NamesCover g (s.stored g) e s.placed
+  IsAllowed s (Stop more) = Unit {0}
 
   abbrev pub after : Flow → Event → Flow
   after s (Feed g) = record {
@@ -119,7 +119,7 @@ module _ (block workers : ℕ) where
     rings = s.rings;
     counted = s.counted;
     stored = with_value s.stored g e;
-    placed = filter (stays g e) s.placed;
+    placed = filter (is_left_over g e) s.placed;
   }
   after s (Stop more) = record {
     samples = λ g. s.samples g ++ more g;
@@ -138,7 +138,7 @@ module _ (block workers : ℕ) where
 
   abbrev pub AllAllowed : List Event → Flow → Type 0
   AllAllowed [] s = Unit {0}
-  AllAllowed (e ∷ es) s = Allowed s e × AllAllowed es (after s e)
+  AllAllowed (e ∷ es) s = IsAllowed s e × AllAllowed es (after s e)
 
 -- nothing is in a ring, counted or placed
 pub record IsStart (s : Flow) : Type 0 where

@@ -1,13 +1,13 @@
 -- What every list of events keeps of the flow of blocks.
---   Every, Ascends     a fact of each name; each begins behind the one before it
+--   Every, NamesAscend   a fact of each name; each begins behind the one before it
 --   everywhere         how many names in rings, counted and placed lists name a sample
 --   IsBlock, IsDealt   a whole block of its gauge; and what the number of blocks fed tells of its ring
---   Meets              the invariant
+--   MeetsInvariant     the invariant
 --   IsThrough          nothing of a gauge is on its way
 --   EachEventKeeps, EachScheduleKeeps, StoredNeverFalls, AllIsStored    the laws
 use Rattle.std.specs.Prelude.{◌≡◌, ◌≢◌, ◌⊎◌, ◌+◌, ◌*◌, ◌%◌, ◌<◌, ◌≤◌, ℕ, List, [], ◌∷◌, length, min, cond, leb, ltb, zero, suc}
 use Rattle.segment_rules.specs.declared.name.Name.{Name}
-use Rattle.flow.specs.Flow.{Flow, Event, Allowed, after, run, AllAllowed, IsStart, hits}
+use Rattle.flow.specs.Flow.{Flow, Event, IsAllowed, after, run, AllAllowed, IsStart, hits}
 use Rattle.flow.specs.Flow.Event.{Commit}
 use Rattle.flow.specs.declared.TheConstants.{BLOCKS_PER_WINDOW}
 
@@ -16,9 +16,9 @@ pub data Every (P : Name → Type 0) : List Name → Type 0 where
   both : {n : Name} {l : List Name} → P n → Every P l → Every P (n ∷ l)
 
 -- each name begins behind the one before it
-pub data Ascends : List Name → Type 0 where
-  empty : Ascends []
-  step : {n : Name} {l : List Name} → Every (λ m. n.from < m.from) l → Ascends l → Ascends (n ∷ l)
+pub data NamesAscend : List Name → Type 0 where
+  empty : NamesAscend []
+  step : {n : Name} {l : List Name} → Every (λ m. n.from < m.from) l → NamesAscend l → NamesAscend (n ∷ l)
 
 -- the sum over the workers
 abbrev pub over : ℕ → (ℕ → ℕ) → ℕ
@@ -56,11 +56,11 @@ pub record IsLine (block workers : ℕ) (s : Flow) (g : ℕ) : Type 0 where
   pub read : s.read g ≡ min (start + s.fed g * block) (length (s.samples g))
   pub rings : (v : ℕ) → v < workers → Every (IsDealt block workers start (s.fed g) v) (s.rings g v)
 
-pub record Meets (block workers : ℕ) (s : Flow) : Type 0 where
+pub record MeetsInvariant (block workers : ℕ) (s : Flow) : Type 0 where
   -- the names of a gauge cover the samples from the last stored to the last read, once each
   pub once : (g i : ℕ) → everywhere workers s g i ≡ between (s.stored g) (s.read g) i
   pub rings : (g v : ℕ) → v < workers → Every (IsBlock block s g) (s.rings g v)
-  pub ascend : (g v : ℕ) → Ascends (s.rings g v)
+  pub ascend : (g v : ℕ) → NamesAscend (s.rings g v)
   pub counted : (v : ℕ) → v < workers → Every (λ n. IsBlock block s n.gauge n) (s.counted v)
   pub placed : Every (λ n. IsBlock block s n.gauge n) s.placed
   pub stored : (g : ℕ) → s.stored g ≤ s.read g
@@ -76,20 +76,20 @@ pub record IsThrough (workers : ℕ) (s : Flow) (g : ℕ) : Type 0 where
   pub counted : (v : ℕ) → v < workers → Every (λ n. n.gauge ≢ g) (s.counted v)
 
 abbrev pub EachEventKeeps : Type 0
-EachEventKeeps = (block workers : ℕ) (s : Flow) (e : Event) → 0 < block → 0 < workers → Meets block workers s →
-    Allowed block workers s e
-    → Meets block workers (after block workers s e)
+EachEventKeeps = (block workers : ℕ) (s : Flow) (e : Event) → 0 < block → 0 < workers → MeetsInvariant block workers s →
+    IsAllowed block workers s e
+    → MeetsInvariant block workers (after block workers s e)
 
 abbrev pub EachScheduleKeeps : Type 0
 EachScheduleKeeps = (block workers : ℕ) (es : List Event) (s : Flow) → 0 < block → 0 < workers → IsStart s →
     AllAllowed block workers es s
-    → Meets block workers (run block workers es s)
+    → MeetsInvariant block workers (run block workers es s)
 
 abbrev pub StoredNeverFalls : Type 0
 StoredNeverFalls = (block workers : ℕ) (es : List Event) (s : Flow) (g : ℕ) → AllAllowed block workers es s
     → s.stored g ≤ (run block workers es s).stored g
 
 abbrev pub AllIsStored : Type 0
-AllIsStored = (block workers : ℕ) (s : Flow) (g : ℕ) → Meets block workers s → IsThrough workers s g →
+AllIsStored = (block workers : ℕ) (s : Flow) (g : ℕ) → MeetsInvariant block workers s → IsThrough workers s g →
     (s.stored g ≡ length (s.samples g))
-    ⊎ Allowed block workers s (Commit g (length (s.samples g)))
+    ⊎ IsAllowed block workers s (Commit g (length (s.samples g)))

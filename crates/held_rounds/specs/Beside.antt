@@ -17,7 +17,7 @@ use Rattle.site_config.specs.declared.config.Config.{Config}
 use Rattle.site_config.specs.Valid.{name_of}
 use Rattle.recorded.specs.Recorded.{recordings}
 use Rattle.held_samples.specs.Told.{round_lines}
-use Rattle.held_samples.specs.Going.{Going, IsStored}
+use Rattle.held_samples.specs.Going.{HoldsSinceEntry, IsStored}
 use Rattle.held_samples.specs.Fronts.{AreFronts, FrontsEnd, FrontsStand}
 
 -- a board for rounds of so many gauges
@@ -29,22 +29,23 @@ pub record Leads {C : Type 0} (setup : Setup) (ends : List ℕ) (board : BoardVa
   pub fronts : AreFronts setup ends board (length lanes)
   pub to : FrontsEnd (at_of lanes) board (length lanes)
 
-pub record Stores {E : Type 0} (tells : Type 0) (conf : Config) (board : BoardValue) (old new : StoreValue)
+pub record Stores {E : Type 0} (tells : Type 0) (bridge : Config) (board : BoardValue) (old new : StoreValue)
     (clock clock2 : ℕ)
     (moments moments2 : MomentsSince) (told told2 : Lines) (seen seen2 : Image) (leaves leaves2 : Image → Type 0)
     (faults faults2 : ℕ)
     (result : Result (Unit {0}) E) : Type 0 where
-  pub going : tells → (files : Files) → IsStored (recordings conf files) old seen leaves →
-      FrontsStand (recordings conf files) board →
-      Going (recordings conf files) (ends_of old.held) clock moments told clock2 moments2 told2 leaves2
+  pub going : tells → (files : Files) → IsStored (recordings bridge files) old seen leaves →
+      FrontsStand (recordings bridge files) board →
+      HoldsSinceEntry (recordings bridge files) (ends_of old.held) clock moments told clock2 moments2 told2 leaves2
       (ends_of new.held)
-  pub stored : tells → (files : Files) → IsStored (recordings conf files) old seen leaves →
-      FrontsStand (recordings conf files) board →
-      OnOk result (IsStored (recordings conf files) new seen2 leaves2)
+  pub stored : tells → (files : Files) → IsStored (recordings bridge files) old seen leaves →
+      FrontsStand (recordings bridge files) board →
+      OnOk result (IsStored (recordings bridge files) new seen2 leaves2)
   pub lines : tells → OnOk result (told2 ≡ told ++
-      round_lines (name_of conf) (slice_index (ends_of old.held)) (slice_index (ends_of new.held)) (length conf.gauges))
-  pub ends : (to : ℕ → ℕ) → FrontsEnd to board (length conf.gauges) →
-      OnOk result ((g : ℕ) → g < length conf.gauges → slice_index (ends_of new.held) g ≡ to g)
+      round_lines (name_of bridge) (slice_index (ends_of old.held)) (slice_index (ends_of new.held))
+      (length bridge.gauges))
+  pub ends : (to : ℕ → ℕ) → FrontsEnd to board (length bridge.gauges) →
+      OnOk result ((g : ℕ) → g < length bridge.gauges → slice_index (ends_of new.held) g ≡ to g)
   pub there : tells → OnOk result (IsThere new seen2 leaves2)
   pub usable : OnOk result (new.shut ≡ false)
   pub head : new.head ≡ old.head

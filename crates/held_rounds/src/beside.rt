@@ -10,7 +10,7 @@ ghost use Rattle.segment_store.specs.Moments.{IsThere};
 ghost use Rattle.site_config.specs.Valid.{IsConfig, name_of};
 ghost use Rattle.recorded.specs.Recorded.{recordings};
 ghost use Rattle.held_samples.specs.Told.{round_lines};
-ghost use Rattle.held_samples.specs.Going.{Going, IsStored};
+ghost use Rattle.held_samples.specs.Going.{HoldsSinceEntry, IsStored};
 ghost use Rattle.held_samples.specs.Fronts.{AreFronts, FrontsStand};
 ghost use Rattle.site_lanes.specs.Lanes.{AreLanes, AreReady, AreHeldTo, HasSource, HasEnded, IsFaulty, IsWhole};
 ghost use Rattle.held_rounds.specs.Beside.{IsBoardFor, Leads, Stores};
@@ -30,26 +30,26 @@ use std::thread::{Threads, join_mut};
 // The puts and lines of one board.
 fn store_board<K: Station>(
     board: &Board,
-    conf: &Config,
+    bridge: &Config,
     store: &mut Store,
     station: &mut K,
     line: &mut HeldLine,
 ) -> Result<(), Failed>
     requires usable { store.old.shut ≡ false }
-    requires conf { IsConfig conf.now }
-    requires gauges { (length store.old.held ≡ length conf.now.gauges)
-        × (length board.now.rows ≡ length conf.now.gauges) }
-    requires setup { store.old.head.setup ≡ conf.now.setup }
+    requires bridge { IsConfig bridge.now }
+    requires gauges { (length store.old.held ≡ length bridge.now.gauges)
+        × (length board.now.rows ≡ length bridge.now.gauges) }
+    requires setup { store.old.head.setup ≡ bridge.now.setup }
     requires fronts { AreFronts store.old.head.setup (ends_of store.old.held) board.now
-        (length conf.now.gauges) }
+        (length bridge.now.gauges) }
     requires on { K.tells → IsThere store.old (K.seen station.old) (K.leaves station.old) }
-    ensures { Stores K.tells conf.now board.now store.old store.new
+    ensures { Stores K.tells bridge.now board.now store.old store.new
         (K.clock station.old) (K.clock station.new) (K.moments station.old) (K.moments station.new)
         (K.told station.old) (K.told station.new) (K.seen station.old) (K.seen station.new)
         (K.leaves station.old) (K.leaves station.new)
         (K.faults station.old) (K.faults station.new) result }
 {
-    store_fronts(board, conf, store, station, line)
+    store_fronts(board, bridge, store, station, line)
 }
 
 // A round in a new thread, or last where none can be made, and the puts of the round before in this
@@ -59,25 +59,25 @@ fn both<R: Threads + Wait + Sync, C: Source + Send, K: Station, G: Gate + Sync>(
     board: &Board,
     prepared: &mut Prepared<C>,
     lanes: &mut [Lane<C>],
-    conf: &Config,
+    bridge: &Config,
     store: &mut Store,
     station: &mut K,
     gate: &G,
     line: &mut HeldLine,
 ) -> Result<(), Failed>
     requires usable { store.old.shut ≡ false }
-    requires conf { IsConfig conf.now }
-    requires gauges { (length store.old.held ≡ length conf.now.gauges)
+    requires bridge { IsConfig bridge.now }
+    requires gauges { (length store.old.held ≡ length bridge.now.gauges)
         × (length lanes.old ≡ prepared.old.gauges)
-        × (length board.now.rows ≡ length conf.now.gauges) }
-    requires setup { store.old.head.setup ≡ conf.now.setup }
+        × (length board.now.rows ≡ length bridge.now.gauges) }
+    requires setup { store.old.head.setup ≡ bridge.now.setup }
     requires fronts { AreFronts store.old.head.setup (ends_of store.old.held) board.now
-        (length conf.now.gauges) }
+        (length bridge.now.gauges) }
     requires lanes { AreReady lanes.old }
     requires on { K.tells → IsThere store.old (K.seen station.old) (K.leaves station.old) }
     ensures round { RoundDone C.tells C.left C.faults
         prepared.old prepared.new lanes.old lanes.new }
-    ensures stores { Stores K.tells conf.now board.now store.old store.new
+    ensures stores { Stores K.tells bridge.now board.now store.old store.new
         (K.clock station.old) (K.clock station.new) (K.moments station.old) (K.moments station.new)
         (K.told station.old) (K.told station.new) (K.seen station.old) (K.seen station.new)
         (K.leaves station.old) (K.leaves station.new)
@@ -91,7 +91,7 @@ fn both<R: Threads + Wait + Sync, C: Source + Send, K: Station, G: Gate + Sync>(
             ensures { RoundDone C.tells C.left C.faults
                 prepared.entry.now prepared.exit.now lanes.entry.now lanes.exit.now }
         { prepared.round(rt, lanes, gate) },
-        &mut || store_board(board, conf, store, station, line),
+        &mut || store_board(board, bridge, store, station, line),
     );
     stored
 }
@@ -102,35 +102,37 @@ fn round_beside<R: Threads + Wait + Sync, C: Source + Send, K: Station, G: Gate 
     board: &Board,
     prepared: &mut Prepared<C>,
     lanes: &mut [Lane<C>],
-    conf: &Config,
+    bridge: &Config,
     store: &mut Store,
     station: &mut K,
     gate: &G,
     line: &mut HeldLine,
 ) -> Result<(), Failed>
     requires usable { store.old.shut ≡ false }
-    requires conf { IsConfig conf.now }
-    requires gauges { (length store.old.held ≡ length conf.now.gauges)
-        × (prepared.old.gauges ≡ length conf.now.gauges)
-        × (length lanes.old ≡ length conf.now.gauges)
-        × (length board.now.rows ≡ length conf.now.gauges) }
-    requires setup { store.old.head.setup ≡ conf.now.setup }
-    requires grid { prepared.old.grid ≡ conf.now.setup.grid }
+    requires bridge { IsConfig bridge.now }
+    requires gauges { (length store.old.held ≡ length bridge.now.gauges)
+        × (prepared.old.gauges ≡ length bridge.now.gauges)
+        × (length lanes.old ≡ length bridge.now.gauges)
+        × (length board.now.rows ≡ length bridge.now.gauges) }
+    requires setup { store.old.head.setup ≡ bridge.now.setup }
+    requires grid { prepared.old.grid ≡ bridge.now.setup.grid }
     requires leads { Leads store.old.head.setup (ends_of store.old.held) board.now lanes.old }
     requires lanes { AreReady lanes.old }
     requires on { K.tells → IsThere store.old (K.seen station.old) (K.leaves station.old) }
     // Of the running round nothing is said here.
     ensures going { K.tells → (files : Files) →
-        IsStored (recordings conf.now files) store.old (K.seen station.old) (K.leaves station.old) →
-        FrontsStand (recordings conf.now files) board.now →
-        Going (recordings conf.now files) (ends_of store.old.held)
+        IsStored (recordings bridge.now files) store.old (K.seen station.old)
+        (K.leaves station.old) →
+        FrontsStand (recordings bridge.now files) board.now →
+        HoldsSinceEntry (recordings bridge.now files) (ends_of store.old.held)
         (K.clock station.old) (K.moments station.old) (K.told station.old)
         (K.clock station.new) (K.moments station.new) (K.told station.new)
         (K.leaves station.new) (ends_of store.new.held) }
     ensures stored { K.tells → (files : Files) →
-        IsStored (recordings conf.now files) store.old (K.seen station.old) (K.leaves station.old) →
-        FrontsStand (recordings conf.now files) board.now → OnOk result
-        (IsStored (recordings conf.now files) store.new (K.seen station.new)
+        IsStored (recordings bridge.now files) store.old (K.seen station.old)
+        (K.leaves station.old) →
+        FrontsStand (recordings bridge.now files) board.now → OnOk result
+        (IsStored (recordings bridge.now files) store.new (K.seen station.new)
         (K.leaves station.new)) }
     ensures there { K.tells →
         OnOk result (IsThere store.new (K.seen station.new) (K.leaves station.new)) }
@@ -139,20 +141,22 @@ fn round_beside<R: Threads + Wait + Sync, C: Source + Send, K: Station, G: Gate 
     ensures gauges { length store.new.held ≡ length store.old.held }
     ensures cause { HasCause (K.faults station.old) (K.faults station.new) result }
     ensures told { K.tells → OnOk result (K.told station.new ≡ K.told station.old
-        ++ round_lines (name_of conf.now) (slice_index (ends_of store.old.held))
-        (slice_index (ends_of store.new.held)) (length conf.now.gauges)) }
+        ++ round_lines (name_of bridge.now) (slice_index (ends_of store.old.held))
+        (slice_index (ends_of store.new.held)) (length bridge.now.gauges)) }
     // The gauges are held up to where the lanes were, and the next board leads on from there.
     ensures held { OnOk result (AreHeldTo (ends_of store.new.held) lanes.old) }
     ensures leads { OnOk result (Leads store.new.head.setup (ends_of store.new.held)
         prepared.new.board lanes.new) }
     ensures stand { C.tells → (files : Files) →
-        AreLanes C.tells C.left (recordings conf.now files) lanes.old → OnOk result
-        (AreLanes C.tells C.left (recordings conf.now files) lanes.new
-        × FrontsStand (recordings conf.now files) prepared.new.board) }
+        AreLanes C.tells C.left (recordings bridge.now files) lanes.old → OnOk result
+        (AreLanes C.tells C.left (recordings bridge.now files) lanes.new
+        × FrontsStand (recordings bridge.now files) prepared.new.board) }
     ensures round { RoundDone C.tells C.left C.faults
         prepared.old prepared.new lanes.old lanes.new }
 {
-    both(rt, board, prepared, lanes, conf, store, station, gate, line)
+    both(
+        rt, board, prepared, lanes, bridge, store, station, gate, line,
+    )
 }
 
 /// Rounds until each lane has ended, each beside the puts and lines of the round before. `board` is
@@ -163,20 +167,20 @@ pub fn count_rounds<R: Threads + Wait + Sync, C: Source + Send, K: Station, G: G
     prepared: &mut Prepared<C>,
     board: Board,
     lanes: &mut [Lane<C>],
-    conf: &Config,
+    bridge: &Config,
     store: &mut Store,
     station: &mut K,
     gate: &G,
     line: &mut HeldLine,
 ) -> Result<(), Failed>
     requires usable { store.old.shut ≡ false }
-    requires conf { IsConfig conf.now }
-    requires gauges { (length store.old.held ≡ length conf.now.gauges)
-        × (prepared.old.gauges ≡ length conf.now.gauges)
-        × (length lanes.old ≡ length conf.now.gauges) }
-    requires setup { store.old.head.setup ≡ conf.now.setup }
-    requires grid { prepared.old.grid ≡ conf.now.setup.grid }
-    requires block { prepared.old.block ≡ conf.now.block }
+    requires bridge { IsConfig bridge.now }
+    requires gauges { (length store.old.held ≡ length bridge.now.gauges)
+        × (prepared.old.gauges ≡ length bridge.now.gauges)
+        × (length lanes.old ≡ length bridge.now.gauges) }
+    requires setup { store.old.head.setup ≡ bridge.now.setup }
+    requires grid { prepared.old.grid ≡ bridge.now.setup.grid }
+    requires block { prepared.old.block ≡ bridge.now.block }
     requires board { IsBoardFor prepared.old board }
     requires lanes { AreHeldTo (ends_of store.old.held) lanes.old }
     requires sources { All HasSource lanes.old }
@@ -184,25 +188,30 @@ pub fn count_rounds<R: Threads + Wait + Sync, C: Source + Send, K: Station, G: G
     requires on { K.tells → IsThere store.old (K.seen station.old) (K.leaves station.old) }
     // Every moment is kept, whatever it answers.
     ensures going { K.tells → C.tells → (files : Files) →
-        AreLanes C.tells C.left (recordings conf.now files) lanes.old →
-        IsStored (recordings conf.now files) store.old (K.seen station.old) (K.leaves station.old) →
-        Going (recordings conf.now files) (ends_of store.old.held)
+        AreLanes C.tells C.left (recordings bridge.now files) lanes.old →
+        IsStored (recordings bridge.now files) store.old (K.seen station.old)
+        (K.leaves station.old) →
+        HoldsSinceEntry (recordings bridge.now files) (ends_of store.old.held)
         (K.clock station.old) (K.moments station.old) (K.told station.old)
         (K.clock station.new) (K.moments station.new) (K.told station.new)
         (K.leaves station.new) (ends_of store.new.held) }
     ensures stored { K.tells → C.tells → (files : Files) →
-        AreLanes C.tells C.left (recordings conf.now files) lanes.old →
-        IsStored (recordings conf.now files) store.old (K.seen station.old) (K.leaves station.old) →
-        OnOk result (IsStored (recordings conf.now files) store.new
+        AreLanes C.tells C.left (recordings bridge.now files) lanes.old →
+        IsStored (recordings bridge.now files) store.old (K.seen station.old)
+        (K.leaves station.old) →
+        OnOk result (IsStored (recordings bridge.now files) store.new
         (K.seen station.new) (K.leaves station.new)) }
     ensures read { C.tells → (files : Files) →
-        AreLanes C.tells C.left (recordings conf.now files) lanes.old →
-        OnOk result (AreLanes C.tells C.left (recordings conf.now files) lanes.new) }
+        AreLanes C.tells C.left (recordings bridge.now files) lanes.old →
+        OnOk result (AreLanes C.tells C.left (recordings bridge.now files) lanes.new) }
     ensures told { K.tells → C.tells → (files : Files) →
-        AreLanes C.tells C.left (recordings conf.now files) lanes.old → (n : List ℕ) (told : Lines)
+        AreLanes C.tells C.left (recordings bridge.now files) lanes.old →
+        (n : List ℕ) (told : Lines)
         →
-        HasTold conf.now.block (recordings conf.now files) n told (K.told station.old) lanes.old →
-        OnOk result (All IsWhole lanes.new → HasTold conf.now.block (recordings conf.now files) n
+        HasTold bridge.now.block (recordings bridge.now files) n told
+        (K.told station.old) lanes.old →
+        OnOk result (All IsWhole lanes.new → HasTold bridge.now.block
+        (recordings bridge.now files) n
         told (K.told station.new) lanes.new) }
     ensures ended { OnOk result (All HasEnded lanes.new) }
     ensures there { K.tells →
@@ -219,10 +228,10 @@ pub fn count_rounds<R: Threads + Wait + Sync, C: Source + Send, K: Station, G: G
     let mut board = prepared.exchange(board);
     for _ in rt.forever() {
         if have_ended(lanes) {
-            return store_board(&board, conf, store, station, line);
+            return store_board(&board, bridge, store, station, line);
         }
         round_beside(
-            rt, &board, prepared, lanes, conf, store, station, gate, line,
+            rt, &board, prepared, lanes, bridge, store, station, gate, line,
         )?;
         board = prepared.exchange(board);
     }

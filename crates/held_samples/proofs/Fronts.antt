@@ -15,8 +15,8 @@ use Rattle.recorded.specs.Recorded.{Recorded}
 use Rattle.held_samples.specs.Going.{AreNames}
 use Rattle.held_samples.specs.Fronts.{IsHeldTo, StandsIn}
 
-pub are_names : (conf : Config) → IsConfig conf → AreNames (name_of conf) (length conf.gauges)
-are_names conf is = record { letters = is.names; differ = is.differ }
+pub are_names : (bridge : Config) → IsConfig bridge → AreNames (name_of bridge) (length bridge.gauges)
+are_names bridge is = record { letters = is.names; differ = is.differ }
 
 -- what stands for samples does so by its parts
 pub stands_in : (r : Recorded) (front : SegmentValue) → IsSegment front → front.grid ≡ r.setup.grid → StandsIn r front

@@ -25,7 +25,7 @@ use Rattle.recorded.specs.Recorded.{Recorded}
 use Rattle.held_samples.specs.Told.{IsBelow, AreBelow, EachAtMost, held_line, gauge_lines, round_lines}
 use Rattle.std.proofs.lemmas.Bool.Decides.{nat_tests}
 use Rattle.held_samples.specs.Fronts.{IsHeldTo}
-use Rattle.held_samples.specs.Going.{HoldsAtLeast, IsKept, Going, Safe, IsStored}
+use Rattle.held_samples.specs.Going.{HoldsAtLeast, IsKept, HoldsSinceEntry, Safe, IsStored}
 
 pub all_more : {A : Type 0} (P : A → Type 0) (xs : List A) (x : A) → AllByRecursion P xs → P x → AllByRecursion P (xs ++ x ∷ [])
 all_more P [] x all here = (here, tt)
@@ -75,7 +75,7 @@ stored_holds r s seen leaves stored c has = record {
 pub going_starts : (r : Recorded) (s : StoreValue) (start : ℕ) (past : MomentsSince) (told : Lines) (seen : Image)
     (leaves : Image → Type 0) → IsStored r s seen leaves
     → ((lines : Lines) (c : Image) → past start lines c → (lines ≡ told) × leaves c) →
-    Going r (ends_of s.held) start past told start past told leaves (ends_of s.held)
+    HoldsSinceEntry r (ends_of s.held) start past told start past told leaves (ends_of s.held)
 going_starts r s start past told seen leaves stored only = record {
   run = started start past (IsKept r (ends_of s.held) told) (λ lines c was. record {
     held = ends_of s.held;
@@ -110,8 +110,8 @@ kept_then r a n told told2 lines c new grew below least k = record {
 
 pub going_then : {r : Recorded} {a n m : List ℕ} {start mid now : ℕ} {past between since : MomentsSince} {told told2 told3 : Lines}
     {leaves2 leaves3 : Image → Type 0}
-    → Going r a start past told mid between told2 leaves2 n → Going r n mid between told2 now since told3 leaves3 m →
-    Going r a start past told now since told3 leaves3 m
+    → HoldsSinceEntry r a start past told mid between told2 leaves2 n → HoldsSinceEntry r n mid between told2 now since told3 leaves3 m →
+    HoldsSinceEntry r a start past told now since told3 leaves3 m
 going_then {r} {a} {n} {m} {start} {mid} {now} {past} {between} {since} {told} {told2} {told3} {leaves2} {leaves3} x y = record {
   run = continues start mid now past between since (IsKept r a told) (IsKept r n told2) x.run y.run
       (λ lines c k. kept_then r a n told told2 lines c x.new x.grew x.below x.least k);
@@ -170,7 +170,7 @@ module _ (r : Recorded) (s : StoreValue) (seen : Image) (leaves : Image → Type
   }
 
   -- whatever it answers
-  pub put_going : Going r (ends_of s.held) start past told now since told2 leaves2 (ends_of s.held)
+  pub put_going : HoldsSinceEntry r (ends_of s.held) start past told now since told2 leaves2 (ends_of s.held)
   put_going = record {
     run = entails start now past since (IsKept r (ends_of s.held) told) (InPut told s.head stored.bodies (ends_of s.held) p) run put_kept;
     new = [];
@@ -194,7 +194,7 @@ module _ (r : Recorded) (s : StoreValue) (seen : Image) (leaves : Image → Type
     more : EachAtMost (ends_of s.held) (ends_of s2.held)
     more = subst (EachAtMost (ends_of s.held)) (sym held2) (grows s.head.setup (ends_of s.held) p next)
 
-    pub put_going_on : Going r (ends_of s.held) start past told now since told2 leaves2 (ends_of s2.held)
+    pub put_going_on : HoldsSinceEntry r (ends_of s.held) start past told now since told2 leaves2 (ends_of s2.held)
     put_going_on = record {
       run = put_going.run;
       new = [];
@@ -210,9 +210,9 @@ module _ (r : Recorded) (s : StoreValue) (seen : Image) (leaves : Image → Type
 
 -- a line that acknowledges no more than is held, told or not
 pub line_going : (r : Recorded) (a m : List ℕ) (start now next : ℕ) (past since later : MomentsSince) (told told2 told3 : Lines)
-    (leaves leaves2 : Image → Type 0) → Going r a start past told now since told2 leaves m
+    (leaves leaves2 : Image → Type 0) → HoldsSinceEntry r a start past told now since told2 leaves m
     → (line : List ℕ) → IsBelow r m line → Elapses now next since later told3 leaves2 → SameImages leaves leaves2 →
-    (told3 ≡ told2 ++ line ∷ []) ⊎ (told3 ≡ told2) → Going r a start past told next later told3 leaves2 m
+    (told3 ≡ told2 ++ line ∷ []) ⊎ (told3 ≡ told2) → HoldsSinceEntry r a start past told next later told3 leaves2 m
 line_going r a m start now next past since later told told2 told3 leaves leaves2 g line is_below time images lines =
     let new : (l : Lines) × (told3 ≡ told ++ l) × AreBelow r m l = ⊎_elim
     (λ more. (
@@ -317,7 +317,7 @@ safe_quiet r a start now past since told told2 seen seen2 leaves leaves2 holds q
 -- and then one over the resumed store
 pub safe_going : (r : Recorded) (a n m : List ℕ) (start mid now : ℕ) (past between since : MomentsSince) (told told2 told3 : Lines)
     (leaves2 leaves3 : Image → Type 0) → Safe r a start past told mid between told2 leaves2 → told2 ≡ told → EachAtMost a n
-    → Going r n mid between told2 now since told3 leaves3 m → Safe r a start past told now since told3 leaves3
+    → HoldsSinceEntry r n mid between told2 now since told3 leaves3 m → Safe r a start past told now since told3 leaves3
 safe_going r a n m start mid now past between since told told2 told3 leaves2 leaves3 safe same least g =
     let none : told2 ≡ told ++ [] = same ∙ same_lines told in
     record {

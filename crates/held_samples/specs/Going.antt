@@ -1,7 +1,7 @@
 -- What is true at every moment of a run of `count`.
 --   HoldsAtLeast   the image holds at least these numbers of samples
 --   IsKept         and no line of this call acknowledges more than the image holds
---   Going          the run from a function's entry: each moment is kept, and each image that a crash may leave now
+--   HoldsSinceEntry   the run from a function's entry: each moment is kept, and each image that a crash may leave now
 --                  holds so many
 --   Safe           the same without a store
 --   IsStored       the store is on its station, and its bodies stand for the recordings
@@ -37,7 +37,7 @@ pub record IsKept (r : Recorded) (a : List ℕ) (told lines : Lines) (c : Image)
 
 -- start, past and told: the clock, the moments and the lines at entry, where n are held; since and told2: those of now,
 -- where m are held
-pub record Going (r : Recorded) (n : List ℕ) (start : ℕ) (past : MomentsSince) (told : Lines) (now : ℕ)
+pub record HoldsSinceEntry (r : Recorded) (n : List ℕ) (start : ℕ) (past : MomentsSince) (told : Lines) (now : ℕ)
     (since : MomentsSince)
     (told2 : Lines) (leaves : Image → Type 0) (m : List ℕ) : Type 0 where
   pub run : Since start past now since (IsKept r n told)

@@ -21,7 +21,7 @@ ghost use Rattle.site_config.specs.declared.limits.TheConstants.{MAX_NAME_BYTES}
 ghost use Rattle.site_config.specs.Valid.{IsConfig, name_of};
 ghost use Rattle.recorded.specs.Recorded.{Recorded, recordings};
 ghost use Rattle.held_samples.specs.Told.{held_line, gauge_lines, round_lines};
-ghost use Rattle.held_samples.specs.Going.{Going, IsStored, AreNames};
+ghost use Rattle.held_samples.specs.Going.{HoldsSinceEntry, IsStored, AreNames};
 ghost use Rattle.held_samples.specs.Fronts.{IsHeldTo, StandsIn, AreFronts, FrontsEnd, FrontsStand};
 
 use crate::line::HeldLine;
@@ -54,7 +54,7 @@ pub fn store_front<K: Station>(
         r.names front.now.gauge ≡ name.now →
         IsStored r store.old (K.seen station.old) (K.leaves station.old) →
         StandsIn r front.now →
-        Going r (ends_of store.old.held)
+        HoldsSinceEntry r (ends_of store.old.held)
         (K.clock station.old) (K.moments station.old) (K.told station.old)
         (K.clock station.new) (K.moments station.new) (K.told station.new)
         (K.leaves station.new) (ends_of store.new.held) }
@@ -101,7 +101,7 @@ fn store_gauge<K: Station>(
         r.names front.now.gauge ≡ name.now →
         IsStored r store.old (K.seen station.old) (K.leaves station.old) →
         (front.now.from < front.now.to → StandsIn r front.now) →
-        Going r (ends_of store.old.held)
+        HoldsSinceEntry r (ends_of store.old.held)
         (K.clock station.old) (K.moments station.old) (K.told station.old)
         (K.clock station.new) (K.moments station.new) (K.told station.new)
         (K.leaves station.new) (ends_of store.new.held) }
@@ -131,37 +131,39 @@ fn store_gauge<K: Station>(
 /// or a line was not told; the gauges below keep what was stored of them.
 pub fn store_fronts<K: Station>(
     board: &Board,
-    conf: &Config,
+    bridge: &Config,
     store: &mut Store,
     station: &mut K,
     line: &mut HeldLine,
 ) -> Result<(), Failed>
     requires usable { store.old.shut ≡ false }
-    requires conf { IsConfig conf.now }
-    requires gauges { (length store.old.held ≡ length conf.now.gauges)
-        × (length board.now.rows ≡ length conf.now.gauges) }
-    requires setup { store.old.head.setup ≡ conf.now.setup }
+    requires bridge { IsConfig bridge.now }
+    requires gauges { (length store.old.held ≡ length bridge.now.gauges)
+        × (length board.now.rows ≡ length bridge.now.gauges) }
+    requires setup { store.old.head.setup ≡ bridge.now.setup }
     requires fronts { AreFronts store.old.head.setup (ends_of store.old.held) board.now
-        (length conf.now.gauges) }
+        (length bridge.now.gauges) }
     requires on { K.tells → IsThere store.old (K.seen station.old) (K.leaves station.old) }
     // Every moment is kept, whatever it answers.
     ensures going { K.tells → (files : Files) →
-        IsStored (recordings conf.now files) store.old (K.seen station.old) (K.leaves station.old) →
-        FrontsStand (recordings conf.now files) board.now →
-        Going (recordings conf.now files) (ends_of store.old.held)
+        IsStored (recordings bridge.now files) store.old (K.seen station.old)
+        (K.leaves station.old) →
+        FrontsStand (recordings bridge.now files) board.now →
+        HoldsSinceEntry (recordings bridge.now files) (ends_of store.old.held)
         (K.clock station.old) (K.moments station.old) (K.told station.old)
         (K.clock station.new) (K.moments station.new) (K.told station.new)
         (K.leaves station.new) (ends_of store.new.held) }
     ensures stored { K.tells → (files : Files) →
-        IsStored (recordings conf.now files) store.old (K.seen station.old) (K.leaves station.old) →
-        FrontsStand (recordings conf.now files) board.now → OnOk result
-        (IsStored (recordings conf.now files) store.new (K.seen station.new)
+        IsStored (recordings bridge.now files) store.old (K.seen station.old)
+        (K.leaves station.old) →
+        FrontsStand (recordings bridge.now files) board.now → OnOk result
+        (IsStored (recordings bridge.now files) store.new (K.seen station.new)
         (K.leaves station.new)) }
     ensures told { K.tells → OnOk result (K.told station.new ≡ K.told station.old
-        ++ round_lines (name_of conf.now) (slice_index (ends_of store.old.held))
-        (slice_index (ends_of store.new.held)) (length conf.now.gauges)) }
-    ensures held { (to : ℕ → ℕ) → FrontsEnd to board.now (length conf.now.gauges) →
-        OnOk result ((g : ℕ) → g < length conf.now.gauges →
+        ++ round_lines (name_of bridge.now) (slice_index (ends_of store.old.held))
+        (slice_index (ends_of store.new.held)) (length bridge.now.gauges)) }
+    ensures held { (to : ℕ → ℕ) → FrontsEnd to board.now (length bridge.now.gauges) →
+        OnOk result ((g : ℕ) → g < length bridge.now.gauges →
         slice_index (ends_of store.new.held) g ≡ to g) }
     ensures there { K.tells →
         OnOk result (IsThere store.new (K.seen station.new) (K.leaves station.new)) }
@@ -170,8 +172,8 @@ pub fn store_fronts<K: Station>(
     ensures gauges { length store.new.held ≡ length store.old.held }
     ensures cause { HasCause (K.faults station.old) (K.faults station.new) result }
 {
-    for gauge in 0..conf.gauges.as_slice().len() {
-        let name = conf.gauges.as_slice()[gauge].name.as_str();
+    for gauge in 0..bridge.gauges.as_slice().len() {
+        let name = bridge.gauges.as_slice()[gauge].name.as_str();
         store_gauge(store, station, board.front(gauge as u16), name, line)?;
     }
     Ok(())

@@ -1,7 +1,7 @@
 -- What is there after a store was made or was refused, and what is answered.
 use Rattle.std.proofs.Common.{◌≡◌, ◌⊎◌, inl, inr, ℕ, List, [], length, refl, subst, arith}
 use Rattle.std.specs.Prelude.{Option, Some, Result, Ok, Err}
-use Rattle.outside.specs.Fault.{Rose}
+use Rattle.outside.specs.Fault.{CountRose}
 use Rattle.outside.specs.Site.{Files}
 use Rattle.station.specs.Station.{Image, Lines, MomentsSince, Since}
 use Rattle.recording.specs.Head.{recording_head}
@@ -76,8 +76,8 @@ sound_head content g fault (h, (a, there, good)) (f, (b, there2, bad), is) = hea
 -- over sound heads and an empty station, where nothing outside fails
 module _ (c : Config) (files : Files) (image : Image) (site site2 disk disk2 : ℕ) (sound : AreSound c files (length c.gauges))
     (none : length image ≡ 0)
-    (no_read : ¬ Rose site site2) (no_disk : ¬ Rose disk disk2) where
-  complete : (s : Status) → AnswersBy c files image s → (s ≡ ReadFault → Rose site site2) → (s ≡ DiskFault → Rose disk disk2) →
+    (no_read : ¬ CountRose site site2) (no_disk : ¬ CountRose disk disk2) where
+  complete : (s : Status) → AnswersBy c files image s → (s ≡ ReadFault → CountRose site site2) → (s ≡ DiskFault → CountRose disk disk2) →
       (s ≡ Done) ⊎ (s ≡ OutOfMemory)
   complete Done by read fault = inl refl
   complete OutOfMemory by read fault = inr refl
@@ -99,9 +99,9 @@ module _ (c : Config) (files : Files) (image : Image) (site site2 disk disk2 : �
 -- by the configuration that was read
 pub init_complete : (read : Result Config ConfigFault) (c c2 : Config) (files : Files) (image : Image) (site site2 disk disk2 : ℕ)
     (s : Status) → read ≡ Ok c
-    → read ≡ Ok c2 → AnswersBy c files image s → (s ≡ ReadFault → Rose site site2) → (s ≡ DiskFault → Rose disk disk2) →
+    → read ≡ Ok c2 → AnswersBy c files image s → (s ≡ ReadFault → CountRose site site2) → (s ≡ DiskFault → CountRose disk disk2) →
     AreSound c2 files (length c2.gauges)
-    → length image ≡ 0 → ¬ Rose site site2 → ¬ Rose disk disk2 → (s ≡ Done) ⊎ (s ≡ OutOfMemory)
+    → length image ≡ 0 → ¬ CountRose site site2 → ¬ CountRose disk disk2 → (s ≡ Done) ⊎ (s ≡ OutOfMemory)
 init_complete read c c2 files image site site2 disk disk2 s is is2 by rose rose2 sound none no_read no_disk =
     let same : c2 ≡ c = cc in
     complete c files image site site2 disk disk2 (subst (λ (x : Config). AreSound x files (length x.gauges)) same sound) none no_read

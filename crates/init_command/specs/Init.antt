@@ -53,11 +53,11 @@ AnswersBy c files image OutOfMemory = ⊤
 AnswersBy c files image status = ⊥
 
 abbrev pub InitAnswers : Result Config ConfigFault → Files → Image → Status → Type 0
-InitAnswers conf files image (BadConfig fault) = conf ≡ Err fault
+InitAnswers bridge files image (BadConfig fault) = bridge ≡ Err fault
 -- a fault of the outside has a clause of its own, and want of memory none
-InitAnswers conf files image ReadFault = ⊤
-InitAnswers conf files image OutOfMemory = ⊤
-InitAnswers conf files image status = (c : Config) × (conf ≡ Ok c) × AnswersBy c files image status
+InitAnswers bridge files image ReadFault = ⊤
+InitAnswers bridge files image OutOfMemory = ⊤
+InitAnswers bridge files image status = (c : Config) × (bridge ≡ Ok c) × AnswersBy c files image status
 
 -- which answers there are
 abbrev pub IsInit : Status → Type 0

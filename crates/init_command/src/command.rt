@@ -1,5 +1,5 @@
 ghost use Rattle.std.specs.Prelude.{◌≡◌, ◌≢◌, ◌≤◌, ◌<◌, ◌⊎◌, ◌++◌, [], ◌∷◌, ℕ, List, Ok, length};
-ghost use Rattle.outside.specs.Fault.{Rose};
+ghost use Rattle.outside.specs.Fault.{CountRose};
 ghost use Rattle.station.specs.Station.{Image, Since};
 ghost use Rattle.site_config.specs.Configuration.{config_of_bytes};
 ghost use Rattle.site_config.specs.Valid.{IsConfig};
@@ -32,19 +32,19 @@ pub fn init_command<C: Source, T: Site, K: Station>(
 ) -> Status
     requires home { T.out site.old ≡ 0 }
     // With `Done` a crash leaves the new store and nothing else, and its line was told.
-    ensures made { K.tells → T.tells → C.tells → result ≡ Done → (conf : Config) →
-        config_of_bytes (C.left config.old) ≡ Ok conf →
-        IsMade conf (T.files site.old) (K.seen station.new) (K.leaves station.new) }
-    ensures told { K.tells → C.tells → result ≡ Done → (conf : Config) →
-        config_of_bytes (C.left config.old) ≡ Ok conf →
-        K.told station.new ≡ K.told station.old ++ init_line (length conf.gauges) ∷ [] }
+    ensures made { K.tells → T.tells → C.tells → result ≡ Done → (bridge : Config) →
+        config_of_bytes (C.left config.old) ≡ Ok bridge →
+        IsMade bridge (T.files site.old) (K.seen station.new) (K.leaves station.new) }
+    ensures told { K.tells → C.tells → result ≡ Done → (bridge : Config) →
+        config_of_bytes (C.left config.old) ≡ Ok bridge →
+        K.told station.new ≡ K.told station.old ++ init_line (length bridge.gauges) ∷ [] }
     // On an empty station each moment is too short for a head, or has no open ready byte, or is the
     // new store.
-    ensures any_moment { K.tells → T.tells → C.tells → (conf : Config) →
-        config_of_bytes (C.left config.old) ≡ Ok conf →
+    ensures any_moment { K.tells → T.tells → C.tells → (bridge : Config) →
+        config_of_bytes (C.left config.old) ≡ Ok bridge →
         ((c : Image) → K.leaves station.old c → length c ≡ 0) →
         Since (K.clock station.old) (K.moments station.old) (K.clock station.new)
-        (K.moments station.new) (InMaking conf (T.files site.old)) }
+        (K.moments station.new) (InMaking bridge (T.files site.old)) }
     // Where it is refused, and over a station that is not empty, nothing changes and at most the
     // line of the answer is told.
     ensures unmade { K.tells → C.tells → IsUnmade result → TellsAtMost
@@ -58,23 +58,24 @@ pub fn init_command<C: Source, T: Site, K: Station>(
         (K.told station.old) (K.told station.new) (K.seen station.old) (K.seen station.new)
         (K.leaves station.old) (K.leaves station.new) }
     ensures last { K.tells → C.tells → result ≢ Done →
-        Rose (K.faults station.old) (K.faults station.new) ⊎ EndsIn
+        CountRose (K.faults station.old) (K.faults station.new) ⊎ EndsIn
         (fault_line result (name_by (config_of_bytes (C.left config.old)) result))
         (K.told station.new) }
     // Which answer it is, and when it is `Done`.
     ensures answer { K.tells → T.tells → C.tells → InitAnswers
         (config_of_bytes (C.left config.old)) (T.files site.old) (K.seen station.old) result }
-    ensures complete { K.tells → T.tells → C.tells → (conf : Config) →
-        config_of_bytes (C.left config.old) ≡ Ok conf →
-        AreSound conf (T.files site.old) (length conf.gauges) → length (K.seen station.old) ≡ 0 →
-        ¬ Rose (C.faults config.old) (C.faults config.new) →
-        ¬ Rose (T.faults site.old) (T.faults site.new) →
-        ¬ Rose (K.faults station.old) (K.faults station.new) →
+    ensures complete { K.tells → T.tells → C.tells → (bridge : Config) →
+        config_of_bytes (C.left config.old) ≡ Ok bridge →
+        AreSound bridge (T.files site.old) (length bridge.gauges) →
+        length (K.seen station.old) ≡ 0 →
+        ¬ CountRose (C.faults config.old) (C.faults config.new) →
+        ¬ CountRose (T.faults site.old) (T.faults site.new) →
+        ¬ CountRose (K.faults station.old) (K.faults station.new) →
         (result ≡ Done) ⊎ (result ≡ OutOfMemory) }
     ensures kind { IsInit result }
-    ensures read { result ≡ ReadFault → Rose (C.faults config.old) (C.faults config.new) ⊎
-        Rose (T.faults site.old) (T.faults site.new) }
-    ensures disk { result ≡ DiskFault → Rose (K.faults station.old) (K.faults station.new) }
+    ensures read { result ≡ ReadFault → CountRose (C.faults config.old) (C.faults config.new) ⊎
+        CountRose (T.faults site.old) (T.faults site.new) }
+    ensures disk { result ≡ DiskFault → CountRose (K.faults station.old) (K.faults station.new) }
     // The gauges' files are asked for, in their order and each once, and no other.
     ensures asked { C.tells → AsksFirst (T.names_asked site.old) (T.names_asked site.new)
         (names_in (config_of_bytes (C.left config.old))) }
@@ -86,7 +87,7 @@ pub fn init_command<C: Source, T: Site, K: Station>(
         return Status::OutOfMemory;
     };
     match read_config(alloc, config) {
-        Ok(conf) => init_by(alloc, conf, site, station, &mut line),
+        Ok(bridge) => init_by(alloc, bridge, site, station, &mut line),
         Err(status) => {
             tell_fault(station, &mut line, status, "");
             status
@@ -97,48 +98,49 @@ pub fn init_command<C: Source, T: Site, K: Station>(
 // The same by a configuration.
 fn init_by<T: Site, K: Station>(
     alloc: Global,
-    conf: Config,
+    bridge: Config,
     site: &mut T,
     station: &mut K,
     line: &mut FaultLine,
 ) -> Status
-    requires conf { IsConfig conf }
+    requires bridge { IsConfig bridge }
     requires room { line.old.name_bytes ≡ MAX_NAME_BYTES }
     requires home { T.out site.old ≡ 0 }
     ensures made { K.tells → T.tells → result ≡ Done →
-        IsMade conf (T.files site.old) (K.seen station.new) (K.leaves station.new) }
+        IsMade bridge (T.files site.old) (K.seen station.new) (K.leaves station.new) }
     ensures told { K.tells → result ≡ Done →
-        K.told station.new ≡ K.told station.old ++ init_line (length conf.gauges) ∷ [] }
+        K.told station.new ≡ K.told station.old ++ init_line (length bridge.gauges) ∷ [] }
     ensures any_moment { K.tells → T.tells →
         ((c : Image) → K.leaves station.old c → length c ≡ 0) →
         Since (K.clock station.old) (K.moments station.old) (K.clock station.new)
-        (K.moments station.new) (InMaking conf (T.files site.old)) }
+        (K.moments station.new) (InMaking bridge (T.files site.old)) }
     ensures unmade { K.tells → IsUnmade result → TellsAtMost
-        (fault_line result (name_for conf result))
+        (fault_line result (name_for bridge result))
         (K.clock station.old) (K.moments station.old) (K.clock station.new) (K.moments station.new)
         (K.told station.old) (K.told station.new) (K.seen station.old) (K.seen station.new)
         (K.leaves station.old) (K.leaves station.new) }
     ensures quiet { K.tells → 0 < length (K.seen station.old) → TellsAtMost
-        (fault_line result (name_for conf result))
+        (fault_line result (name_for bridge result))
         (K.clock station.old) (K.moments station.old) (K.clock station.new) (K.moments station.new)
         (K.told station.old) (K.told station.new) (K.seen station.old) (K.seen station.new)
         (K.leaves station.old) (K.leaves station.new) }
     ensures last { K.tells → result ≢ Done →
-        Rose (K.faults station.old) (K.faults station.new) ⊎ EndsIn
-        (fault_line result (name_for conf result)) (K.told station.new) }
+        CountRose (K.faults station.old) (K.faults station.new) ⊎ EndsIn
+        (fault_line result (name_for bridge result)) (K.told station.new) }
     ensures answer { K.tells → T.tells →
-        AnswersBy conf (T.files site.old) (K.seen station.old) result }
+        AnswersBy bridge (T.files site.old) (K.seen station.old) result }
     ensures kind { IsInit result }
-    ensures read { result ≡ ReadFault → Rose (T.faults site.old) (T.faults site.new) }
-    ensures disk { result ≡ DiskFault → Rose (K.faults station.old) (K.faults station.new) }
-    ensures asked { AsksFirst (T.names_asked site.old) (T.names_asked site.new) (file_names conf) }
+    ensures read { result ≡ ReadFault → CountRose (T.faults site.old) (T.faults site.new) }
+    ensures disk { result ≡ DiskFault → CountRose (K.faults station.old) (K.faults station.new) }
+    ensures asked { AsksFirst (T.names_asked site.old) (T.names_asked site.new)
+        (file_names bridge) }
     ensures back { T.out site.new ≡ 0 }
     ensures files { T.tells → T.files site.new ≡ T.files site.old }
 {
-    match read_heads(alloc, &conf, site) {
+    match read_heads(alloc, &bridge, site) {
         Ok(heads) => {
             let head = StoreHead {
-                setup: conf.setup,
+                setup: bridge.setup,
                 heads,
             };
             let status = make_store(alloc, &head, station);
@@ -146,7 +148,7 @@ fn init_by<T: Site, K: Station>(
             status
         }
         Err(status) => {
-            tell_fault(station, line, status, name_in(&conf, status));
+            tell_fault(station, line, status, name_in(&bridge, status));
             status
         }
     }

@@ -1,5 +1,5 @@
 ghost use Rattle.std.specs.Prelude.{◌≡◌, ◌≤◌, ◌<◌, [], ◌∷◌, Err, IfOk, IfErr, length};
-ghost use Rattle.outside.specs.Fault.{Rose};
+ghost use Rattle.outside.specs.Fault.{CountRose};
 ghost use Rattle.outside.specs.Site.{Asks};
 ghost use Rattle.site_config.specs.Valid.{IsConfig};
 ghost use Rattle.recorded.specs.Asked.{AsksFirst, file_names};
@@ -16,22 +16,22 @@ use store_head::Heads;
 /// Reads the heads of all recordings, in order of gauge.
 pub(crate) fn read_heads<T: Site>(
     alloc: Global,
-    conf: &Config,
+    bridge: &Config,
     site: &mut T,
 ) -> Result<Heads, Status>
-    requires conf { IsConfig conf.now }
+    requires bridge { IsConfig bridge.now }
     requires home { T.out site.old ≡ 0 }
-    ensures answer { T.tells → HeadsAnswer conf.now (T.files site.old) result }
-    ensures all { IfOk result (λ heads. length heads ≡ length conf.now.gauges) }
+    ensures answer { T.tells → HeadsAnswer bridge.now (T.files site.old) result }
+    ensures all { IfOk result (λ heads. length heads ≡ length bridge.now.gauges) }
     ensures kind { IfErr result IsHeadsStatus }
-    ensures cause { result ≡ Err ReadFault → Rose (T.faults site.old) (T.faults site.new) }
+    ensures cause { result ≡ Err ReadFault → CountRose (T.faults site.old) (T.faults site.new) }
     ensures later { T.faults site.old ≤ T.faults site.new }
     ensures asked { AsksFirst (T.names_asked site.old) (T.names_asked site.new)
-        (file_names conf.now) }
+        (file_names bridge.now) }
     ensures back { T.out site.new ≡ 0 }
     ensures files { T.tells → T.files site.new ≡ T.files site.old }
 {
-    let gauges = conf.gauges.as_slice();
+    let gauges = bridge.gauges.as_slice();
     let Ok(mut heads) = Vec::with_capacity(alloc, gauges.len()) else {
         return Err(Status::OutOfMemory);
     };
@@ -50,7 +50,7 @@ fn read_head_of<T: Site>(gauge: u16, file: &str, site: &mut T) -> Result<Head, S
     requires home { T.out site.old ≡ 0 }
     ensures answer { T.tells → HeadAnswer (T.files site.old file.now) gauge result }
     ensures kind { IfErr result IsHeadsStatus }
-    ensures cause { result ≡ Err ReadFault → Rose (T.faults site.old) (T.faults site.new) }
+    ensures cause { result ≡ Err ReadFault → CountRose (T.faults site.old) (T.faults site.new) }
     ensures later { T.faults site.old ≤ T.faults site.new }
     ensures asked { Asks (T.names_asked site.old) (T.names_asked site.new) (file.now ∷ []) }
     ensures back { T.out site.new ≡ 0 }

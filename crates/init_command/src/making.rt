@@ -1,5 +1,5 @@
 ghost use Rattle.std.specs.Prelude.{◌≡◌, ◌≤◌, ◌<◌, ◌++◌, [], ◌∷◌, ℕ, List, IfOk, length};
-ghost use Rattle.outside.specs.Fault.{Rose};
+ghost use Rattle.outside.specs.Fault.{CountRose};
 ghost use Rattle.station.specs.Station.{Image, Since, Only};
 ghost use Rattle.segment_bytes.specs.declared.layout.Layout.TheVariants.{Two};
 ghost use Rattle.store_head.specs.Head.{see_head, empty_store};
@@ -45,7 +45,7 @@ pub(crate) fn make_store<K: Station>(alloc: Global, head: &StoreHead, station: &
         (K.leaves station.old) (K.leaves station.new)) }
     ensures answer { K.tells → MakesBy (length (K.seen station.old)) result }
     ensures kind { IsMaking result }
-    ensures disk { result ≡ DiskFault → Rose (K.faults station.old) (K.faults station.new) }
+    ensures disk { result ≡ DiskFault → CountRose (K.faults station.old) (K.faults station.new) }
     ensures later { K.faults station.old ≤ K.faults station.new }
 {
     let Ok(line) = line_of(alloc, head.setup.gains.as_slice().len()) else {

@@ -1,5 +1,5 @@
 ghost use Rattle.std.specs.Prelude.{◌≡◌, ◌≢◌, ◌≤◌, length};
-ghost use Rattle.outside.specs.Fault.{Rose};
+ghost use Rattle.outside.specs.Fault.{CountRose};
 ghost use Rattle.recording.specs.Samples.{samples};
 ghost use Rattle.recording.specs.Filling.{SameFirst};
 ghost use Rattle.lane_ends.specs.Ends.{end_past_limit, Gives};
@@ -13,7 +13,7 @@ use recording::{FillEnd, fill};
 fn past_limit<S: Source>(src: &mut S) -> End
     ensures end { S.tells → result ≢ ReadFault → result ≡ end_past_limit (S.left src.old) }
     ensures some { result ≢ More }
-    ensures cause { result ≡ ReadFault → Rose (S.faults src.old) (S.faults src.new) }
+    ensures cause { result ≡ ReadFault → CountRose (S.faults src.old) (S.faults src.new) }
     ensures later { S.faults src.old ≤ S.faults src.new }
 {
     match fill(src, &mut [0]).end {
@@ -32,7 +32,7 @@ pub fn read_samples<S: Source>(src: &mut S, buf: &mut [i32], most: u64) -> Given
     ensures samples { S.tells → SameFirst result.n buf.new (samples (S.left src.old)) }
     ensures gives { S.tells → Gives (length buf.old) most (S.left src.old)
         result.n result.end (S.left src.new) }
-    ensures cause { result.end ≡ ReadFault → Rose (S.faults src.old) (S.faults src.new) }
+    ensures cause { result.end ≡ ReadFault → CountRose (S.faults src.old) (S.faults src.new) }
     ensures later { S.faults src.old ≤ S.faults src.new }
 {
     let room = (buf.len() as u64).min(most) as usize;

@@ -29,7 +29,7 @@ module _ {C : Type 0} where
     pub kind : r.desk.grid ≡ p.grid
     pub feeders : 0 < vec_len r.desk.feeders
 
-  pub record Lent (old new : Reader C) (lane left : Lane C) : Type 0 where
+  pub record LendsSource (old new : Reader C) (lane left : Lane C) : Type 0 where
     pub src : new.src ≡ lane.src
     pub gone : left.src ≡ None
     pub same : (left.gauge ≡ lane.gauge) × (left.gain ≡ lane.gain) × (left.at ≡ lane.at) × (left.end ≡ lane.end)
@@ -43,7 +43,7 @@ module _ {C : Type 0} where
     pub blanks : vec_len new.desk.blanks ≡ BLOCKS_PER_WINDOW
     pub room : vec_capacity new.desk.blanks ≡ vec_capacity old.desk.blanks
 
-  pub record Returned (old new : Reader C) (lane back : Lane C) : Type 0 where
+  pub record ReturnsSource (old new : Reader C) (lane back : Lane C) : Type 0 where
     pub src : back.src ≡ old.src
     pub gone : new.src ≡ None
     pub at : back.at ≡ old.desk.at

@@ -8,7 +8,7 @@ ghost use Rattle.block_workers.specs.Jobs.{CanRead};
 ghost use Rattle.recording.specs.declared.TheConstants.{MAX_SAMPLES};
 ghost use Rattle.flow.specs.declared.TheConstants.{BLOCKS_PER_WINDOW};
 ghost use Rattle.calibration.specs.declared.limits.TheConstants.{MAX_GAUGES};
-ghost use Rattle.lane_loans.specs.Lent.{CanRound, at_of, CanLend, Lent, Returned, blanks_at};
+ghost use Rattle.lane_loans.specs.Lent.{CanRound, at_of, CanLend, LendsSource, ReturnsSource, blanks_at};
 
 use crate::Lane;
 use crate::units::{give_units, lend_units};
@@ -38,7 +38,7 @@ fn lend_lane<C: Source>(reader: &mut Reader<C>, lane: &mut Lane<C>, pool: &mut P
     requires lane { CanRound reader.old.desk.gauge lane.old }
     requires reader { CanLend pool.old reader.old }
     requires enough { BLOCKS_PER_WINDOW ≤ pool.old.inside }
-    ensures lent { Lent reader.old reader.new lane.old lane.new }
+    ensures lent { LendsSource reader.old reader.new lane.old lane.new }
     ensures ready { CanRead reader.new }
     ensures pool { SamePool pool.old pool.new
         × (pool.new.inside + BLOCKS_PER_WINDOW ≡ pool.old.inside) }
@@ -61,7 +61,7 @@ pub fn lend_lanes<C: Source>(readers: &mut [Reader<C>], lanes: &mut [Lane<C>], p
     ensures long { (length readers.new ≡ length readers.old)
         × (length lanes.new ≡ length lanes.old) }
     ensures lent { (g : ℕ) (d : _) (e : _) → g < length readers.old
-        → Lent (slice_index_or readers.old g d) (slice_index_or readers.new g d)
+        → LendsSource (slice_index_or readers.old g d) (slice_index_or readers.new g d)
         (slice_index_or lanes.old g e) (slice_index_or lanes.new g e) }
     ensures ready { All CanRead readers.new }
     ensures pool { SamePool pool.old pool.new × (pool.new.inside ≡ 0) }
@@ -76,7 +76,7 @@ pub fn lend_lanes<C: Source>(readers: &mut [Reader<C>], lanes: &mut [Lane<C>], p
 fn return_lane<C: Source>(reader: &mut Reader<C>, lane: &mut Lane<C>, pool: &mut Pool)
     requires fit { All (IsBlank pool.old.block pool.old.grid) reader.old.desk.blanks.items }
     requires room { pool.old.inside + vec_len reader.old.desk.blanks ≤ pool.old.units }
-    ensures returned { Returned reader.old reader.new lane.old lane.new }
+    ensures returned { ReturnsSource reader.old reader.new lane.old lane.new }
     ensures pool { SamePool pool.old pool.new
         × (pool.new.inside ≡ pool.old.inside + vec_len reader.old.desk.blanks) }
 {
@@ -98,7 +98,7 @@ pub fn return_lanes<C: Source>(readers: &mut [Reader<C>], lanes: &mut [Lane<C>],
     ensures long { (length readers.new ≡ length readers.old)
         × (length lanes.new ≡ length lanes.old) }
     ensures returned { (g : ℕ) (d : _) (e : _) → g < length readers.old
-        → Returned (slice_index_or readers.old g d) (slice_index_or readers.new g d)
+        → ReturnsSource (slice_index_or readers.old g d) (slice_index_or readers.new g d)
         (slice_index_or lanes.old g e) (slice_index_or lanes.new g e) }
     ensures pool { SamePool pool.old pool.new
         × (pool.new.inside ≡ pool.old.inside + over (length readers.old) (blanks_at readers.old)) }

@@ -17,8 +17,8 @@ pub audit_without_memory : (before after : Shown) (s : Status) → s ≡ OutOfMe
 audit_without_memory before after s is tells ends same none = subst (λ (x : Status). AuditRuns before after x) (sym is) (record {
   answer_is = λ k t c. tt;
   complete = λ k t c sound r f d w. inr refl;
-  stands = λ k t c conf is2 w n h. tt;
-  prints = λ o c conf is2. same;
+  stands = λ k t c bridge is2 w n h. tt;
+  prints = λ o c bridge is2. same;
   nothing = λ o p. same;
   quiet = λ k c. tells k;
   last = λ k c n. ends k;

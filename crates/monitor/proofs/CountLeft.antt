@@ -34,14 +34,14 @@ pub count_without_memory : (before after : Shown) (s : Status) → s ≡ OutOfMe
     → after.written ≡ before.written →
     AsksNothing before.names_asked after.names_asked → CountRuns before after s
 count_without_memory before after s is only tells ends same none = subst (λ (x : Status). CountRuns before after x) (sym is) (record {
-  every_moment = λ k t c conf is2 a holds. kept_moments before after (recordings conf before.files) a (only k) (tells k) holds;
-  ended = λ k t c conf is2 a holds. tt;
-  cut = λ k t c conf is2 a holds no. tt;
-  prints = λ o k t c conf is2 a holds. same;
+  every_moment = λ k t c bridge is2 a holds. kept_moments before after (recordings bridge before.files) a (only k) (tells k) holds;
+  ended = λ k t c bridge is2 a holds. tt;
+  cut = λ k t c bridge is2 a holds no. tt;
+  prints = λ o k t c bridge is2 a holds. same;
   nothing = λ o p. same;
-  acknowledged = λ k t c conf is2 n holds no. absurd (cc);
+  acknowledged = λ k t c bridge is2 n holds no. absurd (cc);
   answer_is = λ k t c. tt;
-  complete = λ k t c conf is2 n h fits sound r f d w. inr refl;
+  complete = λ k t c bridge is2 n h fits sound r f d w. inr refl;
   quiet = λ k l. ([], tells k);
   named = λ no. cc;
   read = λ no. absurd (cc);

@@ -12,7 +12,7 @@ use Rattle.fault_lines.specs.Telling.{InFault, EndsIn}
 use Rattle.init_command.specs.Init.{InMaking}
 use Rattle.report_command.specs.Printing.{PrintsKept}
 use Rattle.report_command.proofs.HeldFigures.{kept_unprinted}
-use Rattle.outside.specs.Fault.{Rose}
+use Rattle.outside.specs.Fault.{CountRose}
 use Rattle.outside.specs.Site.{AsksNothing}
 use Rattle.recorded.specs.Asked.{names_in}
 use Rattle.recorded.proofs.Asking.{none_is_first}
@@ -57,12 +57,12 @@ init_without_memory before after s is tells ends nothing back files none =
     subst (λ (x : Status). InitRuns before after x) (sym is) (record {
       made = λ k t c no. absurd (cc);
       told = λ k c no. absurd (cc);
-      any_moment = λ k t c conf is2 none. empty_moments before after (fault_line OutOfMemory []) conf (tells k) none;
+      any_moment = λ k t c bridge is2 none. empty_moments before after (fault_line OutOfMemory []) bridge (tells k) none;
       unmade = λ k c u. tells k;
       quiet = λ k c some. tells k;
       last = λ k c n. ends k;
       answer_is = λ k t c. tt;
-      complete = λ k t c conf is2 sound none r w f. inr refl;
+      complete = λ k t c bridge is2 sound none r w f. inr refl;
       kind = tt;
       read = λ no. absurd (cc);
       disk = λ no. absurd (cc);
@@ -77,10 +77,10 @@ pub report_without_memory : (before after : Shown) (s : Status) → s ≡ OutOfM
     → (before.station_tells → Ends (fault_line OutOfMemory []) before after) → after.written ≡ before.written →
     AsksNothing before.names_asked after.names_asked → ReportRuns before after s
 report_without_memory before after s is tells ends same none = subst (λ (x : Status). ReportRuns before after x) (sym is) (record {
-  prints = λ o k c conf is2 w n holds. same;
-  kept = λ o k c conf is2 head bodies all setup reads.
-      subst (λ (new : List ℕ). PrintsKept OutOfMemory conf bodies before.written new) (sym same)
-      (kept_unprinted OutOfMemory conf bodies before.written refl);
+  prints = λ o k c bridge is2 w n holds. same;
+  kept = λ o k c bridge is2 head bodies all setup reads.
+      subst (λ (new : List ℕ). PrintsKept OutOfMemory bridge bodies before.written new) (sym same)
+      (kept_unprinted OutOfMemory bridge bodies before.written refl);
   nothing = λ o p. same;
   quiet = λ k. tells k;
   last = λ k n. ends k;
@@ -105,14 +105,14 @@ demo_without_memory seed samples tells old faults s is =
       write = λ no. absurd (cc);
     })
 
-pub ends_by : (faults faults2 : ℕ) (told told2 : Lines) (line : List ℕ) → Rose faults faults2 ⊎ (told2 ≡ told ++ line ∷ []) →
-    Rose faults faults2 ⊎ EndsIn line told2
+pub ends_by : (faults faults2 : ℕ) (told told2 : Lines) (line : List ℕ) → CountRose faults faults2 ⊎ (told2 ≡ told ++ line ∷ []) →
+    CountRose faults faults2 ⊎ EndsIn line told2
 ends_by faults faults2 told told2 line (inl rose) = inl rose
 ends_by faults faults2 told told2 line (inr is) = inr (told, is)
 
 -- the last line told, where it is put behind the others
 pub ends_at : (before after : Shown) (line : List ℕ) →
-    Rose before.station_faults after.station_faults ⊎ (after.told ≡ before.told ++ line ∷ []) → Ends line before after
+    CountRose before.station_faults after.station_faults ⊎ (after.told ≡ before.told ++ line ∷ []) → Ends line before after
 ends_at before after line (inl rose) = inl rose
 ends_at before after line (inr is) = inr (before.told, is)
 

@@ -12,7 +12,7 @@ pub repeat_without_memory : (before after : Shown) (s : Status) → s ≡ OutOfM
     → (before.station_tells → Ends (fault_line OutOfMemory []) before after) → after.written ≡ before.written →
     AsksNothing before.names_asked after.names_asked → RepeatRuns before after s
 repeat_without_memory before after s is tells ends same none = subst (λ (x : Status). RepeatRuns before after x) (sym is) (record {
-  prints = λ o k c conf is2 w n holds. same;
+  prints = λ o k c bridge is2 w n holds. same;
   nothing = λ o p. same;
   quiet = λ k. tells k;
   last = λ k n. ends k;

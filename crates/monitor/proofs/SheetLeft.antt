@@ -15,7 +15,7 @@ pub sheet_without_memory : (before after : Shown) (s : Status) → s ≡ OutOfMe
     → (before.station_tells → Ends (fault_line OutOfMemory []) before after) → after.written ≡ before.written →
     AsksNothing before.names_asked after.names_asked → SheetRuns before after s
 sheet_without_memory before after s is tells ends same none = subst (λ (x : Status). SheetRuns before after x) (sym is) (record {
-  prints = λ o t c conf is2. same;
+  prints = λ o t c bridge is2. same;
   nothing = λ o d w. same;
   quiet = λ k c. tells k;
   last = λ k c n. ends k;

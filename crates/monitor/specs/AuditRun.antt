@@ -1,6 +1,6 @@
 -- What a run of `audit` did.
 use Rattle.std.specs.Prelude.{◌≡◌, ◌≢◌, ◌⊎◌, ℕ, ℤ, List, Ok}
-use Rattle.outside.specs.Fault.{Rose}
+use Rattle.outside.specs.Fault.{CountRose}
 use Rattle.segment_store.specs.Holds.{Holds}
 use Rattle.site_config.specs.Configuration.{config_of_bytes}
 use Rattle.site_config.specs.declared.config.Config.{Config}
@@ -11,7 +11,7 @@ use Rattle.status.specs.declared.status.Status.TheVariants.{Done, Usage, ReadFau
 use Rattle.status.specs.Printing.{IsPrinting}
 use Rattle.report_command.specs.Printing.{held_of}
 use Rattle.audit_command.specs.Answers.{AuditAnswers, IsSound}
-use Rattle.audit_command.specs.Audited.{Finds, IsStanding}
+use Rattle.audit_command.specs.Audited.{FindsDifference, IsStanding}
 use Rattle.audit_command.specs.Printing.{Prints}
 use Rattle.monitor.specs.InitRun.{line_for}
 use Rattle.monitor.specs.Shown.{Shown, Tells, Ends}
@@ -23,13 +23,13 @@ pub record AuditRuns (before after : Shown) (answer : Status) : Type 0 where
       AuditAnswers (config_of_bytes before.config) before.seen before.files answer
   pub complete : before.station_tells → before.site_tells → before.config_tells →
       IsSound (config_of_bytes before.config) before.seen before.files →
-      ¬ Rose before.config_faults after.config_faults → ¬ Rose before.site_faults after.site_faults →
-      ¬ Rose before.station_faults after.station_faults → ¬ Rose before.output_faults after.output_faults →
+      ¬ CountRose before.config_faults after.config_faults → ¬ CountRose before.site_faults after.site_faults →
+      ¬ CountRose before.station_faults after.station_faults → ¬ CountRose before.output_faults after.output_faults →
       (answer ≡ Done) ⊎ (answer ≡ OutOfMemory)
   -- Where the bodies stand for samples, these are compared with what the recording begins with.
   pub stands : before.station_tells → before.site_tells → before.config_tells → (c : Config) →
       config_of_bytes before.config ≡ Ok c → (w : ℕ → List ℤ) (n : List ℕ) → Holds c.setup w n before.seen →
-      Finds c (IsStanding c (held_of w n)) (held_of (recordings c before.files).samples n) answer
+      FindsDifference c (IsStanding c (held_of w n)) (held_of (recordings c before.files).samples n) answer
   -- A line for each gauge.
   pub prints : before.output_tells → before.config_tells → (c : Config) →
       config_of_bytes before.config ≡ Ok c → Prints answer c before.written after.written
@@ -38,10 +38,10 @@ pub record AuditRuns (before after : Shown) (answer : Status) : Type 0 where
   pub quiet : before.station_tells → before.config_tells → Tells (line_for before answer) before after
   pub last : before.station_tells → before.config_tells → answer ≢ Done → Ends (line_for before answer) before after
   pub named : answer ≢ Usage
-  pub read : answer ≡ ReadFault → Rose before.config_faults after.config_faults ⊎
-      Rose before.site_faults after.site_faults
-  pub write : answer ≡ WriteFault → Rose before.output_faults after.output_faults
-  pub disk : answer ≡ DiskFault → Rose before.station_faults after.station_faults
+  pub read : answer ≡ ReadFault → CountRose before.config_faults after.config_faults ⊎
+      CountRose before.site_faults after.site_faults
+  pub write : answer ≡ WriteFault → CountRose before.output_faults after.output_faults
+  pub disk : answer ≡ DiskFault → CountRose before.station_faults after.station_faults
   -- The gauges' files are asked for, in their order and each once, and no other.
   pub asked : before.config_tells →
       AsksFirst before.names_asked after.names_asked (names_in (config_of_bytes before.config))

@@ -1,6 +1,6 @@
 -- What a run of `count` did.
 use Rattle.std.specs.Prelude.{◌≡◌, ◌≢◌, ◌⊎◌, ℕ, List, length, Ok}
-use Rattle.outside.specs.Fault.{Rose}
+use Rattle.outside.specs.Fault.{CountRose}
 use Rattle.station.specs.Station.{Image, Lines}
 use Rattle.segment_store.specs.Holds.{Holds}
 use Rattle.site_config.specs.Configuration.{config_of_bytes}
@@ -32,7 +32,7 @@ pub record CountRuns (before after : Shown) (answer : Status) : Type 0 where
       HeldAt answer (recordings c before.files) after.leaves
   pub cut : before.station_tells → before.site_tells → before.config_tells → (c : Config) →
       config_of_bytes before.config ≡ Ok c → (a : List ℕ) → AllHold (recordings c before.files) a before.leaves →
-      ¬ Rose before.site_faults after.site_faults → HeldCut answer (recordings c before.files) after.leaves
+      ¬ CountRose before.site_faults after.site_faults → HeldCut answer (recordings c before.files) after.leaves
   -- The report is that of all samples, and each round was acknowledged.
   pub prints : before.output_tells → before.station_tells → before.site_tells → before.config_tells → (c : Config) →
       config_of_bytes before.config ≡ Ok c → (a : List ℕ) → AllHold (recordings c before.files) a before.leaves →
@@ -49,16 +49,16 @@ pub record CountRuns (before after : Shown) (answer : Status) : Type 0 where
       config_of_bytes before.config ≡ Ok c → (n : List ℕ)
       (h : Holds c.setup (recordings c before.files).samples n before.seen) → HeadsFit c h.head.heads before.files →
       AllSound c before.files (length c.gauges) →
-      ¬ Rose before.config_faults after.config_faults → ¬ Rose before.site_faults after.site_faults →
-      ¬ Rose before.station_faults after.station_faults → ¬ Rose before.output_faults after.output_faults →
+      ¬ CountRose before.config_faults after.config_faults → ¬ CountRose before.site_faults after.site_faults →
+      ¬ CountRose before.station_faults after.station_faults → ¬ CountRose before.output_faults after.output_faults →
       (answer ≡ Done) ⊎ (answer ≡ OutOfMemory)
   -- After these nothing was stored and acknowledged.
   pub quiet : before.station_tells → LeavesStore answer → (name : List ℕ) × Tells (fault_line answer name) before after
   pub named : answer ≢ Usage
-  pub read : answer ≡ ReadFault → Rose before.config_faults after.config_faults ⊎
-      Rose before.site_faults after.site_faults
-  pub write : answer ≡ WriteFault → Rose before.output_faults after.output_faults
-  pub disk : answer ≡ DiskFault → Rose before.station_faults after.station_faults
+  pub read : answer ≡ ReadFault → CountRose before.config_faults after.config_faults ⊎
+      CountRose before.site_faults after.site_faults
+  pub write : answer ≡ WriteFault → CountRose before.output_faults after.output_faults
+  pub disk : answer ≡ DiskFault → CountRose before.station_faults after.station_faults
   -- The gauges' files are asked for, in their order and each once, and no other.
   pub asked : before.config_tells →
       AsksFirst before.names_asked after.names_asked (names_in (config_of_bytes before.config))

@@ -1,6 +1,6 @@
 -- What a run of `demo` prints.
 use Rattle.std.specs.Prelude.{◌≡◌, ◌≢◌, ◌++◌, ℕ, List}
-use Rattle.outside.specs.Fault.{Rose}
+use Rattle.outside.specs.Fault.{CountRose}
 use Rattle.outside.specs.Sink.{AppendsPrefix}
 use Rattle.status.specs.declared.status.Status.{Status}
 use Rattle.status.specs.declared.status.Status.TheVariants.{Done, WriteFault}
@@ -18,4 +18,4 @@ pub record DemoRuns (seed samples : ℕ) (tells : Type 0) (old new : List ℕ) (
   -- There is such a text.
   pub some : IsPrinting answer → (text : List ℕ) × IsSummary seed samples text
   pub kind : IsDemoAnswer answer
-  pub write : answer ≡ WriteFault → Rose faults faults2
+  pub write : answer ≡ WriteFault → CountRose faults faults2

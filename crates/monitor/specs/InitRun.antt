@@ -2,7 +2,7 @@
 --   line_for   the line of an answer, by the configuration before the run
 --   InitRuns   that a run did it
 use Rattle.std.specs.Prelude.{◌≡◌, ◌≢◌, ◌<◌, ◌⊎◌, ℕ, List, [], ◌∷◌, ◌++◌, length, Ok}
-use Rattle.outside.specs.Fault.{Rose}
+use Rattle.outside.specs.Fault.{CountRose}
 use Rattle.station.specs.Station.{Image, Since}
 use Rattle.site_config.specs.Configuration.{config_of_bytes}
 use Rattle.site_config.specs.declared.config.Config.{Config}
@@ -38,12 +38,12 @@ pub record InitRuns (before after : Shown) (answer : Status) : Type 0 where
       InitAnswers (config_of_bytes before.config) before.files before.seen answer
   pub complete : before.station_tells → before.site_tells → before.config_tells → (c : Config) →
       config_of_bytes before.config ≡ Ok c → AreSound c before.files (length c.gauges) → length before.seen ≡ 0 →
-      ¬ Rose before.config_faults after.config_faults → ¬ Rose before.site_faults after.site_faults →
-      ¬ Rose before.station_faults after.station_faults → (answer ≡ Done) ⊎ (answer ≡ OutOfMemory)
+      ¬ CountRose before.config_faults after.config_faults → ¬ CountRose before.site_faults after.site_faults →
+      ¬ CountRose before.station_faults after.station_faults → (answer ≡ Done) ⊎ (answer ≡ OutOfMemory)
   pub kind : IsInit answer
-  pub read : answer ≡ ReadFault → Rose before.config_faults after.config_faults ⊎
-      Rose before.site_faults after.site_faults
-  pub disk : answer ≡ DiskFault → Rose before.station_faults after.station_faults
+  pub read : answer ≡ ReadFault → CountRose before.config_faults after.config_faults ⊎
+      CountRose before.site_faults after.site_faults
+  pub disk : answer ≡ DiskFault → CountRose before.station_faults after.station_faults
   -- The gauges' files are asked for, in their order and each once, and no other.
   pub asked : before.config_tells →
       AsksFirst before.names_asked after.names_asked (names_in (config_of_bytes before.config))

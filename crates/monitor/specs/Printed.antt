@@ -1,5 +1,5 @@
 -- What `table` prints of a recording.
---   table_grid, table_gain   its classes: 64 of 1 MPa from 0 MPa, where a raw value from 0 to 63 is its own level
+--   table_grid, table_gain   its classes: 64 of 1 N/mm² from 0 N/mm², where a raw value from 0 to 63 is its own level
 --   text_of_samples          the table of a list of samples
 --   text_of                  the table of a file
 use Rattle.std.specs.Prelude.{ℕ, ℤ, pos, List, drop}

@@ -1,6 +1,6 @@
 -- What a run of `report` did.
 use Rattle.std.specs.Prelude.{◌≡◌, ◌≢◌, ◌⊎◌, ℕ, ℤ, List, [], Ok}
-use Rattle.outside.specs.Fault.{Rose}
+use Rattle.outside.specs.Fault.{CountRose}
 use Rattle.outside.specs.Site.{AsksNothing}
 use Rattle.segment_rules.specs.Parts.{PartsValue}
 use Rattle.store_head.specs.Head.{HeadValue}
@@ -35,11 +35,11 @@ pub record ReportRuns (before after : Shown) (answer : Status) : Type 0 where
   pub answer_is : before.station_tells → before.config_tells →
       ReportAnswers (config_of_bytes before.config) before.seen answer
   pub complete : before.station_tells → before.config_tells → IsSound (config_of_bytes before.config) before.seen →
-      ¬ Rose before.config_faults after.config_faults → ¬ Rose before.station_faults after.station_faults →
-      ¬ Rose before.output_faults after.output_faults → (answer ≡ Done) ⊎ (answer ≡ OutOfMemory)
+      ¬ CountRose before.config_faults after.config_faults → ¬ CountRose before.station_faults after.station_faults →
+      ¬ CountRose before.output_faults after.output_faults → (answer ≡ Done) ⊎ (answer ≡ OutOfMemory)
   pub kind : IsReporting answer
-  pub read : answer ≡ ReadFault → Rose before.config_faults after.config_faults
-  pub write : answer ≡ WriteFault → Rose before.output_faults after.output_faults
-  pub disk : answer ≡ DiskFault → Rose before.station_faults after.station_faults
+  pub read : answer ≡ ReadFault → CountRose before.config_faults after.config_faults
+  pub write : answer ≡ WriteFault → CountRose before.output_faults after.output_faults
+  pub disk : answer ≡ DiskFault → CountRose before.station_faults after.station_faults
   -- No file is asked for.
   pub asked : AsksNothing before.names_asked after.names_asked

@@ -1,6 +1,6 @@
 -- What a run of `sheet` did.
 use Rattle.std.specs.Prelude.{◌≡◌, ◌≢◌, ◌⊎◌, Ok}
-use Rattle.outside.specs.Fault.{Rose}
+use Rattle.outside.specs.Fault.{CountRose}
 use Rattle.site_config.specs.Configuration.{config_of_bytes}
 use Rattle.site_config.specs.declared.config.Config.{Config}
 use Rattle.recorded.specs.Asked.{AsksFirst, names_in}
@@ -21,13 +21,13 @@ pub record SheetRuns (before after : Shown) (answer : Status) : Type 0 where
   -- Which answer it is, and when it is the configuration's and the files' own.
   pub answer_is : before.site_tells → before.config_tells →
       MayAnswer (sheet_answer (config_of_bytes before.config) before.files) answer
-  pub complete : before.site_tells → before.config_tells → ¬ Rose before.config_faults after.config_faults →
-      ¬ Rose before.site_faults after.site_faults → ¬ Rose before.output_faults after.output_faults →
+  pub complete : before.site_tells → before.config_tells → ¬ CountRose before.config_faults after.config_faults →
+      ¬ CountRose before.site_faults after.site_faults → ¬ CountRose before.output_faults after.output_faults →
       (answer ≡ sheet_answer (config_of_bytes before.config) before.files) ⊎ (answer ≡ OutOfMemory)
   pub named : answer ≢ Usage
-  pub read : answer ≡ ReadFault → Rose before.config_faults after.config_faults ⊎
-      Rose before.site_faults after.site_faults
-  pub write : answer ≡ WriteFault → Rose before.output_faults after.output_faults
+  pub read : answer ≡ ReadFault → CountRose before.config_faults after.config_faults ⊎
+      CountRose before.site_faults after.site_faults
+  pub write : answer ≡ WriteFault → CountRose before.output_faults after.output_faults
   -- The gauges' files are asked for, in their order and each once, and no other.
   pub asked : before.config_tells →
       AsksFirst before.names_asked after.names_asked (names_in (config_of_bytes before.config))

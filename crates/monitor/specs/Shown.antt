@@ -4,7 +4,7 @@
 --   Tells     nothing of the station changes but that this line is told at most
 --   Ends      this line was told last, unless the station failed
 use Rattle.std.specs.Prelude.{◌⊎◌, ℕ, List}
-use Rattle.outside.specs.Fault.{Rose}
+use Rattle.outside.specs.Fault.{CountRose}
 use Rattle.outside.specs.Site.{Files, Asked}
 use Rattle.outside.specs.declared.source.Source as source
 use Rattle.outside.specs.declared.site.Site as site
@@ -68,4 +68,4 @@ Tells line before after =
     before.leaves after.leaves
 
 abbrev pub Ends : List ℕ → Shown → Shown → Type 0
-Ends line before after = Rose before.station_faults after.station_faults ⊎ EndsIn line after.told
+Ends line before after = CountRose before.station_faults after.station_faults ⊎ EndsIn line after.told

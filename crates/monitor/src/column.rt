@@ -1,5 +1,5 @@
 ghost use Rattle.std.specs.Prelude.{◌≡◌, ◌≢◌, ◌⊎◌};
-ghost use Rattle.outside.specs.Fault.{Rose};
+ghost use Rattle.outside.specs.Fault.{CountRose};
 ghost use Rattle.fault_lines.specs.FaultLine.{fault_line};
 ghost use Rattle.fault_lines.specs.Telling.{TellsAtMost, EndsIn};
 ghost use Rattle.file_tasks.specs.Run.{Runs, no_memory_task, outside};
@@ -38,7 +38,7 @@ pub(crate) fn told_column<T: Site, K: Station, O: Sink>(
         (K.told station.old) (K.told station.new) (K.seen station.old) (K.seen station.new)
         (K.leaves station.old) (K.leaves station.new) }
     ensures last { K.tells → result ≢ Status.Done →
-        Rose (K.faults station.old) (K.faults station.new) ⊎
+        CountRose (K.faults station.old) (K.faults station.new) ⊎
         EndsIn (fault_line result file.now) (K.told station.new) }
     ensures back { T.out site.new ≡ 0 }
     ensures files { T.tells → T.files site.new ≡ T.files site.old }

@@ -1,5 +1,5 @@
 ghost use Rattle.std.specs.Prelude.{◌≡◌, ◌≢◌, ◌≤◌, ◌++◌, ℤ, List};
-ghost use Rattle.outside.specs.Fault.{Rose};
+ghost use Rattle.outside.specs.Fault.{CountRose};
 ghost use Rattle.outside.specs.Sink.{AppendsPrefix};
 ghost use Rattle.recording.specs.declared.TheConstants.{MAX_SAMPLES};
 ghost use Rattle.monitor.specs.Figures.{AreFigures};
@@ -55,7 +55,7 @@ fn print_table<O: Sink>(alloc: Global, figures: RunningCount<HalfUnits>, out: &m
         AppendsPrefix (O.written out.old) (O.written out.new) (text_of_samples w) }
     ensures nothing { O.tells → result ≢ Status.Done → result ≢ Status.WriteFault →
         O.written out.new ≡ O.written out.old }
-    ensures write { result ≡ Status.WriteFault → Rose (O.faults out.old) (O.faults out.new) }
+    ensures write { result ≡ Status.WriteFault → CountRose (O.faults out.old) (O.faults out.new) }
     ensures printing { IsPrinting result }
 {
     let Ok(page) = table_page(alloc, figures) else {

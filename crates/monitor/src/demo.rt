@@ -1,7 +1,7 @@
 ghost use Rattle.std.specs.Prelude.{◌≡◌, ◌≢◌, ◌≤◌, ◌⊎◌, []};
 ghost use Rattle.fault_lines.specs.FaultLine.{fault_line};
 ghost use Rattle.fault_lines.specs.Telling.{TellsAtMost, EndsIn};
-ghost use Rattle.outside.specs.Fault.{Rose};
+ghost use Rattle.outside.specs.Fault.{CountRose};
 ghost use Rattle.demo_command.specs.declared.TheConstants.{MAX_SEED, MAX_DEMO_SAMPLES};
 ghost use Rattle.round_making.specs.declared.TheConstants.{MAX_WORKERS};
 ghost use Rattle.monitor.specs.DemoRun.{DemoRuns};
@@ -33,7 +33,7 @@ pub(crate) fn told_demo<
         (K.told station.old) (K.told station.new) (K.seen station.old) (K.seen station.new)
         (K.leaves station.old) (K.leaves station.new) }
     ensures last { K.tells → result ≢ Status.Done →
-        Rose (K.faults station.old) (K.faults station.new) ⊎
+        CountRose (K.faults station.old) (K.faults station.new) ⊎
         EndsIn (fault_line result []) (K.told station.new) }
 {
     let Ok(mut line) = FaultLine::new(rt.alloc(), 0) else {

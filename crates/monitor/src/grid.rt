@@ -6,13 +6,13 @@ use calibration::{Classifier, Gain, Grid};
 /// The classes of `table`.
 pub const CLASSES: u16 = 64;
 
-/// How many half MPa a class of `table` is wide.
+/// How many half N/mm² a class of `table` is wide.
 pub const WIDTH: u16 = 2;
 
 /// The reference level of `table`, in the middle of its classes.
 pub const REFERENCE: u16 = 32;
 
-/// The grid of `table`: 64 classes of 1 MPa from 0 MPa on.
+/// The grid of `table`: 64 classes of 1 N/mm² from 0 N/mm² on.
 pub fn grid_of_table() -> Grid
     ensures { result ≡ table_grid }
 {

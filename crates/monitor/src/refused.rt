@@ -1,5 +1,5 @@
 ghost use Rattle.std.specs.Prelude.{◌≡◌, ◌⊎◌, []};
-ghost use Rattle.outside.specs.Fault.{Rose};
+ghost use Rattle.outside.specs.Fault.{CountRose};
 ghost use Rattle.fault_lines.specs.FaultLine.{fault_line};
 ghost use Rattle.fault_lines.specs.Telling.{TellsAtMost, EndsIn};
 
@@ -15,7 +15,7 @@ pub(crate) fn usage<K: Station>(alloc: Global, station: &mut K) -> Status
         (K.clock station.old) (K.moments station.old) (K.clock station.new) (K.moments station.new)
         (K.told station.old) (K.told station.new) (K.seen station.old) (K.seen station.new)
         (K.leaves station.old) (K.leaves station.new) }
-    ensures last { K.tells → Rose (K.faults station.old) (K.faults station.new) ⊎
+    ensures last { K.tells → CountRose (K.faults station.old) (K.faults station.new) ⊎
         EndsIn (fault_line result []) (K.told station.new) }
 {
     let Ok(mut line) = FaultLine::new(alloc, 0) else {
@@ -32,7 +32,7 @@ pub(crate) fn no_memory<K: Station>(station: &mut K) -> Status
         (K.clock station.old) (K.moments station.old) (K.clock station.new) (K.moments station.new)
         (K.told station.old) (K.told station.new) (K.seen station.old) (K.seen station.new)
         (K.leaves station.old) (K.leaves station.new) }
-    ensures last { K.tells → Rose (K.faults station.old) (K.faults station.new) ⊎
+    ensures last { K.tells → CountRose (K.faults station.old) (K.faults station.new) ⊎
         EndsIn (fault_line Status.OutOfMemory []) (K.told station.new) }
 {
     tell_no_memory(station);

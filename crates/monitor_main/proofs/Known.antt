@@ -35,4 +35,5 @@ at_end (Some xs) e = e
 
 -- a front of the bytes was written
 pub prefix : (before after bytes front rest : List ℕ) → bytes ≡ front ++ rest → after ≡ before ++ front → AppendsPrefix before after bytes
-prefix before after bytes front rest is w = (length front, w ∙ ap (λ l. before ++ l) (sym (ap (take (length front)) is ∙ take-append_seam front rest)))
+prefix before after bytes front rest is w =
+    (length front, w ∙ ap (λ l. before ++ l) (sym (ap (take (length front)) is ∙ take-append_seam front rest)))

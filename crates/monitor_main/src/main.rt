@@ -3,8 +3,8 @@
 //! first use.
 //!
 //! The adapters are the trusted edge. They meet the contracts of the outside: a source gives what
-//! its reader gives, and an output is what its writer holds, where those tell it. Of a real file and
-//! a terminal no contract tells. Each counts the errors of the system that it met.
+//! its reader gives, and an output is what its writer holds, where these tell it. Of a real file
+//! and a terminal no contract tells. Each counts the errors of the system that it met.
 #![tactic(auto)]
 
 mod adapters;

@@ -1,5 +1,5 @@
 ghost use Rattle.std.specs.Prelude.{◌≡◌, ◌≤◌, ◌*◌, ◌/◌, ◌++◌, ◌↔◌, [], length, take};
-ghost use Rattle.outside.specs.Fault.{Rose};
+ghost use Rattle.outside.specs.Fault.{CountRose};
 ghost use Rattle.recording.specs.Filling.{SameFirst, Skips};
 ghost use Rattle.recording.specs.declared.taking.Stop.TheVariants.{Full, Ended, Failed};
 
@@ -32,7 +32,7 @@ pub(crate) fn take_all<S: Source>(src: &mut S, bytes: &mut [u8]) -> Taken
     ensures bytes { S.tells → S.left src.old ≡ take result.n bytes.new ++ S.left src.new }
     ensures full { (result.stop ≡ Full) ↔ (result.n ≡ length bytes.old) }
     ensures ended { S.tells → result.stop ≡ Ended → S.left src.new ≡ [] }
-    ensures cause { result.stop ≡ Failed → Rose (S.faults src.old) (S.faults src.new) }
+    ensures cause { result.stop ≡ Failed → CountRose (S.faults src.old) (S.faults src.new) }
     ensures last { result.stop ≡ Failed → S.failed_last src.new }
     ensures later { S.faults src.old ≤ S.faults src.new }
 {

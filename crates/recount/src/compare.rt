@@ -35,23 +35,23 @@ pub struct Difference {
 /// The first difference between what a segment keeps and what a recount found: of the samples used,
 /// missing and refused, and then of the half units, by the lower level and then by the higher one.
 /// Takes no memory, and a step for each pair of levels.
-pub fn first_difference(seg: &Segment, recount: &Recount) -> Option<Difference>
-    requires classes { recount.now.pairs.classes ≡ seg.now.grid.classes }
-    ensures { (gain : GainValue) (w : List ℤ) → IsRecount seg.now.grid gain recount.now w →
-        Compares seg.now (counts_of seg.now.grid gain w)
-        (three_point (history seg.now.grid gain w)) result }
+pub fn first_difference(segment: &Segment, recount: &Recount) -> Option<Difference>
+    requires classes { recount.now.pairs.classes ≡ segment.now.grid.classes }
+    ensures { (gain : GainValue) (w : List ℤ) → IsRecount segment.now.grid gain recount.now w →
+        Compares segment.now (counts_of segment.now.grid gain w)
+        (three_point (history segment.now.grid gain w)) result }
 {
     let found = &recount.counts;
-    if seg.used() != found.used {
-        return some_difference(What::Used, seg.used(), found.used);
+    if segment.used() != found.used {
+        return some_difference(What::Used, segment.used(), found.used);
     }
-    if seg.missing() != found.missing {
-        return some_difference(What::Missing, seg.missing(), found.missing);
+    if segment.missing() != found.missing {
+        return some_difference(What::Missing, segment.missing(), found.missing);
     }
-    if seg.refused() != found.refused {
-        return some_difference(What::Refused, seg.refused(), found.refused);
+    if segment.refused() != found.refused {
+        return some_difference(What::Refused, segment.refused(), found.refused);
     }
-    first_other_cell(seg, recount.pairs.tally())
+    first_other_cell(segment, recount.pairs.tally())
 }
 
 fn some_difference(what: What, held: u64, found: u64) -> Option<Difference>
@@ -61,17 +61,17 @@ fn some_difference(what: What, held: u64, found: u64) -> Option<Difference>
 }
 
 // The first pair whose half units are others in a segment than in a tally, and both.
-fn first_other_cell(seg: &Segment, found: &Tally) -> Option<Difference>
-    requires classes { found.now.classes ≡ seg.now.grid.classes }
+fn first_other_cell(segment: &Segment, found: &Tally) -> Option<Difference>
+    requires classes { found.now.classes ≡ segment.now.grid.classes }
     ensures { MatchOption result
-        (AreSame seg.now.grid.classes (halves_of seg.now) (count_of found.now.cells))
-        (IsCellOther seg.now.grid.classes (halves_of seg.now) (count_of found.now.cells)) }
+        (AreSame segment.now.grid.classes (halves_of segment.now) (count_of found.now.cells))
+        (IsCellOther segment.now.grid.classes (halves_of segment.now) (count_of found.now.cells)) }
 {
-    let classes = seg.grid().classes();
+    let classes = segment.grid().classes();
     let mut row = [0; MAX_CLASSES as usize];
     let held = &mut row[..usize::from(classes)];
     for lo in 0..classes {
-        seg.halves_above(lo, held);
+        segment.halves_above(lo, held);
         if let Some(hi) = first_other(held, found, lo) {
             return some_difference(What::Cell(lo, hi), held[usize::from(hi)], found.get(lo, hi));
         }

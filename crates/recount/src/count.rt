@@ -1,5 +1,5 @@
 ghost use Rattle.std.specs.Prelude.{◌≡◌, ◌≢◌, ◌≤◌, ◌<◌, ℕ, ℤ, List, [], Some, IfOk, OnOk, Err, length, take};
-ghost use Rattle.outside.specs.Fault.{Rose};
+ghost use Rattle.outside.specs.Fault.{CountRose};
 ghost use Rattle.recording.specs.Samples.{samples as samples_of};
 ghost use Rattle.recording.specs.declared.TheConstants.{MAX_SAMPLES, PIECE};
 ghost use Rattle.recount.specs.Counted.{IsRecount, HasCountedPairs};
@@ -74,7 +74,7 @@ pub fn count_again<S: Source>(
         ((length w ≡ samples) × (S.tells → w ≡ take samples (samples_of (S.left src.old)))))) }
     ensures fewer { S.tells → (there : ℕ) → result ≡ Err (Fewer there) →
         (there ≡ length (samples_of (S.left src.old))) × (there < samples) }
-    ensures cause { result ≡ Err ReadFault → Rose (S.faults src.old) (S.faults src.new) }
+    ensures cause { result ≡ Err ReadFault → CountRose (S.faults src.old) (S.faults src.new) }
     ensures later { S.faults src.old ≤ S.faults src.new }
 {
     let mut piece = Piece::new(alloc)?;
@@ -107,7 +107,7 @@ fn take_samples<S: Source>(
     ensures fewer { S.tells → (there : ℕ) → result ≡ Err (Fewer there) →
         (there ≡ length (samples_of (S.left src.old))) × (there < samples) }
     ensures memory { result ≢ Err OutOfMemory }
-    ensures cause { result ≡ Err ReadFault → Rose (S.faults src.old) (S.faults src.new) }
+    ensures cause { result ≡ Err ReadFault → CountRose (S.faults src.old) (S.faults src.new) }
     ensures later { S.faults src.old ≤ S.faults src.new }
 {
     let raws = piece.raws.as_mut_slice();

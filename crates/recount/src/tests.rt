@@ -74,17 +74,17 @@ fn the_first_difference_is_told(rt: HostRuntime) -> Result<(), Fail> {
     let (grid, gain) = (grid(&rt), gain(&rt));
     let classifier = Classifier::new(&gain, &grid);
     for (held, recorded, expected) in rows {
-        let mut seg = Segment::new(rt.alloc(), &grid, 0, 0, 9)?;
+        let mut segment = Segment::new(rt.alloc(), &grid, 0, 0, 9)?;
         assert!(rt; held.len() <= 9 && recorded.len() <= 9);
-        seg.count_block(held, &classifier, &mut [0; 9]);
+        segment.count_block(held, &classifier, &mut [0; 9]);
         let mut src = source(rt.alloc(), recorded, &[])?;
         let samples = recorded.len() as u64;
         let found = count_again(rt.alloc(), &mut src, &gain, &grid, samples).expect(
             &rt,
             "as many samples as there are",
         );
-        assert!(rt; found.pairs.tally().classes() == seg.grid().classes());
-        let difference = first_difference(&seg, &found);
+        assert!(rt; found.pairs.tally().classes() == segment.grid().classes());
+        let difference = first_difference(&segment, &found);
         assert_eq!(rt; difference.map(|d| (d.what, d.held, d.found)), expected);
     }
     Ok(())

@@ -21,6 +21,6 @@ all_held_stand s bodies seen leaves on c w n setup ends all g d lt =
     (held_stand s bodies seen leaves on w (subst (λ (x : Setup). AllStand x w bodies) (sym setup) all) g d lt))
 
 -- the one that was asked for
-pub held_stands : (c : Config) (held : List SegmentValue) (w : ℕ → List ℤ) (g : ℕ) (seg : SegmentValue) → AllHeldStand c held w
-    → g < length held → seg ≡ get_or held g seg → Stands seg (gain_at c.setup g) (w g)
-held_stands c held w g seg all lt is = subst (λ (v : SegmentValue). Stands v (gain_at c.setup g) (w g)) (sym is) (all g seg lt)
+pub held_stands : (c : Config) (held : List SegmentValue) (w : ℕ → List ℤ) (g : ℕ) (segment : SegmentValue) → AllHeldStand c held w
+    → g < length held → segment ≡ get_or held g segment → Stands segment (gain_at c.setup g) (w g)
+held_stands c held w g segment all lt is = subst (λ (v : SegmentValue). Stands v (gain_at c.setup g) (w g)) (sym is) (all g segment lt)

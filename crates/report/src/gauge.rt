@@ -17,37 +17,37 @@ const PLACES: usize = MAX_CLASSES as usize;
 
 /// Makes the page the text of a gauge: its table, then the sections `matrix` (half units by pair of
 /// levels), `crossings`, `peaks`, `valleys` and `ranges`, each with its heading.
-pub fn gauge_text(page: &mut Page, name: &str, seg: &Segment)
+pub fn gauge_text(page: &mut Page, name: &str, segment: &Segment)
     requires name { length name.now ≤ MAX_NAME_BYTES }
-    requires classes { seg.now.grid.classes ≤ page.old.classes }
+    requires classes { segment.now.grid.classes ≤ page.old.classes }
     ensures text { page.new ≡ record page.old {
-      bytes = spec.gauge_text seg.now.grid name.now (figures_of seg.now);
+      bytes = spec.gauge_text segment.now.grid name.now (figures_of segment.now);
     } }
-    ensures stands { (gain : GainValue) (w : List ℤ) → Stands seg.now gain w →
+    ensures stands { (gain : GainValue) (w : List ℤ) → Stands segment.now gain w →
         page.new ≡ record page.old {
-          bytes = spec.gauge_text seg.now.grid name.now (figures seg.now.grid gain w);
+          bytes = spec.gauge_text segment.now.grid name.now (figures segment.now.grid gain w);
         } }
 {
     // What a segment keeps: its grid and all its numbers lie within limits.
-    let _grid = seg.grid();
+    let _grid = segment.grid();
     page.clear();
-    push_gauge(page, name, seg);
+    push_gauge(page, name, segment);
 }
 
 #[tactic(auto, unfolding(crate::specs::Texts::gauge_text))]
-fn push_gauge(page: &mut Page, name: &str, seg: &Segment)
+fn push_gauge(page: &mut Page, name: &str, segment: &Segment)
     requires room { Fits page.old
-        (spec.gauge_text seg.now.grid name.now (figures_of seg.now)) }
+        (spec.gauge_text segment.now.grid name.now (figures_of segment.now)) }
     ensures { page.new ≡ with_text page.old
-        (spec.gauge_text seg.now.grid name.now (figures_of seg.now)) }
+        (spec.gauge_text segment.now.grid name.now (figures_of segment.now)) }
 {
     push_name(page, name);
-    push_segment_table(page, seg);
-    push_matrix(page, seg);
-    push_crossings(page, seg);
-    push_peaks(page, seg);
-    push_valleys(page, seg);
-    push_ranges(page, seg);
+    push_segment_table(page, segment);
+    push_matrix(page, segment);
+    push_crossings(page, segment);
+    push_peaks(page, segment);
+    push_valleys(page, segment);
+    push_ranges(page, segment);
 }
 
 fn push_name(page: &mut Page, name: &str)
@@ -59,128 +59,138 @@ fn push_name(page: &mut Page, name: &str)
     page.push(b"\n");
 }
 
-fn push_segment_table(page: &mut Page, seg: &Segment)
-    requires room { Fits page.old (spec.table_text seg.now.grid
-        (figures_of seg.now).samples (figures_of seg.now).half_units) }
-    ensures { page.new ≡ with_text page.old (spec.table_text seg.now.grid
-        (figures_of seg.now).samples (figures_of seg.now).half_units) }
+fn push_segment_table(page: &mut Page, segment: &Segment)
+    requires room { Fits page.old (spec.table_text segment.now.grid
+        (figures_of segment.now).samples (figures_of segment.now).half_units) }
+    ensures { page.new ≡ with_text page.old (spec.table_text segment.now.grid
+        (figures_of segment.now).samples (figures_of segment.now).half_units) }
 {
     let mut places = [0; PLACES];
-    push_table_by(page, seg, &mut places[..usize::from(seg.grid().classes())]);
+    push_table_by(
+        page,
+        segment,
+        &mut places[..usize::from(segment.grid().classes())],
+    );
 }
 
 // `halves` is room for the half units at each range.
-fn push_table_by(page: &mut Page, seg: &Segment, halves: &mut [u64])
-    requires places { length halves.old ≡ seg.now.grid.classes }
-    requires room { Fits page.old (spec.table_text seg.now.grid
-        (figures_of seg.now).samples (figures_of seg.now).half_units) }
-    ensures { page.new ≡ with_text page.old (spec.table_text seg.now.grid
-        (figures_of seg.now).samples (figures_of seg.now).half_units) }
+fn push_table_by(page: &mut Page, segment: &Segment, halves: &mut [u64])
+    requires places { length halves.old ≡ segment.now.grid.classes }
+    requires room { Fits page.old (spec.table_text segment.now.grid
+        (figures_of segment.now).samples (figures_of segment.now).half_units) }
+    ensures { page.new ≡ with_text page.old (spec.table_text segment.now.grid
+        (figures_of segment.now).samples (figures_of segment.now).half_units) }
 {
-    let grid = seg.grid();
-    let name = seg.name();
-    seg.half_units(halves);
+    let grid = segment.grid();
+    let name = segment.name();
+    segment.half_units(halves);
     push_table(
         page,
         &grid,
         [
             name.to - name.from,
-            seg.used(),
-            seg.missing(),
-            seg.refused(),
+            segment.used(),
+            segment.missing(),
+            segment.refused(),
         ],
         halves,
     );
 }
 
-fn push_matrix(page: &mut Page, seg: &Segment)
-    requires room { Fits page.old (spec.matrix seg.now.grid (figures_of seg.now)) }
-    ensures { page.new ≡ with_text page.old (spec.matrix seg.now.grid (figures_of seg.now)) }
+fn push_matrix(page: &mut Page, segment: &Segment)
+    requires room { Fits page.old (spec.matrix segment.now.grid (figures_of segment.now)) }
+    ensures { page.new ≡ with_text page.old (spec.matrix segment.now.grid
+        (figures_of segment.now)) }
 {
     page.push(b"matrix\n");
-    push_rows(page, seg);
+    push_rows(page, segment);
 }
 
-fn push_rows(page: &mut Page, seg: &Segment)
+fn push_rows(page: &mut Page, segment: &Segment)
     requires room { Fits page.old (lines_from
-        (spec.row_lines (figures_of seg.now).pairs seg.now.grid.classes) 0 seg.now.grid.classes) }
+        (spec.row_lines (figures_of segment.now).pairs segment.now.grid.classes) 0
+        segment.now.grid.classes) }
     ensures { page.new ≡ with_text page.old (lines_from
-        (spec.row_lines (figures_of seg.now).pairs seg.now.grid.classes) 0 seg.now.grid.classes) }
+        (spec.row_lines (figures_of segment.now).pairs segment.now.grid.classes) 0
+        segment.now.grid.classes) }
 {
     let mut places = [0; PLACES];
-    let row = &mut places[..usize::from(seg.grid().classes())];
-    for lo in 0..seg.grid().classes() {
-        push_row(page, seg, lo, row);
+    let row = &mut places[..usize::from(segment.grid().classes())];
+    for lo in 0..segment.grid().classes() {
+        push_row(page, segment, lo, row);
     }
 }
 
 // The pairs above a level. `row` is room for their half units.
-fn push_row(page: &mut Page, seg: &Segment, lo: u16, row: &mut [u64])
-    requires level { lo < seg.now.grid.classes }
-    requires places { length row.old ≡ seg.now.grid.classes }
+fn push_row(page: &mut Page, segment: &Segment, lo: u16, row: &mut [u64])
+    requires level { lo < segment.now.grid.classes }
+    requires places { length row.old ≡ segment.now.grid.classes }
     requires room { Fits page.old
-        (spec.row_lines (figures_of seg.now).pairs seg.now.grid.classes lo) }
+        (spec.row_lines (figures_of segment.now).pairs segment.now.grid.classes lo) }
     ensures text { page.new ≡ with_text page.old
-        (spec.row_lines (figures_of seg.now).pairs seg.now.grid.classes lo) }
+        (spec.row_lines (figures_of segment.now).pairs segment.now.grid.classes lo) }
     ensures places { length row.new ≡ length row.old }
 {
-    seg.halves_above(lo, row);
-    push_pairs(page, seg, lo, row);
+    segment.halves_above(lo, row);
+    push_pairs(page, segment, lo, row);
 }
 
-fn push_pairs(page: &mut Page, seg: &Segment, lo: u16, row: &[u64])
-    requires level { lo < seg.now.grid.classes }
-    requires places { length row.now ≡ seg.now.grid.classes }
-    requires row { (hi : ℕ) → lo < hi → hi < seg.now.grid.classes →
-        slice_index row.now hi ≡ (figures_of seg.now).pairs lo hi }
+fn push_pairs(page: &mut Page, segment: &Segment, lo: u16, row: &[u64])
+    requires level { lo < segment.now.grid.classes }
+    requires places { length row.now ≡ segment.now.grid.classes }
+    requires row { (hi : ℕ) → lo < hi → hi < segment.now.grid.classes →
+        slice_index row.now hi ≡ (figures_of segment.now).pairs lo hi }
     requires room { Fits page.old
-        (spec.row_lines (figures_of seg.now).pairs seg.now.grid.classes lo) }
+        (spec.row_lines (figures_of segment.now).pairs segment.now.grid.classes lo) }
     ensures { page.new ≡ with_text page.old
-        (spec.row_lines (figures_of seg.now).pairs seg.now.grid.classes lo) }
+        (spec.row_lines (figures_of segment.now).pairs segment.now.grid.classes lo) }
 {
-    let classes = seg.grid().classes();
+    let classes = segment.grid().classes();
     for hi in lo + 1..classes {
         push_pair_line(page, lo, hi, row[usize::from(hi)]);
     }
 }
 
-fn push_crossings(page: &mut Page, seg: &Segment)
-    requires room { Fits page.old (spec.crossings seg.now.grid (figures_of seg.now)) }
-    ensures { page.new ≡ with_text page.old (spec.crossings seg.now.grid (figures_of seg.now)) }
+fn push_crossings(page: &mut Page, segment: &Segment)
+    requires room { Fits page.old (spec.crossings segment.now.grid (figures_of segment.now)) }
+    ensures { page.new ≡ with_text page.old (spec.crossings segment.now.grid
+        (figures_of segment.now)) }
 {
     page.push(b"crossings\n");
-    for boundary in 1..seg.grid().classes() {
-        push_count_line(page, boundary, seg.crossings(boundary));
+    for boundary in 1..segment.grid().classes() {
+        push_count_line(page, boundary, segment.crossings(boundary));
     }
 }
 
-fn push_peaks(page: &mut Page, seg: &Segment)
-    requires room { Fits page.old (spec.peaks seg.now.grid (figures_of seg.now)) }
-    ensures { page.new ≡ with_text page.old (spec.peaks seg.now.grid (figures_of seg.now)) }
+fn push_peaks(page: &mut Page, segment: &Segment)
+    requires room { Fits page.old (spec.peaks segment.now.grid (figures_of segment.now)) }
+    ensures { page.new ≡ with_text page.old (spec.peaks segment.now.grid (figures_of segment.now)) }
 {
     page.push(b"peaks\n");
-    for level in 0..seg.grid().classes() {
-        push_count_line(page, level, seg.peaks(level));
+    for level in 0..segment.grid().classes() {
+        push_count_line(page, level, segment.peaks(level));
     }
 }
 
-fn push_valleys(page: &mut Page, seg: &Segment)
-    requires room { Fits page.old (spec.valleys seg.now.grid (figures_of seg.now)) }
-    ensures { page.new ≡ with_text page.old (spec.valleys seg.now.grid (figures_of seg.now)) }
+fn push_valleys(page: &mut Page, segment: &Segment)
+    requires room { Fits page.old (spec.valleys segment.now.grid (figures_of segment.now)) }
+    ensures { page.new ≡ with_text page.old (spec.valleys segment.now.grid
+        (figures_of segment.now)) }
 {
     page.push(b"valleys\n");
-    for level in 0..seg.grid().classes() {
-        push_count_line(page, level, seg.valleys(level));
+    for level in 0..segment.grid().classes() {
+        push_count_line(page, level, segment.valleys(level));
     }
 }
 
-fn push_ranges(page: &mut Page, seg: &Segment)
-    requires room { Fits page.old (spec.ranges seg.now.grid (figures_of seg.now)) }
-    ensures { page.new ≡ with_text page.old (spec.ranges seg.now.grid (figures_of seg.now)) }
+fn push_ranges(page: &mut Page, segment: &Segment)
+    requires room { Fits page.old (spec.ranges segment.now.grid (figures_of segment.now)) }
+    ensures { page.new ≡ with_text page.old (spec.ranges segment.now.grid
+        (figures_of segment.now)) }
 {
     page.push(b"ranges\n");
-    let width = u64::from(seg.grid().w2());
-    for k in (1..seg.grid().classes()).rev() {
-        push_range_line(page, u64::from(k) * width, seg.ranges(k));
+    let width = u64::from(segment.grid().w2());
+    for k in (1..segment.grid().classes()).rev() {
+        push_range_line(page, u64::from(k) * width, segment.ranges(k));
     }
 }

@@ -10,28 +10,28 @@ use repeating::Repeating;
 
 /// Makes the page the text of a gauge whose history repeats (5.4.5): a line for each range that has
 /// a cycle, the greatest first.
-pub fn repeat_text(page: &mut Page, name: &str, rep: &Repeating)
+pub fn repeat_text(page: &mut Page, name: &str, repeating: &Repeating)
     requires name { length name.now ≤ MAX_NAME_BYTES }
-    requires classes { rep.now.grid.classes ≤ page.old.classes }
+    requires classes { repeating.now.grid.classes ≤ page.old.classes }
     ensures { page.new ≡ record page.old {
-      bytes = spec.repeat_text rep.now.grid name.now (count_of rep.now.tally.cells);
+      bytes = spec.repeat_text repeating.now.grid name.now (count_of repeating.now.tally.cells);
     } }
 {
     // What a count keeps: its grid and all its numbers lie within limits.
-    let _grid = rep.grid();
+    let _grid = repeating.grid();
     page.clear();
-    push_repeat(page, name, rep);
+    push_repeat(page, name, repeating);
 }
 
 #[tactic(auto, unfolding(crate::specs::Repeat::repeat_text))]
-fn push_repeat(page: &mut Page, name: &str, rep: &Repeating)
+fn push_repeat(page: &mut Page, name: &str, repeating: &Repeating)
     requires room { Fits page.old
-        (spec.repeat_text rep.now.grid name.now (count_of rep.now.tally.cells)) }
+        (spec.repeat_text repeating.now.grid name.now (count_of repeating.now.tally.cells)) }
     ensures { page.new ≡ with_text page.old
-        (spec.repeat_text rep.now.grid name.now (count_of rep.now.tally.cells)) }
+        (spec.repeat_text repeating.now.grid name.now (count_of repeating.now.tally.cells)) }
 {
     push_repeat_name(page, name);
-    push_cycles(page, rep);
+    push_cycles(page, repeating);
 }
 
 fn push_repeat_name(page: &mut Page, name: &str)
@@ -43,28 +43,29 @@ fn push_repeat_name(page: &mut Page, name: &str)
     page.push(b"\n");
 }
 
-fn push_cycles(page: &mut Page, rep: &Repeating)
+fn push_cycles(page: &mut Page, repeating: &Repeating)
     requires room { Fits page.old
-        (spec.cycle_lines rep.now.grid (count_of rep.now.tally.cells)) }
+        (spec.cycle_lines repeating.now.grid (count_of repeating.now.tally.cells)) }
     ensures { page.new ≡ with_text page.old
-        (spec.cycle_lines rep.now.grid (count_of rep.now.tally.cells)) }
+        (spec.cycle_lines repeating.now.grid (count_of repeating.now.tally.cells)) }
 {
-    let width = u64::from(rep.grid().w2());
-    for k in (1..rep.grid().classes()).rev() {
-        push_range_line(page, u64::from(k) * width, doubled_at(rep, k));
+    let width = u64::from(repeating.grid().w2());
+    for k in (1..repeating.grid().classes()).rev() {
+        push_range_line(page, u64::from(k) * width, doubled_at(repeating, k));
     }
 }
 
 // The cycles of all pairs so far apart, in half units.
-fn doubled_at(rep: &Repeating, k: u16) -> u64
+fn doubled_at(repeating: &Repeating, k: u16) -> u64
     requires some { 1 ≤ k }
-    requires within { k < rep.now.grid.classes }
-    ensures { result ≡ spec.doubled_at (count_of rep.now.tally.cells) rep.now.grid.classes k }
+    requires within { k < repeating.now.grid.classes }
+    ensures { result ≡ spec.doubled_at (count_of repeating.now.tally.cells)
+        repeating.now.grid.classes k }
 {
-    let classes = rep.grid().classes();
+    let classes = repeating.grid().classes();
     let mut cycles = 0;
     for lo in 0..classes - k {
-        cycles += rep.cycles(lo, lo + k);
+        cycles += repeating.cycles(lo, lo + k);
     }
     2 * cycles
 }

@@ -10,7 +10,7 @@ use std::alloc::Global;
 use std::process::Abort;
 use std::test::Fail;
 
-// The standard's own example, over classes of 1 MPa.
+// The standard's own example, over classes of 1 N/mm².
 #[test]
 fn a_table(rt: HostRuntime) -> Result<(), Fail> {
     let alloc = rt.alloc();
@@ -26,7 +26,7 @@ fn a_table(rt: HostRuntime) -> Result<(), Fail> {
         "samples 9 used 9 missing 0 refused 0\nrainflow\n9.0 0.5\n8.0 1.0\n6.0 0.5\n4.0 1.5\n3.0 0.5\n";
     assert_eq!(rt; page.bytes(), expected.as_bytes());
 
-    // A page is written anew. A class of half a MPa.
+    // A page is written anew. A class of half an N/mm².
     let grid = Grid::new(3, 1, -500, 1).expect(&rt, "a small grid");
     table_text(&mut page, &grid, [4, 3, 0, 1], &[0, 2, 0]);
     let expected = "samples 4 used 3 missing 0 refused 1\nrainflow\n0.5 1.0\n";
@@ -134,15 +134,15 @@ fn gauges(rt: HostRuntime) -> Result<(), Fail> {
     let grid = Grid::new(16, 2, -8000, 8).expect(&rt, "the grid of the example");
     let gain = Gain::new(1000, 1, 0).expect(&rt, "a gain of one MPa");
     let mut page = Page::new(alloc, 16)?;
-    let mut seg = Segment::new(alloc, &grid, 0, 0, 100)?;
+    let mut segment = Segment::new(alloc, &grid, 0, 0, 100)?;
     let classifier = Classifier::new(&gain, &grid);
-    seg.count_block(&EXAMPLE, &classifier, &mut [0; 9]);
-    gauge_text(&mut page, "north", &seg);
+    segment.count_block(&EXAMPLE, &classifier, &mut [0; 9]);
+    gauge_text(&mut page, "north", &segment);
     assert_eq!(rt; page.bytes(), EXAMPLE_TEXT.as_bytes());
 
-    let mut seg = Segment::new(alloc, &grid, 0, 0, 100)?;
-    seg.count_block(&[i32::MIN], &classifier, &mut [0; 1]);
-    gauge_text(&mut page, "A", &seg);
+    let mut segment = Segment::new(alloc, &grid, 0, 0, 100)?;
+    segment.count_block(&[i32::MIN], &classifier, &mut [0; 1]);
+    gauge_text(&mut page, "A", &segment);
     assert_eq!(rt; page.bytes(), EMPTY_TEXT.as_bytes());
     Ok(())
 }
@@ -162,9 +162,9 @@ fn check_repeat(
     let gain = Gain::new(1000, 1, 0)?;
     let mut page = Page::new(alloc, 16)?;
     let mut count = Repeating::new(alloc, &grid)?;
-    let mut seg = Segment::new(alloc, &grid, 0, 0, 100)?;
-    seg.count_block(raws, &Classifier::new(&gain, &grid), &mut [0; 9]);
-    count.of(&seg);
+    let mut segment = Segment::new(alloc, &grid, 0, 0, 100)?;
+    segment.count_block(raws, &Classifier::new(&gain, &grid), &mut [0; 9]);
+    count.of(&segment);
     repeat_text(&mut page, name, &count);
     assert_eq!(rt; page.bytes(), expected.as_bytes());
     Ok(())

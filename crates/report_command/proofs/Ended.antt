@@ -1,7 +1,7 @@
 -- What each answer of `report` says.
 use Rattle.std.proofs.Common.{◌≡◌, ◌≢◌, ◌≤◌, ◌⊎◌, inl, inr, ℕ, List, refl, subst, arith}
 use Rattle.std.specs.Prelude.{Result, Ok, Err}
-use Rattle.outside.specs.Fault.{Rose}
+use Rattle.outside.specs.Fault.{CountRose}
 use Rattle.station.specs.Station.{Image}
 use Rattle.calibration.specs.declared.setup.Setup.{Setup}
 use Rattle.segment_store.specs.Held.{ends_of}
@@ -45,7 +45,7 @@ printed_answer c image s is reads = by_printing (MayAnswerOver c image) reads re
 -- over a store that reads, nothing but a fault of the disk and want of memory is refused
 pub refused_complete : (X : Type 0) (f : ResumeFault) (before between now : ℕ) → IsUnharmed {X = X} (Err f) →
     DiskRose {X = X} before between (Err f)
-    → between ≤ now → (Rose before now → ⊥) → (store_status f ≡ Done) ⊎ (store_status f ≡ OutOfMemory)
+    → between ≤ now → (CountRose before now → ⊥) → (store_status f ≡ Done) ⊎ (store_status f ≡ OutOfMemory)
 refused_complete X fault.NotAStore before between now u d le none = absurd u
 refused_complete X (fault.Version v) before between now u d le none = absurd u
 refused_complete X (fault.Differs field kept found) before between now u d le none = absurd u
@@ -53,10 +53,10 @@ refused_complete X (fault.Damaged index damage) before between now u d le none =
 refused_complete X fault.DiskFault before between now u d le none = absurd (none (omega (arith, d, le)))
 refused_complete X fault.OutOfMemory before between now u d le none = inr refl
 
-pub printed_complete : (s : Status) (before now : ℕ) → IsPrinting s → (s ≡ WriteFault → Rose before now) → (Rose before now → ⊥) →
+pub printed_complete : (s : Status) (before now : ℕ) → IsPrinting s → (s ≡ WriteFault → CountRose before now) → (CountRose before now → ⊥) →
     (s ≡ Done) ⊎ (s ≡ OutOfMemory)
 printed_complete s before now is write none =
-    by_printing (λ (x : Status). (x ≡ WriteFault → Rose before now) → (x ≡ Done) ⊎ (x ≡ OutOfMemory)) (λ w. inl refl)
+    by_printing (λ (x : Status). (x ≡ WriteFault → CountRose before now) → (x ≡ Done) ⊎ (x ≡ OutOfMemory)) (λ w. inl refl)
     (λ w. absurd (none (w refl))) s is write
 
 pub printing_other : (s : Status) → IsPrinting s → (s ≢ ReadFault) × (s ≢ DiskFault)
@@ -64,25 +64,26 @@ printing_other =
     by_printing (λ s. (s ≢ ReadFault) × (s ≢ DiskFault)) ((λ is. absurd cc), (λ is. absurd cc)) ((λ is. absurd cc), (λ is. absurd cc))
 
 -- an answer over a configuration that was read
-pub over_config : (conf : Result Config ConfigFault) (c : Config) (image : Image) → conf ≡ Ok c → (s : Status) → MayAnswerOver c image s →
-    ReportAnswers conf image s
-over_config conf c image is Done a = (c, is, a)
-over_config conf c image is WriteFault a = (c, is, a)
-over_config conf c image is (BadStore f) a = (c, is, a)
-over_config conf c image is DiskFault a = (c, is, a)
-over_config conf c image is OutOfMemory a = tt
-over_config conf c image is ReadFault a = tt
-over_config conf c image is Usage a = absurd a
-over_config conf c image is (BadConfig f) a = absurd a
-over_config conf c image is (Recording g f) a = absurd a
-over_config conf c image is (Torn g b) a = absurd a
-over_config conf c image is (TooLong g) a = absurd a
-over_config conf c image is (Differs g x y z) a = absurd a
+pub over_config : (bridge : Result Config ConfigFault) (c : Config) (image : Image) → bridge ≡ Ok c → (s : Status) →
+    MayAnswerOver c image s →
+    ReportAnswers bridge image s
+over_config bridge c image is Done a = (c, is, a)
+over_config bridge c image is WriteFault a = (c, is, a)
+over_config bridge c image is (BadStore f) a = (c, is, a)
+over_config bridge c image is DiskFault a = (c, is, a)
+over_config bridge c image is OutOfMemory a = tt
+over_config bridge c image is ReadFault a = tt
+over_config bridge c image is Usage a = absurd a
+over_config bridge c image is (BadConfig f) a = absurd a
+over_config bridge c image is (Recording g f) a = absurd a
+over_config bridge c image is (Torn g b) a = absurd a
+over_config bridge c image is (TooLong g) a = absurd a
+over_config bridge c image is (Differs g x y z) a = absurd a
 
-pub unread_answer : (conf : Result Config ConfigFault) (image : Image) (s : Status) → IsRefusal s → MeansAs conf (Err s) →
-    ReportAnswers conf image s
-unread_answer conf image s is =
-    by_refusal (λ (x : Status). MeansAs conf (Err x) → ReportAnswers conf image x) (λ f m. m) (λ m. tt) (λ m. tt) s is
+pub unread_answer : (bridge : Result Config ConfigFault) (image : Image) (s : Status) → IsRefusal s → MeansAs bridge (Err s) →
+    ReportAnswers bridge image s
+unread_answer bridge image s is =
+    by_refusal (λ (x : Status). MeansAs bridge (Err x) → ReportAnswers bridge image x) (λ f m. m) (λ m. tt) (λ m. tt) s is
 
 pub unread_other : (s : Status) → IsRefusal s → (s ≢ WriteFault) × (s ≢ DiskFault) × (IsPrinting s → ⊥)
 unread_other = by_refusal (λ s. (s ≢ WriteFault) × (s ≢ DiskFault) × (IsPrinting s → ⊥))

@@ -35,13 +35,13 @@ MayAnswerOver c image OutOfMemory = Unit {0}
 MayAnswerOver c image status = ⊥
 
 abbrev pub ReportAnswers : Result Config ConfigFault → Image → Status → Type 0
-ReportAnswers conf image (BadConfig fault) = conf ≡ Err fault
-ReportAnswers conf image ReadFault = Unit {0}
-ReportAnswers conf image OutOfMemory = Unit {0}
-ReportAnswers conf image status = (c : Config) × (conf ≡ Ok c) × MayAnswerOver c image status
+ReportAnswers bridge image (BadConfig fault) = bridge ≡ Err fault
+ReportAnswers bridge image ReadFault = Unit {0}
+ReportAnswers bridge image OutOfMemory = Unit {0}
+ReportAnswers bridge image status = (c : Config) × (bridge ≡ Ok c) × MayAnswerOver c image status
 
 abbrev pub IsSound : Result Config ConfigFault → Image → Type 0
-IsSound conf image = (c : Config) × (conf ≡ Ok c) × ReadsAs c.setup image
+IsSound bridge image = (c : Config) × (bridge ≡ Ok c) × ReadsAs c.setup image
 
 abbrev pub IsReporting : Status → Type 0
 IsReporting Done = Unit {0}

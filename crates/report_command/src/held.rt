@@ -1,5 +1,5 @@
 ghost use Rattle.std.specs.Prelude.{◌≡◌, ◌≢◌, ◌≤◌, ◌⊎◌, ℕ, length};
-ghost use Rattle.outside.specs.Fault.{Rose};
+ghost use Rattle.outside.specs.Fault.{CountRose};
 ghost use Rattle.report.specs.Figures.{Figures};
 ghost use Rattle.site_config.specs.Valid.{IsConfig};
 ghost use Rattle.site_report.specs.Report.{Agrees};
@@ -16,21 +16,21 @@ use status::Status;
 
 /// Prints the report of what is held.
 pub(crate) fn print_held<O: Sink>(
-    conf: &Config,
+    bridge: &Config,
     store: &Store,
     report: &mut Report,
     out: &mut O,
 ) -> Status
-    requires conf { IsConfig conf.now }
-    requires setup { store.now.head.setup ≡ conf.now.setup }
-    requires gauges { length store.now.held ≡ length conf.now.gauges }
-    requires room { HasRoom conf.now report.old }
-    ensures prints { O.tells → (figures : ℕ → Figures) → Agrees conf.now store.now.held figures →
-        Prints result conf.now figures (O.written out.old) (O.written out.new) }
+    requires bridge { IsConfig bridge.now }
+    requires setup { store.now.head.setup ≡ bridge.now.setup }
+    requires gauges { length store.now.held ≡ length bridge.now.gauges }
+    requires room { HasRoom bridge.now report.old }
+    ensures prints { O.tells → (figures : ℕ → Figures) → Agrees bridge.now store.now.held figures →
+        Prints result bridge.now figures (O.written out.old) (O.written out.new) }
     ensures kind { IsPrinting result }
-    ensures write { result ≡ WriteFault → Rose (O.faults out.old) (O.faults out.new) }
+    ensures write { result ≡ WriteFault → CountRose (O.faults out.old) (O.faults out.new) }
 {
-    match report.print(conf, store, out) {
+    match report.print(bridge, store, out) {
         Ok(()) => Status::Done,
         Err(_) => Status::WriteFault,
     }

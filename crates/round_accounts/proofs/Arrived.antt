@@ -18,11 +18,11 @@ use Rattle.deposits.proofs.Mixing.{mixed_filter, mixed_beyond, filter_both}
 use Rattle.arrivals.specs.Arrivals.{Round as RoundOfFlow, names_of, fed_to, worker_of, AreArrivals}
 use Rattle.arrivals.proofs.Reached.{past_end}
 use Rattle.block_workers.specs.declared.desk.Desk.{Desk}
-use Rattle.block_workers.specs.Dealing.{dealt}
+use Rattle.block_workers.specs.Dealing.{blocks_of_worker}
 use Rattle.block_workers.specs.Reading.{AreBlocks}
 use Rattle.block_workers.specs.Reading.AreBlocks.{none, last, more}
 use Rattle.round_accounts.proofs.Lists.{in_turn}
-use Rattle.round_accounts.proofs.Names.{dealt_names}
+use Rattle.round_accounts.proofs.Names.{blocks_of_worker_names}
 use Rattle.round_accounts.proofs.Taken.{AreTaken, blocks_reach, every_name, list_names, mixed_names, taken_known}
 
 -- a name of a gauge, and of a block that a worker gets
@@ -43,21 +43,23 @@ of_cond P k v n u l p d (inl e) = subst (λ t. Each P (cond t (u ∷ l) l)) (sym
 of_cond P k v n u l p d (inr o) = subst (λ t. Each P (cond t (u ∷ l) l)) (sym (ne_eqb (k % n) v o)) d
 
 -- the blocks of a lane that a worker is dealt
-pub dealt_of : (block workers : ℕ) (r : RoundOfFlow) (v k : ℕ) (d : Desk) (a b : ℕ) (us : List FilledValue) → 0 < block → d.block ≡ block
-    → AreBlocks d a us b → a ≡ r.at d.gauge + k * block → Each (λ u. IsOf block workers r d.gauge v u.name) (dealt workers v k us)
-dealt_of block workers r v k d a b [] pos s none e = no_unit
-dealt_of block workers r v k d a b (u ∷ []) pos s (last i) e =
+pub blocks_of_worker_of : (block workers : ℕ) (r : RoundOfFlow) (v k : ℕ) (d : Desk) (a b : ℕ) (us : List FilledValue) → 0 < block →
+    d.block ≡ block
+    → AreBlocks d a us b → a ≡ r.at d.gauge + k * block →
+    Each (λ u. IsOf block workers r d.gauge v u.name) (blocks_of_worker workers v k us)
+blocks_of_worker_of block workers r v k d a b [] pos s none e = no_unit
+blocks_of_worker_of block workers r v k d a b (u ∷ []) pos s (last i) e =
     let gauge : u.name.gauge ≡ d.gauge = ap (λ x. x.gauge) i.name in let from : u.name.from ≡ a = ap (λ x. x.from) i.name in
     of_cond (λ x. IsOf block workers r d.gauge v x.name) k v workers u []
     (λ q. record { gauge = gauge; worker = number_of block workers r d.gauge k u.name pos gauge (from ∙ e) ∙ q }) no_unit
     (cases_eq (k % workers) v)
-dealt_of block workers r v k d a b (u ∷ us) pos s (more i h) e =
+blocks_of_worker_of block workers r v k d a b (u ∷ us) pos s (more i h) e =
     let gauge : u.name.gauge ≡ d.gauge = ap (λ x. x.gauge) i.name in let from : u.name.from ≡ a = ap (λ x. x.from) i.name in
     let next : a + d.block ≡ r.at d.gauge + (k + 1) * block = let m : (k + 1) * block ≡ k * block + block = omega arith in
     omega (arith, e, s, m) in
-    of_cond (λ x. IsOf block workers r d.gauge v x.name) k v workers u (dealt workers v (k + 1) us)
+    of_cond (λ x. IsOf block workers r d.gauge v x.name) k v workers u (blocks_of_worker workers v (k + 1) us)
     (λ q. record { gauge = gauge; worker = number_of block workers r d.gauge k u.name pos gauge (from ∙ e) ∙ q })
-    (dealt_of block workers r v (k + 1) d (a + d.block) b us pos s h next) (cases_eq (k % workers) v)
+    (blocks_of_worker_of block workers r v (k + 1) d (a + d.block) b us pos s h next) (cases_eq (k % workers) v)
 
 -- lists that pass a test, and lists that do not
 pub filter_all : (t : Name → Bool) (l : List Name) → Every (λ x. t x ≡ true) l → filter t l ≡ l
@@ -92,13 +94,13 @@ module _ (block : ℕ) (kind : GridValue) (n workers : ℕ) (at to : ℕ → ℕ
   abbrev test : ℕ → ℕ → Name → Bool
   test g v x = eqb x.gauge g && eqb (worker_of block workers r x) v
 
-  ring_names : (g v : ℕ) → g < n → Every (IsOf block workers r g v) (names_of (dealt workers v 0 (given g)))
+  ring_names : (g v : ℕ) → g < n → Every (IsOf block workers r g v) (names_of (blocks_of_worker workers v 0 (given g)))
   ring_names g v l =
       let z : at g ≡ r.at (desk g).gauge + 0 * block = let e : r.at (desk g).gauge ≡ at g = ap r.at (h.gauge g l) ∙ starts g l in
       omega (arith, e) in
-      subst (λ j. Every (IsOf block workers r j v) (names_of (dealt workers v 0 (given g)))) (h.gauge g l)
-      (every_name (dealt workers v 0 (given g))
-      (dealt_of block workers r v 0 (desk g) (at g) (to g) (given g) h.some.0 (h.size g l) (h.blocks g l) z))
+      subst (λ j. Every (IsOf block workers r j v) (names_of (blocks_of_worker workers v 0 (given g)))) (h.gauge g l)
+      (every_name (blocks_of_worker workers v 0 (given g))
+      (blocks_of_worker_of block workers r v 0 (desk g) (at g) (to g) (given g) h.some.0 (h.size g l) (h.blocks g l) z))
 
   passes : (g v : ℕ) (x : Name) → IsOf block workers r g v x → test g v x ≡ true
   passes g v x i = ap (λ b. b && eqb (worker_of block workers r x) v) (eq-eqb x.gauge g i.gauge)
@@ -112,27 +114,30 @@ module _ (block : ℕ) (kind : GridValue) (n workers : ℕ) (at to : ℕ → ℕ
       ∙ and-false (eqb x.gauge g)
 
   -- of the names that were dealt to a worker, those of a gauge
-  of_worker : (g v : ℕ) → g < n → v < workers → filter (test g v) (unit_names (lists v)) ≡ names_of (dealt workers v 0 (given g))
+  of_worker : (g v : ℕ) → g < n → v < workers → filter (test g v) (unit_names (lists v)) ≡ names_of (blocks_of_worker workers v 0 (given g))
   of_worker g v l m =
       ap (filter (test g v)) (list_names block kind n workers at to desk given lists units h v m)
-      ∙ turn_filter (test g v) n g (λ k. names_of (dealt workers v 0 (given k))) l
-      (λ k q o. filter_none (test g v) (names_of (dealt workers v 0 (given k)))
-      (every_map (names_of (dealt workers v 0 (given k))) (λ x i. fails_gauge g v k v x o i) (ring_names k v q)))
-      ∙ filter_all (test g v) (names_of (dealt workers v 0 (given g)))
-      (every_map (names_of (dealt workers v 0 (given g))) (passes g v) (ring_names g v l))
+      ∙ turn_filter (test g v) n g (λ k. names_of (blocks_of_worker workers v 0 (given k))) l
+      (λ k q o. filter_none (test g v) (names_of (blocks_of_worker workers v 0 (given k)))
+      (every_map (names_of (blocks_of_worker workers v 0 (given k))) (λ x i. fails_gauge g v k v x o i) (ring_names k v q)))
+      ∙ filter_all (test g v) (names_of (blocks_of_worker workers v 0 (given g)))
+      (every_map (names_of (blocks_of_worker workers v 0 (given g))) (passes g v) (ring_names g v l))
 
   of_other : (g v u : ℕ) → u < workers → u ≢ v → filter (test g v) (unit_names (lists u)) ≡ []
   of_other g v u m o =
       ap (filter (test g v)) (list_names block kind n workers at to desk given lists units h u m)
-      ∙ filter_none (test g v) (in_turn n (λ k. names_of (dealt workers u 0 (given k)))) (turn_every (test g v) n u)
+      ∙ filter_none (test g v) (in_turn n (λ k. names_of (blocks_of_worker workers u 0 (given k)))) (turn_every (test g v) n u)
     where
-      turn_some : (j : ℕ) → j ≤ n → Every (λ x. test g v x ≡ false) (in_turn j (λ k. names_of (dealt workers u 0 (given k))))
+      turn_some : (j : ℕ) → j ≤ n → Every (λ x. test g v x ≡ false) (in_turn j (λ k. names_of (blocks_of_worker workers u 0 (given k))))
       turn_some zero q = no_name
-      turn_some (suc j) q = every_append (in_turn j (λ k. names_of (dealt workers u 0 (given k)))) (names_of (dealt workers u 0 (given j)))
+      turn_some (suc j) q = every_append (in_turn j (λ k. names_of (blocks_of_worker workers u 0 (given k))))
+          (names_of (blocks_of_worker workers u 0 (given j)))
           (turn_some j (omega (arith, q)))
-          (every_map (names_of (dealt workers u 0 (given j))) (λ x i. fails_worker g v j u x o i) (ring_names j u (omega (arith, q))))
+          (every_map (names_of (blocks_of_worker workers u 0 (given j))) (λ x i. fails_worker g v j u x o i)
+          (ring_names j u (omega (arith, q))))
 
-      turn_every : (t : Name → Bool) (j w : ℕ) → Every (λ x. test g v x ≡ false) (in_turn n (λ k. names_of (dealt workers u 0 (given k))))
+      turn_every : (t : Name → Bool) (j w : ℕ) →
+          Every (λ x. test g v x ≡ false) (in_turn n (λ k. names_of (blocks_of_worker workers u 0 (given k))))
       turn_every t j w = turn_some n (omega arith)
 
   of_others : (g v u : ℕ) → u ≢ v → ((u < workers) ⊎ (workers ≤ u)) → filter (test g v) (unit_names (lists u)) ≡ []
@@ -142,13 +147,13 @@ module _ (block : ℕ) (kind : GridValue) (n workers : ℕ) (at to : ℕ → ℕ
       (mixed_names block kind n workers at to desk given lists units h) b)
 
   -- the names of a ring are those of the flow
-  pub ring_is_fed : (g v : ℕ) → g < n → names_of (dealt workers v 0 (given g)) ≡ fed_to block workers r g v 16
+  pub ring_is_fed : (g v : ℕ) → g < n → names_of (blocks_of_worker workers v 0 (given g)) ≡ fed_to block workers r g v 16
   ring_is_fed g v l =
       let gauge = h.gauge g l in
       let stops : length (r.samples (desk g).gauge) ≡ to g = ap (λ k. length (r.samples k)) gauge ∙ ends g l in
       let start : at g ≡ r.at (desk g).gauge + 0 * block = let e : r.at (desk g).gauge ≡ at g = ap r.at gauge ∙ starts g l in
       omega (arith, e) in
-      let fed = dealt_names block workers r (desk g) (to g) (sym (h.size g l)) stops v 0 (at g) (to g) (given g)
+      let fed = blocks_of_worker_names block workers r (desk g) (to g) (sym (h.size g l)) stops v 0 (at g) (to g) (given g)
       (h.blocks g l) start refl in
       let reach : length (r.samples g) ≤ r.at g + length (given g) * block =
       let m = blocks_reach (desk g) (at g) (to g) (given g) (h.blocks g l) in

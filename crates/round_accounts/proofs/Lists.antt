@@ -9,7 +9,7 @@ use Rattle.block_pool.specs.Units.{FilledValue}
 use Rattle.arrivals.specs.Arrivals.{names_of}
 use Rattle.deposits.specs.Deposited.{Each}
 use Rattle.deposits.specs.Deposited.Each.{none, both}
-use Rattle.block_workers.specs.Dealing.{dealt}
+use Rattle.block_workers.specs.Dealing.{blocks_of_worker}
 use Rattle.block_workers.proofs.Accounts.{one_worker}
 
 pub over_swap : (n m : ℕ) (f : ℕ → ℕ → ℕ) → over n (λ v. over m (λ h. f v h)) ≡ over m (λ h. over n (λ v. f v h))
@@ -60,16 +60,17 @@ long_cond true u l = omega arith
 long_cond false u l = omega arith
 
 -- each block of a lane goes to one worker
-pub dealt_long : (n k : ℕ) (us : List FilledValue) → 0 < n → over n (λ v. length (dealt n v k us)) ≡ length us
-dealt_long n k [] h = over_none n (λ v. 0) (λ v l. refl)
-dealt_long n k (u ∷ us) h =
-    let parts : over n (λ v. length (dealt n v k (u ∷ us))) ≡ over n (λ v. cond (eqb (k % n) v) 1 0 + length (dealt n v (k + 1) us)) =
-    over_same n _ _ (λ v l. long_cond (eqb (k % n) v) u (dealt n v (k + 1) us)) in
-    let sums : over n (λ v. cond (eqb (k % n) v) 1 0 + length (dealt n v (k + 1) us))
-    ≡ over n (λ v. cond (eqb (k % n) v) 1 0) + over n (λ v. length (dealt n v (k + 1) us)) =
-    over_sum n (λ v. cond (eqb (k % n) v) 1 0) (λ v. length (dealt n v (k + 1) us)) in
+pub blocks_of_worker_long : (n k : ℕ) (us : List FilledValue) → 0 < n → over n (λ v. length (blocks_of_worker n v k us)) ≡ length us
+blocks_of_worker_long n k [] h = over_none n (λ v. 0) (λ v l. refl)
+blocks_of_worker_long n k (u ∷ us) h =
+    let parts : over n (λ v. length (blocks_of_worker n v k (u ∷ us)))
+    ≡ over n (λ v. cond (eqb (k % n) v) 1 0 + length (blocks_of_worker n v (k + 1) us)) =
+    over_same n _ _ (λ v l. long_cond (eqb (k % n) v) u (blocks_of_worker n v (k + 1) us)) in
+    let sums : over n (λ v. cond (eqb (k % n) v) 1 0 + length (blocks_of_worker n v (k + 1) us))
+    ≡ over n (λ v. cond (eqb (k % n) v) 1 0) + over n (λ v. length (blocks_of_worker n v (k + 1) us)) =
+    over_sum n (λ v. cond (eqb (k % n) v) 1 0) (λ v. length (blocks_of_worker n v (k + 1) us)) in
     let here : over n (λ v. cond (eqb (k % n) v) 1 0) ≡ 1 = one_worker n (k % n) 1 (omega (arith, h)) in
-    let rest : over n (λ v. length (dealt n v (k + 1) us)) ≡ length us = dealt_long n (k + 1) us h in
+    let rest : over n (λ v. length (blocks_of_worker n v (k + 1) us)) ≡ length us = blocks_of_worker_long n (k + 1) us h in
     omega (arith, parts, sums, here, rest)
 
 abbrev choose_by : {A : Type 0} → (n : ℕ) (f : (g : ℕ) → g < n → A) (d : A) (g : ℕ) → ((g < n) ⊎ (n ≤ g)) → A

@@ -7,7 +7,7 @@ use Rattle.flow.specs.Flow.{name_of_samples}
 use Rattle.block_pool.specs.Units.{FilledValue}
 use Rattle.arrivals.specs.Arrivals.{Round, names_of, name_at, fed_to}
 use Rattle.block_workers.specs.declared.desk.Desk.{Desk}
-use Rattle.block_workers.specs.Dealing.{dealt}
+use Rattle.block_workers.specs.Dealing.{blocks_of_worker}
 use Rattle.block_workers.specs.Reading.{IsUnit, AreBlocks}
 use Rattle.block_workers.specs.Reading.AreBlocks.{none, last, more}
 use Rattle.block_workers.proofs.Accounts.{blocks_ascend}
@@ -32,29 +32,30 @@ module _ (block n : ℕ) (r : Round) (d : Desk) (to : ℕ) (is : block ≡ d.blo
 
   step : (v k : ℕ) (u : FilledValue) (us : List FilledValue)
       → fed_to block n r d.gauge v (suc k) ≡ fed_to block n r d.gauge v k ++ cond (eqb (k % n) v) (u.name ∷ []) []
-      → fed_to block n r d.gauge v (suc k) ++ names_of (dealt n v (k + 1) us) ≡ fed_to block n r d.gauge v (suc k + length us)
-      → fed_to block n r d.gauge v k ++ names_of (dealt n v k (u ∷ us)) ≡ fed_to block n r d.gauge v (k + length (u ∷ us))
+      → fed_to block n r d.gauge v (suc k) ++ names_of (blocks_of_worker n v (k + 1) us) ≡ fed_to block n r d.gauge v (suc k + length us)
+      → fed_to block n r d.gauge v k ++ names_of (blocks_of_worker n v k (u ∷ us)) ≡ fed_to block n r d.gauge v (k + length (u ∷ us))
   step v k u us one rest =
       let sum : suc k + length us ≡ k + length (u ∷ us) = omega arith in
-      ap (λ l. fed_to block n r d.gauge v k ++ l) (names_cond (eqb (k % n) v) u (dealt n v (k + 1) us))
-      ∙ sym (append_assoc (fed_to block n r d.gauge v k) (cond (eqb (k % n) v) (u.name ∷ []) []) (names_of (dealt n v (k + 1) us)))
-      ∙ ap (λ l. l ++ names_of (dealt n v (k + 1) us)) (sym one) ∙ rest ∙ ap (fed_to block n r d.gauge v) sum
+      ap (λ l. fed_to block n r d.gauge v k ++ l) (names_cond (eqb (k % n) v) u (blocks_of_worker n v (k + 1) us))
+      ∙ sym (append_assoc (fed_to block n r d.gauge v k) (cond (eqb (k % n) v) (u.name ∷ []) [])
+      (names_of (blocks_of_worker n v (k + 1) us)))
+      ∙ ap (λ l. l ++ names_of (blocks_of_worker n v (k + 1) us)) (sym one) ∙ rest ∙ ap (fed_to block n r d.gauge v) sum
 
   -- the blocks from the k-th on
-  pub dealt_names : (v k a b : ℕ) (us : List FilledValue) → AreBlocks d a us b → a ≡ at k → b ≡ to
-      → fed_to block n r d.gauge v k ++ names_of (dealt n v k us) ≡ fed_to block n r d.gauge v (k + length us)
-  dealt_names v k a b [] none e f = let same : k ≡ k + 0 = omega arith in
+  pub blocks_of_worker_names : (v k a b : ℕ) (us : List FilledValue) → AreBlocks d a us b → a ≡ at k → b ≡ to
+      → fed_to block n r d.gauge v k ++ names_of (blocks_of_worker n v k us) ≡ fed_to block n r d.gauge v (k + length us)
+  blocks_of_worker_names v k a b [] none e f = let same : k ≡ k + 0 = omega arith in
       append-nil (fed_to block n r d.gauge v k) ∙ ap (fed_to block n r d.gauge v) same
-  dealt_names v k a b (u ∷ []) (last i) e f =
+  blocks_of_worker_names v k a b (u ∷ []) (last i) e f =
       let j : IsUnit d (at k) to u = subst (λ x. IsUnit d (at k) x u) f (subst (λ x. IsUnit d x b u) e i) in
       let one = fed_one v k to u j (let s = j.short in omega (arith, s, is)) j.some in
       let same : suc k ≡ suc k + 0 = omega arith in
       step v k u [] one (append-nil (fed_to block n r d.gauge v (suc k)) ∙ ap (fed_to block n r d.gauge v) same)
-  dealt_names v k a b (u ∷ us) (more i h) e f =
+  blocks_of_worker_names v k a b (u ∷ us) (more i h) e f =
       let up : a + d.block ≤ b = blocks_ascend d (a + d.block) b us h in
       let next : a + d.block ≡ at (suc k) = let s : suc k * block ≡ block + k * block = omega arith in omega (arith, e, s, is) in
       let j : IsUnit d (at k) (a + d.block) u = subst (λ x. IsUnit d x (a + d.block) u) e i in
       let one = fed_one v k (a + d.block) u j (omega (arith, e, f, up, is)) (let s = i.some in omega (arith, e, f, s, up)) in
       let plus : suc k ≡ k + 1 = omega arith in
-      step v k u us one (ap (λ j. fed_to block n r d.gauge v (suc k) ++ names_of (dealt n v j us)) (sym plus)
-      ∙ dealt_names v (suc k) (a + d.block) b us h next f)
+      step v k u us one (ap (λ j. fed_to block n r d.gauge v (suc k) ++ names_of (blocks_of_worker n v j us)) (sym plus)
+      ∙ blocks_of_worker_names v (suc k) (a + d.block) b us h next f)

@@ -10,7 +10,7 @@ use Rattle.deposits.specs.Deposited.{Each, UnitStands, unit_names}
 use Rattle.deposits.specs.Deposited.Each.{none as no_unit, both}
 use Rattle.arrivals.specs.Arrivals.{names_of}
 use Rattle.block_workers.specs.declared.desk.Desk.{Desk}
-use Rattle.block_workers.specs.Dealing.{dealt}
+use Rattle.block_workers.specs.Dealing.{blocks_of_worker}
 use Rattle.block_workers.specs.Reading.{IsUnit, AreBlocks, samples_of}
 use Rattle.block_workers.specs.Reading.AreBlocks.{none, last, more}
 use Rattle.block_workers.specs.Working.{AreCounts}
@@ -53,9 +53,9 @@ each_cond : {A : Type 0} {P : A → Type 0} → (b : Bool) (x : A) (l : List A) 
 each_cond true x l p d = both p d
 each_cond false x l p d = d
 
-pub each_dealt : {P : FilledValue → Type 0} → (n v k : ℕ) (us : List FilledValue) → Each P us → Each P (dealt n v k us)
+pub each_dealt : {P : FilledValue → Type 0} → (n v k : ℕ) (us : List FilledValue) → Each P us → Each P (blocks_of_worker n v k us)
 each_dealt n v k [] no_unit = no_unit
-each_dealt n v k (u ∷ us) (both p d) = each_cond (eqb (k % n) v) u (dealt n v (k + 1) us) p (each_dealt n v (k + 1) us d)
+each_dealt n v k (u ∷ us) (both p d) = each_cond (eqb (k % n) v) u (blocks_of_worker n v (k + 1) us) p (each_dealt n v (k + 1) us d)
 
 -- what was counted of a unit stands for the samples of its gauge that its name names
 pub count_stands : (gain : ℕ → GainValue) (w : ℕ → List ℤ) (f : FilledValue) (c : CountedValue) → IsCountOf f c → FromLanes gain w f

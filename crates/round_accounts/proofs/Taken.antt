@@ -14,17 +14,17 @@ use Rattle.board.specs.Board.{IsBlockOf}
 use Rattle.board.proofs.Counts.{over_only}
 use Rattle.deposits.specs.Deposited.{Each, unit_name, unit_names, UnitStands}
 use Rattle.deposits.specs.Deposited.Each.{none as no_unit, both}
-use Rattle.deposits.specs.Mixed.{Mixed}
+use Rattle.deposits.specs.Mixed.{IsMixOf}
 use Rattle.deposits.proofs.Mixing.{mixed_map, mixed_hits, mixed_long, mixed_each}
 use Rattle.arrivals.specs.Arrivals.{names_of}
 use Rattle.block_workers.specs.declared.desk.Desk.{Desk}
-use Rattle.block_workers.specs.Dealing.{dealt}
+use Rattle.block_workers.specs.Dealing.{blocks_of_worker}
 use Rattle.block_workers.specs.Reading.{IsUnit, AreBlocks, samples_of}
 use Rattle.block_workers.specs.Reading.AreBlocks.{none, last, more}
 use Rattle.block_workers.specs.Working.{AreCounts}
 use Rattle.block_workers.proofs.Drains.{counts_long}
-use Rattle.block_workers.proofs.Accounts.{dealt_once, blocks_once}
-use Rattle.round_accounts.proofs.Lists.{over_swap, in_turn, turn_long, turn_each, turn_names, turn_hits, dealt_long}
+use Rattle.block_workers.proofs.Accounts.{blocks_of_worker_once, blocks_once}
+use Rattle.round_accounts.proofs.Lists.{over_swap, in_turn, turn_long, turn_each, turn_names, turn_hits, blocks_of_worker_long}
 use Rattle.round_accounts.proofs.Standing.{FromLanes, from_lane, each_dealt, count_stands, each_count, counts_names}
 
 -- what each lane gave and each worker counted, and a mix of the counts
@@ -36,8 +36,8 @@ pub record AreTaken (block : ℕ) (kind : GridValue) (n workers : ℕ) (at to : 
   pub grid : (g : ℕ) → g < n → (desk g).grid ≡ kind
   pub few : (g : ℕ) → g < n → length (given g) ≤ 16
   pub blocks : (g : ℕ) → g < n → AreBlocks (desk g) (at g) (given g) (to g)
-  pub counts : (v : ℕ) → v < workers → AreCounts (in_turn n (λ g. dealt workers v 0 (given g))) (lists v)
-  pub mixed : Mixed workers lists units
+  pub counts : (v : ℕ) → v < workers → AreCounts (in_turn n (λ g. blocks_of_worker workers v 0 (given g))) (lists v)
+  pub mixed : IsMixOf workers lists units
 
 pub each_map : {A : Type 0} {P Q : A → Type 0} → (l : List A) → ((x : A) → P x → Q x) → Each P l → Each Q l
 each_map [] f no_unit = no_unit
@@ -107,8 +107,8 @@ module _ (block : ℕ) (kind : GridValue) (n workers : ℕ) (at to : ℕ → ℕ
   pub each_taken : {P : FilledValue → Type 0} {Q : CountedValue → Type 0}
       → ((f : FilledValue) (c : CountedValue) → IsCountOf f c → P f → Q c) → ((g : ℕ) → g < n → Each P (given g)) → Each Q units
   each_taken k all = mixed_each workers lists units h.mixed
-      (λ v l. each_count (in_turn n (λ g. dealt workers v 0 (given g))) (lists v) k (h.counts v l)
-      (turn_each n (λ g. dealt workers v 0 (given g)) (λ g m. each_dealt workers v 0 (given g) (all g m))))
+      (λ v l. each_count (in_turn n (λ g. blocks_of_worker workers v 0 (given g))) (lists v) k (h.counts v l)
+      (turn_each n (λ g. blocks_of_worker workers v 0 (given g)) (λ g m. each_dealt workers v 0 (given g) (all g m))))
 
   pub each_block : (g : ℕ) → g < n → Each (IsBlockAt block n (at g) (desk g)) (given g)
   each_block g l =
@@ -119,28 +119,30 @@ module _ (block : ℕ) (kind : GridValue) (n workers : ℕ) (at to : ℕ → ℕ
   pub taken_long : length units ≡ over n (λ g. length (given g))
   taken_long =
       mixed_long workers lists units h.mixed
-      ∙ over_same workers (λ v. length (lists v)) (λ v. over n (λ g. length (dealt workers v 0 (given g))))
-      (λ v l. counts_long (in_turn n (λ g. dealt workers v 0 (given g))) (lists v) (h.counts v l)
-      ∙ turn_long n (λ g. dealt workers v 0 (given g)))
-      ∙ over_swap workers n (λ v g. length (dealt workers v 0 (given g)))
-      ∙ over_same n (λ g. over workers (λ v. length (dealt workers v 0 (given g)))) (λ g. length (given g))
-      (λ g l. dealt_long workers 0 (given g) h.some.1)
+      ∙ over_same workers (λ v. length (lists v)) (λ v. over n (λ g. length (blocks_of_worker workers v 0 (given g))))
+      (λ v l. counts_long (in_turn n (λ g. blocks_of_worker workers v 0 (given g))) (lists v) (h.counts v l)
+      ∙ turn_long n (λ g. blocks_of_worker workers v 0 (given g)))
+      ∙ over_swap workers n (λ v g. length (blocks_of_worker workers v 0 (given g)))
+      ∙ over_same n (λ g. over workers (λ v. length (blocks_of_worker workers v 0 (given g)))) (λ g. length (given g))
+      (λ g l. blocks_of_worker_long workers 0 (given g) h.some.1)
 
-  pub list_names : (v : ℕ) → v < workers → unit_names (lists v) ≡ in_turn n (λ g. names_of (dealt workers v 0 (given g)))
-  list_names v l = counts_names (in_turn n (λ g. dealt workers v 0 (given g))) (lists v) (h.counts v l)
-      ∙ turn_names n (λ g. dealt workers v 0 (given g))
+  pub list_names : (v : ℕ) → v < workers → unit_names (lists v) ≡ in_turn n (λ g. names_of (blocks_of_worker workers v 0 (given g)))
+  list_names v l = counts_names (in_turn n (λ g. blocks_of_worker workers v 0 (given g))) (lists v) (h.counts v l)
+      ∙ turn_names n (λ g. blocks_of_worker workers v 0 (given g))
 
-  pub mixed_names : Mixed workers (λ v. unit_names (lists v)) (unit_names units)
+  pub mixed_names : IsMixOf workers (λ v. unit_names (lists v)) (unit_names units)
   mixed_names = mixed_map unit_name workers lists units h.mixed
 
   taken_hits : (g i : ℕ) → hits g i (unit_names units) ≡ over n (λ k. hits g i (names_of (given k)))
   taken_hits g i =
       mixed_hits workers g i (λ v. unit_names (lists v)) (unit_names units) mixed_names
-      ∙ over_same workers (λ v. hits g i (unit_names (lists v))) (λ v. over n (λ k. hits g i (names_of (dealt workers v 0 (given k)))))
-      (λ v l. ap (hits g i) (list_names v l) ∙ turn_hits g i n (λ k. names_of (dealt workers v 0 (given k))))
-      ∙ over_swap workers n (λ v k. hits g i (names_of (dealt workers v 0 (given k))))
-      ∙ over_same n (λ k. over workers (λ v. hits g i (names_of (dealt workers v 0 (given k))))) (λ k. hits g i (names_of (given k)))
-      (λ k l. dealt_once g i workers 0 (given k) h.some.1)
+      ∙ over_same workers (λ v. hits g i (unit_names (lists v)))
+      (λ v. over n (λ k. hits g i (names_of (blocks_of_worker workers v 0 (given k)))))
+      (λ v l. ap (hits g i) (list_names v l) ∙ turn_hits g i n (λ k. names_of (blocks_of_worker workers v 0 (given k))))
+      ∙ over_swap workers n (λ v k. hits g i (names_of (blocks_of_worker workers v 0 (given k))))
+      ∙ over_same n (λ k. over workers (λ v. hits g i (names_of (blocks_of_worker workers v 0 (given k)))))
+      (λ k. hits g i (names_of (given k)))
+      (λ k l. blocks_of_worker_once g i workers 0 (given k) h.some.1)
 
   others_hits : (g i k : ℕ) → k < n → k ≢ g → hits g i (names_of (given k)) ≡ 0
   others_hits g i k l o = hits_other g i (names_of (given k))

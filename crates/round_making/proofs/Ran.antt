@@ -7,7 +7,7 @@ use Rattle.std.specs.declared.vec.Vec.{Vec}
 use Rattle.std.specs.declared.alloc.Global.{Global}
 use Rattle.calibration.specs.Grid.{GridValue}
 use Rattle.std.proofs.lemmas.List.{append-nil, get_or_default}
-use Rattle.outside.specs.Fault.{Rose}
+use Rattle.outside.specs.Fault.{CountRose}
 use Rattle.recording.specs.Samples.{samples}
 use Rattle.lane_ends.specs.declared.end.End.TheVariants.{More, ReadFault}
 use Rattle.lane_ends.specs.Ends.{Gives}
@@ -20,7 +20,7 @@ use Rattle.block_workers.specs.declared.item.Item.{Item}
 use Rattle.block_workers.specs.declared.desk.Desk.{Desk}
 use Rattle.block_workers.specs.declared.jobs.Reader.{Reader}
 use Rattle.block_workers.specs.declared.worker.Worker.{Worker}
-use Rattle.block_workers.specs.Dealing.{round_of, dealt}
+use Rattle.block_workers.specs.Dealing.{round_of, blocks_of_worker}
 use Rattle.block_workers.specs.Reading.{AreBlocks, samples_of, ReadDone, SameDesk}
 use Rattle.block_workers.specs.Reading.AreBlocks.{none}
 use Rattle.block_workers.specs.Working.{AreCounts, all_new, new_blocks, return_round}
@@ -30,7 +30,7 @@ use Rattle.gauge_ring.proofs.Ends.{same_feeders, same_takers, still_one}
 use Rattle.collector.specs.declared.collecting.Return.{Return}
 use Rattle.collector.specs.Settling.{SameFeeding, ReturnAt}
 use Rattle.lane_loans.specs.declared.lane.Lane.{Lane}
-use Rattle.lane_loans.specs.Lent.{Lent}
+use Rattle.lane_loans.specs.Lent.{LendsSource}
 use Rattle.round_accounts.proofs.Lists.{in_turn}
 use Rattle.lane_loans.proofs.Walking.{some_of}
 
@@ -56,11 +56,11 @@ module _ {C : Type 0} where
     pub limit : r3.desk.at ≤ MAX_SAMPLES
     pub gives : l0.end ≡ More → tells → Gives (BLOCKS_PER_WINDOW * r0.desk.block) (MAX_SAMPLES - l0.at) (left before) (r3.desk.at - l0.at)
         r3.desk.end (left now)
-    pub cause : l0.end ≡ More → r3.desk.end ≡ ReadFault → Rose (faults before) (faults now)
+    pub cause : l0.end ≡ More → r3.desk.end ≡ ReadFault → CountRose (faults before) (faults now)
     pub later : faults before ≤ faults now
     pub ended : l0.end ≢ More → (r3.desk.at ≡ l0.at) × (r3.desk.end ≡ l0.end) × (now ≡ before)
     pub fed : (v : ℕ) (d : Feeder Item) → v < workers
-        → fed (get_or r3.desk.feeders.items v d) ≡ fed (get_or r0.desk.feeders.items v d) ++ round_of (dealt workers v 0 units)
+        → fed (get_or r3.desk.feeders.items v d) ≡ fed (get_or r0.desk.feeders.items v d) ++ round_of (blocks_of_worker workers v 0 units)
     pub ends : (v : ℕ) (d : Feeder Item) → v < workers → IsSameFeeder (get_or r0.desk.feeders.items v d) (get_or r3.desk.feeders.items v d)
     pub blanks : vec_len r3.desk.blanks + length units ≡ BLOCKS_PER_WINDOW
     pub fit : All (IsBlank r0.desk.block r0.desk.grid) r3.desk.blanks.items
@@ -83,17 +83,17 @@ module _ {C : Type 0} where
   ]
 
   -- from a resting reader to the end of its job
-  pub ends_so_far : (workers : ℕ) (r0 r1 r2 : Reader C) (l0 l1 : Lane C) → Lent r0 r1 l0 l1 → JobKeeps workers r1 r2
+  pub ends_so_far : (workers : ℕ) (r0 r1 r2 : Reader C) (l0 l1 : Lane C) → LendsSource r0 r1 l0 l1 → JobKeeps workers r1 r2
       → (v : ℕ) (d : Feeder Item) → v < workers → IsSameFeeder (get_or r0.desk.feeders.items v d) (get_or r2.desk.feeders.items v d)
   ends_so_far workers r0 r1 r2 l0 l1 lent keeps v d m =
       subst (λ (fs : Vec (Feeder Item) Global). IsSameFeeder (get_or fs.items v d) (get_or r2.desk.feeders.items v d)) lent.feeders
       (keeps.ends v d m)
 
   ran_on : (tells : Type 0) (left : C → List ℕ) (faults : C → ℕ) (workers : ℕ) (r0 r1 r2 r3 : Reader C) (l0 l1 : Lane C)
-      → vec_len r0.desk.feeders ≡ workers → BLOCKS_PER_WINDOW ≤ vec_capacity r0.desk.blanks → Lent r0 r1 l0 l1
+      → vec_len r0.desk.feeders ≡ workers → BLOCKS_PER_WINDOW ≤ vec_capacity r0.desk.blanks → LendsSource r0 r1 l0 l1
       → (job : ReadJob tells left faults r1 r2) → SameRead r2 r3 → JobKeeps workers r1 r2
       → l0.end ≡ More → ReadDone tells (left job.before) (left job.now) r1.desk r2.desk
-      → (r2.desk.end ≡ ReadFault → Rose (faults job.before) (faults job.now)) → LaneRan tells left faults workers r0 r3 l0
+      → (r2.desk.end ≡ ReadFault → CountRose (faults job.before) (faults job.now)) → LaneRan tells left faults workers r0 r3 l0
   ran_on tells left faults workers r0 r1 r2 r3 l0 l1 wide room lent job same keeps q rd cause =
       let b = job.before in let n = job.now in
       let here : vec_len r1.desk.feeders ≡ workers = ap (λ (fs : Vec (Feeder Item) Global). vec_len fs) lent.feeders ∙ wide in
@@ -125,8 +125,9 @@ module _ {C : Type 0} where
         later = job.later;
         ended = λ o. absurd (o q);
         fed = λ v d m. same.fed v d ∙ rd.fed v d (omega (arith, m, here))
-            ∙ ap (λ k. fed (get_or r1.desk.feeders.items v d) ++ round_of (dealt k v 0 rd.units)) here
-            ∙ ap (λ (fs : Vec (Feeder Item) Global). fed (get_or fs.items v d) ++ round_of (dealt workers v 0 rd.units)) lent.feeders;
+            ∙ ap (λ k. fed (get_or r1.desk.feeders.items v d) ++ round_of (blocks_of_worker k v 0 rd.units)) here
+            ∙ ap (λ (fs : Vec (Feeder Item) Global). fed (get_or fs.items v d)
+            ++ round_of (blocks_of_worker workers v 0 rd.units)) lent.feeders;
         ends = λ v d m. same_feeders (get_or r0.desk.feeders.items v d) (get_or r2.desk.feeders.items v d)
             (get_or r3.desk.feeders.items v d) (ends_so_far workers r0 r1 r2 l0 l1 lent keeps v d m) (same.ends v d);
         blanks = let e = rd.blanks in let f = lent.blanks in
@@ -144,7 +145,7 @@ module _ {C : Type 0} where
       }
 
   ran_over : (tells : Type 0) (left : C → List ℕ) (faults : C → ℕ) (workers : ℕ) (r0 r1 r2 r3 : Reader C) (l0 l1 : Lane C)
-      → vec_len r0.desk.feeders ≡ workers → BLOCKS_PER_WINDOW ≤ vec_capacity r0.desk.blanks → l0.at ≤ MAX_SAMPLES → Lent r0 r1 l0 l1
+      → vec_len r0.desk.feeders ≡ workers → BLOCKS_PER_WINDOW ≤ vec_capacity r0.desk.blanks → l0.at ≤ MAX_SAMPLES → LendsSource r0 r1 l0 l1
       → CanRead r1 → (job : ReadJob tells left faults r1 r2) → SameRead r2 r3 → JobKeeps workers r1 r2
       → l0.end ≢ More → NotRead r1.desk r2.desk → job.now ≡ job.before → LaneRan tells left faults workers r0 r3 l0
   ran_over tells left faults workers r0 r1 r2 r3 l0 l1 wide room limit lent can job same keeps o nr still =
@@ -189,7 +190,7 @@ module _ {C : Type 0} where
       }
 
   pub lane_ran : (tells : Type 0) (left : C → List ℕ) (faults : C → ℕ) (workers : ℕ) (r0 r1 r2 r3 : Reader C) (l0 l1 : Lane C)
-      → vec_len r0.desk.feeders ≡ workers → BLOCKS_PER_WINDOW ≤ vec_capacity r0.desk.blanks → l0.at ≤ MAX_SAMPLES → Lent r0 r1 l0 l1
+      → vec_len r0.desk.feeders ≡ workers → BLOCKS_PER_WINDOW ≤ vec_capacity r0.desk.blanks → l0.at ≤ MAX_SAMPLES → LendsSource r0 r1 l0 l1
       → CanRead r1 → ReadJob tells left faults r1 r2 → SameRead r2 r3 → LaneRan tells left faults workers r0 r3 l0
   lane_ran tells left faults workers r0 r1 r2 r3 l0 l1 wide room limit lent can job same =
       let here : vec_len r1.desk.feeders ≡ workers = ap (λ (fs : Vec (Feeder Item) Global). vec_len fs) lent.feeders ∙ wide in
@@ -203,7 +204,7 @@ module _ {C : Type 0} where
 
   -- the ends of a ring until the jobs are done
   pub ring_so_far : (tells : Type 0) (left : C → List ℕ) (faults : C → ℕ) (workers g v : ℕ) (r0 r1 r2 : Reader C) (l0 l1 : Lane C)
-      (w0 w1 : Worker) → v < workers → g < vec_len w0.takers → vec_len r0.desk.feeders ≡ workers → Lent r0 r1 l0 l1
+      (w0 w1 : Worker) → v < workers → g < vec_len w0.takers → vec_len r0.desk.feeders ≡ workers → LendsSource r0 r1 l0 l1
       → ReadJob tells left faults r1 r2 → WorkJob w0 w1 → RingAt w0 r0 g v → RingAt w1 r2 g v
   ring_so_far tells left faults workers g v r0 r1 r2 l0 l1 w0 w1 m h wide lent job work ring =
       let here : vec_len r1.desk.feeders ≡ workers = ap (λ (fs : Vec (Feeder Item) Global). vec_len fs) lent.feeders ∙ wide in
@@ -216,7 +217,7 @@ module _ {C : Type 0} where
       }
 
   pub feeders_so_far : (tells : Type 0) (left : C → List ℕ) (faults : C → ℕ) (workers : ℕ) (r0 r1 r2 : Reader C) (l0 l1 : Lane C)
-      → vec_len r0.desk.feeders ≡ workers → Lent r0 r1 l0 l1 → ReadJob tells left faults r1 r2 → vec_len r2.desk.feeders ≡ workers
+      → vec_len r0.desk.feeders ≡ workers → LendsSource r0 r1 l0 l1 → ReadJob tells left faults r1 r2 → vec_len r2.desk.feeders ≡ workers
   feeders_so_far tells left faults workers r0 r1 r2 l0 l1 wide lent job =
       let here : vec_len r1.desk.feeders ≡ workers = ap (λ (fs : Vec (Feeder Item) Global). vec_len fs) lent.feeders ∙ wide in
       (job_keeps tells left faults workers r1 r2 here job).same.feeders ∙ here

@@ -16,25 +16,25 @@ use Rattle.flow.specs.Flow.{hits}
 use Rattle.flow.specs.Kept.{over, between}
 use Rattle.flow.proofs.Counting.{over_same, over_sum, hits_other, every_map}
 use Rattle.block_pool.specs.Units.{FilledValue, PoolValue, IsBlank}
-use Rattle.board.specs.Board.{BoardValue, IsBegun, IsBlockOf, start_of, IsFront, Carries}
+use Rattle.board.specs.Board.{BoardValue, IsBegun, IsBlockOf, start_of, IsFront, CarriesSamples}
 use Rattle.board.proofs.Counts.{over_most}
-use Rattle.deposits.specs.Deposited.{unit_name, unit_names, IsGood, SamePool, Came}
-use Rattle.deposits.specs.Mixed.{Mixed}
+use Rattle.deposits.specs.Deposited.{unit_name, unit_names, IsGood, SamePool, UnitsArePlaced}
+use Rattle.deposits.specs.Mixed.{IsMixOf}
 use Rattle.deposits.proofs.Going.{good_at_first}
 use Rattle.block_workers.specs.declared.item.Item.{Item}
 use Rattle.block_workers.specs.declared.desk.Desk.{Desk}
 use Rattle.block_workers.specs.declared.jobs.Reader.{Reader}
 use Rattle.block_workers.specs.declared.worker.Worker.{Worker}
-use Rattle.block_workers.specs.Dealing.{round_of, dealt}
+use Rattle.block_workers.specs.Dealing.{round_of, blocks_of_worker}
 use Rattle.block_workers.specs.Reading.{AreBlocks, samples_of}
 use Rattle.block_workers.specs.Working.{AreCounts, return_round}
 use Rattle.block_workers.specs.Jobs.{CanRead, ReadJob, SameRead, WorkJob, SameWork, Fifo}
 use Rattle.block_workers.proofs.Accounts.{even_round, even_return, blocks_ascend}
 use Rattle.collector.specs.declared.collecting.Return.{Return}
-use Rattle.collector.specs.Collecting.{Collected}
-use Rattle.collector.specs.Settling.{SameFeeding, Opened, BackFifo}
+use Rattle.collector.specs.Collecting.{IsCollected}
+use Rattle.collector.specs.Settling.{SameFeeding, IsStillAwaited, BackFifo}
 use Rattle.lane_loans.specs.declared.lane.Lane.{Lane}
-use Rattle.lane_loans.specs.Lent.{Lent, blanks_at, Returned}
+use Rattle.lane_loans.specs.Lent.{LendsSource, blanks_at, ReturnsSource}
 use Rattle.round_making.specs.Resting.{PreparedValue, IsResting, RestingReader, RestingWorker, RestingReturn, IsEven, value_of, rings_of}
 use Rattle.lane_loans.specs.Lent.{CanRound, at_of}
 use Rattle.round_making.specs.Round.{LaneDone, FrontDone, RingDone, RoundDone, flow_of}
@@ -105,11 +105,12 @@ pub record Settled {C : Type 0} (tells : Type 0) (left : C → List ℕ) (faults
   pub lanes : (g : ℕ) (d : Lane C) → g < length ls0 → CanRound g (get_or ls0 g d)
   pub plan : (b1.grid ≡ b0.grid) × (b1.block ≡ b0.block) × (length b1.rows ≡ length b0.rows)
   pub begun : IsBegun b1 (at_of ls0)
-  pub lent : (g : ℕ) (d : Reader C) (e : Lane C) → g < length rs0 → Lent (get_or rs0 g d) (get_or rs1 g d) (get_or ls0 g e) (get_or ls1 g e)
+  pub lent : (g : ℕ) (d : Reader C) (e : Lane C) → g < length rs0 →
+      LendsSource (get_or rs0 g d) (get_or rs1 g d) (get_or ls0 g e) (get_or ls1 g e)
   pub lent_long : (length rs1 ≡ length rs0) × (length ls1 ≡ length ls0)
   pub ready : (g : ℕ) (d : Reader C) → g < length rs1 → CanRead (get_or rs1 g d)
   pub lent_pool : SamePool p0 p1 × (p1.inside ≡ 0)
-  pub collected : Collected b1 b2 p1 p2 bs0 bs1
+  pub collected : IsCollected b1 b2 p1 p2 bs0 bs1
   pub read : (g : ℕ) (d : Reader C) → g < length rs1 → ReadJob tells left faults (get_or rs1 g d) (get_or rs2 g d)
   pub worked : (v : ℕ) (d : Worker) → v < length ws0 → WorkJob (get_or ws0 v d) (get_or ws1 v d)
   pub ran_long : (length rs2 ≡ length rs1) × (length ws1 ≡ length ws0)
@@ -117,7 +118,7 @@ pub record Settled {C : Type 0} (tells : Type 0) (left : C → List ℕ) (faults
   pub still_read : (g : ℕ) (d : Reader C) → SameRead (get_or rs2 g d) (get_or rs3 g d)
   pub fifo : (v g : ℕ) (d : Worker) (e : Reader C) → v < length ws1 → g < length rs2 → Fifo (get_or ws1 v d) (get_or rs2 g e) g v
   pub still_long : (length rs3 ≡ length rs2) × (length ws2 ≡ length ws1)
-  pub opened : (v : ℕ) (d : Return) → v < length bs1 → Opened (get_or bs1 v d) (get_or bs2 v d)
+  pub opened : (v : ℕ) (d : Return) → v < length bs1 → IsStillAwaited (get_or bs1 v d) (get_or bs2 v d)
   pub fed_back : (v : ℕ) (d : Worker) → v < length ws2 → SameFeeding (get_or ws2 v d) (get_or ws3 v d)
   pub back_fifo : (v : ℕ) (d : Worker) (e : Return) → v < length ws2 → BackFifo (get_or ws2 v d) (get_or bs1 v e)
   pub back_long : (length bs2 ≡ length bs1) × (length ws3 ≡ length ws2)
@@ -185,7 +186,7 @@ module _ {C : Type 0} (tells : Type 0) (left : C → List ℕ) (faults : C → �
 
   -- a ring after the round
   pub ring_even : (v g : ℕ) (m : v < workers) (h : g < n) (d : Taker Item) (e : Feeder Item)
-      → ((worker_at v m).blocks g ≡ dealt workers v 0 (given g))
+      → ((worker_at v m).blocks g ≡ blocks_of_worker workers v 0 (given g))
       × (fed (get_or (get_or rs3 g r).desk.feeders.items v e) ≡ taken (get_or (get_or ws3 v w).takers.items g d))
   ring_even v g m h d e =
       let q = lane g h in
@@ -197,8 +198,8 @@ module _ {C : Type 0} (tells : Type 0) (left : C → List ℕ) (faults : C → �
       ap (λ (x : Vec (Taker Item) Global). taken (get_or x.items g d))
       (s.fed_back v w (omega (arith, m, s.ran_long.1, s.still_long.1))).takers ∙ (s.still_work v w).taken g d in
       even_round f0 (fed (get_or (get_or rs3 g r).desk.feeders.items v e)) (taken (get_or (get_or ws3 v w).takers.items g d)) line.left
-      (dealt workers v 0 (given g)) (wr.blocks g)
-      (q.run.fed v e m ∙ ap (λ us. f0 ++ round_of (dealt workers v 0 us)) (sym q.is.1))
+      (blocks_of_worker workers v 0 (given g)) (wr.blocks g)
+      (q.run.fed v e m ∙ ap (λ us. f0 ++ round_of (blocks_of_worker workers v 0 us)) (sym q.is.1))
       (wr.took g d (let x = wide v m in omega (arith, h, x)) ∙ ap (λ x. x ++ round_of (wr.blocks g)) (sym start))
       ((s.still_read g r).fed v e ∙ line.fifo d e ∙ ap (λ x. x ++ line.left) (sym back))
 
@@ -217,13 +218,13 @@ module _ {C : Type 0} (tells : Type 0) (left : C → List ℕ) (faults : C → �
       ((s.fed_back v w few).fed ∙ line.fifo)
 
   counts_at : (v : ℕ) (m : v < workers) (d : Taker Item) (e : Feeder Item)
-      → AreCounts (in_turn n (λ g. dealt workers v 0 (given g))) (s.collected.lists v)
+      → AreCounts (in_turn n (λ g. blocks_of_worker workers v 0 (given g))) (s.collected.lists v)
   counts_at v m d e =
       let wr = worker_at v m in
-      let all : in_turn (vec_len (get_or ws0 v w).takers) wr.blocks ≡ in_turn n (λ g. dealt workers v 0 (given g)) =
+      let all : in_turn (vec_len (get_or ws0 v w).takers) wr.blocks ≡ in_turn n (λ g. blocks_of_worker workers v 0 (given g)) =
       ap (λ j. in_turn j wr.blocks) (wide v m)
-      ∙ turn_same n wr.blocks (λ g. dealt workers v 0 (given g)) (λ g h. (ring_even v g m h d e).0) in
-      subst (AreCounts (in_turn n (λ g. dealt workers v 0 (given g)))) (sym (back_even v m).0)
+      ∙ turn_same n wr.blocks (λ g. blocks_of_worker workers v 0 (given g)) (λ g h. (ring_even v g m h d e).0) in
+      subst (AreCounts (in_turn n (λ g. blocks_of_worker workers v 0 (given g)))) (sym (back_even v m).0)
       (subst (λ fs. AreCounts fs wr.units) all wr.counts)
 
   -- ends of rings for places beyond the lists
@@ -251,7 +252,7 @@ module _ {C : Type 0} (tells : Type 0) (left : C → List ℕ) (faults : C → �
         (subst (λ d. AreBlocks d (get_or ls0 g l).at (given g) (to g)) (sym q.is.0)
         (subst (λ us. AreBlocks q.run.desk (get_or ls0 g l).at us (to g)) (sym q.is.1) q.run.blocks)));
     counts = λ v m. counts_at v m (some_taker v m) (some_feeder 0 (omega (arith, s.resting.gauges_few.0)));
-    mixed = subst (λ j. Mixed j s.collected.lists s.collected.units) s.resting.returns_long s.collected.mixed;
+    mixed = subst (λ j. IsMixOf j s.collected.lists s.collected.units) s.resting.returns_long s.collected.mixed;
   }
 
   once_by : (g i : ℕ) → ((g < n) ⊎ (n ≤ g)) → hits g i (unit_names s.collected.units) ≤ 1
@@ -283,7 +284,7 @@ module _ {C : Type 0} (tells : Type 0) (left : C → List ℕ) (faults : C → �
       over_most n BLOCKS_PER_WINDOW (λ g. length (given g)) (λ g m. are_taken.few g m) in
       omega (arith, s.lent_pool.1, units_long, most, s.lent_pool.0.units, s.resting.pool.0))
 
-  pub came : Came b1 b2 p1 p2 s.collected.units
+  pub came : UnitsArePlaced b1 b2 p1 p2 s.collected.units
   came = s.collected.deposited.came good
 
   blanks_here : (g : ℕ) → g < n → blanks_at rs3 g + length (given g) ≡ BLOCKS_PER_WINDOW
@@ -324,7 +325,7 @@ module _ {C : Type 0} (tells : Type 0) (left : C → List ℕ) (faults : C → �
 
   -- the lanes have their sources back, and the pool its units
   module _ (p3 : PoolValue) (rs4 : List (Reader C)) (ls2 : List (Lane C)) (back : (g : ℕ) (d : Reader C) (e : Lane C) → g < length rs3
-      → Returned (get_or rs3 g d) (get_or rs4 g d) (get_or ls1 g e) (get_or ls2 g e))
+      → ReturnsSource (get_or rs3 g d) (get_or rs4 g d) (get_or ls1 g e) (get_or ls2 g e))
       (back_lanes : (length rs4 ≡ length rs3) × (length ls2 ≡ length ls1))
       (back_pool : SamePool p2 p3 × (p3.inside ≡ p2.inside + over (length rs3) (blanks_at rs3))) where
     long3 : length rs3 ≡ n
@@ -345,7 +346,7 @@ module _ {C : Type 0} (tells : Type 0) (left : C → List ℕ) (faults : C → �
     units3 : p3.units ≡ p0.units
     units3 = back_pool.0.units ∙ s.collected.deposited.pool.units ∙ s.lent_pool.0.units
 
-    back_at : (g : ℕ) → g < n → Returned (get_or rs3 g r) (get_or rs4 g r) (get_or ls1 g l) (get_or ls2 g l)
+    back_at : (g : ℕ) → g < n → ReturnsSource (get_or rs3 g r) (get_or rs4 g r) (get_or ls1 g l) (get_or ls2 g l)
     back_at g m = back g r l (omega (arith, m, long3))
 
     rest_reader : (g : ℕ) → g < n → RestingReader p3 workers g (get_or rs4 g r)
@@ -452,7 +453,7 @@ module _ {C : Type 0} (tells : Type 0) (left : C → List ℕ) (faults : C → �
     abbrev heard : ℕ → List ℤ
     heard g = replicate (at_of ls0 g) (pos 0) ++ samples_of (given g)
 
-    carried : Carries b2 gain_of heard
+    carried : CarriesSamples b2 gain_of heard
     carried = came.carries gain_of heard (s.begun.carries gain_of heard)
         (taken_stand p0.block p0.grid n workers (at_of ls0) to desk given s.collected.lists s.collected.units are_taken gain_of heard
         (λ g m. (let q = lane g m in ap (λ (x : Desk). x.gain) q.is.0 ∙ q.run.desk_gain))
@@ -483,10 +484,10 @@ module _ {C : Type 0} (tells : Type 0) (left : C → List ℕ) (faults : C → �
         let wr = worker_at v m in let d = some_taker v m in let e = some_feeder g h in
         let few : g < vec_len (get_or ws0 v w).takers = let x = wide v m in omega (arith, h, x) in
         record {
-          units = dealt workers v 0 (given g);
+          units = blocks_of_worker workers v 0 (given g);
           ring = ring_value ws3 v g w d (omega (arith, m, wide3)) (let x = wr.takers in omega (arith, few, x)) ∙ wr.took g d few
               ∙ ap (λ x. taken (get_or (get_or ws0 v w).takers.items g d) ++ round_of x) (ring_even v g m h d e).0
-              ∙ ap (λ x. x ++ round_of (dealt workers v 0 (given g))) (sym (ring_value ws0 v g w d m few));
+              ∙ ap (λ x. x ++ round_of (blocks_of_worker workers v 0 (given g))) (sym (ring_value ws0 v g w d m few));
           names = ring_is_fed p0.block p0.grid n workers (at_of ls0) to desk given s.collected.lists s.collected.units are_taken flow
               (λ j x. refl) end_at g v h;
         }

@@ -5,7 +5,7 @@
 --   flow_of              the round of the flow that the law on arrivals speaks of
 --   RoundDone            all that a round does
 use Rattle.std.specs.Prelude.{◌≡◌, ◌≢◌, ◌+◌, ◌-◌, ◌*◌, ◌<◌, ◌≤◌, ◌++◌, ℕ, pos, List, [], length, take, replicate, Some, slice_index_or}
-use Rattle.outside.specs.Fault.{Rose}
+use Rattle.outside.specs.Fault.{CountRose}
 use Rattle.recording.specs.declared.TheConstants.{MAX_SAMPLES}
 use Rattle.flow.specs.declared.TheConstants.{BLOCKS_PER_WINDOW}
 use Rattle.recording.specs.Samples.{samples}
@@ -48,7 +48,7 @@ module _ {C : Type 0} where
     pub limit : new.at ≤ MAX_SAMPLES
     pub gives : old.end ≡ More → tells →
         Gives (BLOCKS_PER_WINDOW * block) (MAX_SAMPLES - old.at) (left before) (new.at - old.at) new.end (left now)
-    pub cause : old.end ≡ More → new.end ≡ ReadFault → Rose (faults before) (faults now)
+    pub cause : old.end ≡ More → new.end ≡ ReadFault → CountRose (faults before) (faults now)
     pub later : faults before ≤ faults now
     pub ended : old.end ≢ More → (new.at ≡ old.at) × (new.end ≡ old.end) × (now ≡ before)
 

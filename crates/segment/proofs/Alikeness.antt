@@ -2,10 +2,10 @@
 use Rattle.std.proofs.Common.{◌≡◌, ◌≢◌, ℕ, ◌+◌, ◌<◌, ◌≤◌, ◌⊎◌, inl, inr, refl, sym, ap, ◌∙◌, subst, arith}
 use Rattle.std.proofs.lemmas.Bool.{cases_eq, cases_lt}
 use Rattle.turning_points.specs.Points.{IsBetween, IsTurn, OnSide}
-use Rattle.turning_points.specs.EndPoints.{EndPoints, IsEnds, ends_prepend, meets}
+use Rattle.turning_points.specs.EndPoints.{EndPoints, IsEnds, ends_prepend, ends_of_both}
 use Rattle.turning_points.proofs.Put.{PutCase, at_none, at_equal, at_second, at_turn, at_passed, put_none, put_equal, put_second, put_turn, put_two, put_passed, put_first, put_side}
 use Rattle.turning_points.proofs.PutEnds.{case_of, put_ends}
-use Rattle.turning_points.proofs.MeetEnds.{Left, left_zero, left_one, left_two, left_long, left_of, meets_zero, meets_one, meets_two, meets_long, twice}
+use Rattle.turning_points.proofs.MeetEnds.{Left, left_zero, left_one, left_two, left_long, left_of, ends_of_both_zero, ends_of_both_one, ends_of_both_two, ends_of_both_long, twice}
 use Rattle.segment.specs.Alike.{Alike}
 use Rattle.segment.proofs.Deleted.{side_self, side_next}
 
@@ -220,13 +220,14 @@ module _ (K : ℕ) (e r f s : EndPoints) (ie : IsEnds K e) (ir : IsEnds K r) (jf
   ends_one : IsEnds K (ends_prepend r.last s)
   ends_one = put_ends K r.last s js ir.below.3
 
-  meet_zero : e.points ≡ 0 → Met e r f s (meets e f) (meets r s)
-  meet_zero n = let c = a.short (omega arith) in let l : r.points ≡ 0 = omega arith in met_to (meets_zero e f n) (meets_zero r s l)
+  meet_zero : e.points ≡ 0 → Met e r f s (ends_of_both e f) (ends_of_both r s)
+  meet_zero n = let c = a.short (omega arith) in let l : r.points ≡ 0 = omega arith in
+      met_to (ends_of_both_zero e f n) (ends_of_both_zero r s l)
       (record { alike = b; balance = omega arith })
 
-  meet_one : e.points ≡ 1 → Met e r f s (meets e f) (meets r s)
+  meet_one : e.points ≡ 1 → Met e r f s (ends_of_both e f) (ends_of_both r s)
   meet_one n = let c = a.short (omega arith) in let l : r.points ≡ 1 = omega arith in let o = one_put.balance in
-      met_to (meets_one e f n) (meets_one r s l) (record { alike = one_put.alike; balance = omega arith })
+      met_to (ends_of_both_one e f n) (ends_of_both_one r s l) (record { alike = one_put.alike; balance = omega arith })
 
   opens : 2 ≤ e.points → Opened (ends_prepend e.last f) (ends_prepend r.last s) (ends_prepend e.before (ends_prepend e.last f))
       (ends_prepend r.before (ends_prepend r.last s))
@@ -244,7 +245,7 @@ module _ (K : ℕ) (e r f s : EndPoints) (ie : IsEnds K e) (ir : IsEnds K r) (jf
   balances : (h k : EndPoints) → Opened (ends_prepend e.last f) (ends_prepend r.last s) h k → h.points + s.points ≡ f.points + k.points
   balances h k o = omega (arith, o.balance, one_put.balance)
 
-  meet_two : e.points ≡ 2 → Met e r f s (meets e f) (meets r s)
+  meet_two : e.points ≡ 2 → Met e r f s (ends_of_both e f) (ends_of_both r s)
   meet_two n =
       let c = a.short (omega arith) in
       let l : r.points ≡ 2 = omega arith in
@@ -253,17 +254,17 @@ module _ (K : ℕ) (e r f s : EndPoints) (ie : IsEnds K e) (ir : IsEnds K r) (jf
       let w = put_alike K (ends_prepend e.last f) (ends_prepend r.last s) i ends_one one_put.alike e.before in
       let o = one_put.balance in
       let v = w.balance in
-      met_to (meets_two e f n) (meets_two r s l ∙ ap (λ z. ends_prepend z (ends_prepend r.last s)) (sym m))
+      met_to (ends_of_both_two e f n) (ends_of_both_two r s l ∙ ap (λ z. ends_prepend z (ends_prepend r.last s)) (sym m))
       (record { alike = w.alike; balance = omega arith })
 
-  meet_long_long : 3 ≤ e.points → 3 ≤ r.points → Met e r f s (meets e f) (meets r s)
+  meet_long_long : 3 ≤ e.points → 3 ≤ r.points → Met e r f s (ends_of_both e f) (ends_of_both r s)
   meet_long_long n l =
       let o = opens (omega arith) in
       let t = twice K e f ie jf (omega arith) in
       let m = t.many in
       let y = o.many in
       let x = balances _ _ o in
-      met_to (meets_long e f n) (meets_long r s l) (record {
+      met_to (ends_of_both_long e f n) (ends_of_both_long r s l) (record {
         alike = record {
           short = λ z. let c = a.short (omega arith) in let d = o.short (omega arith) in omega arith;
           long = λ z. omega arith;
@@ -276,7 +277,7 @@ module _ (K : ℕ) (e r f s : EndPoints) (ie : IsEnds K e) (ir : IsEnds K r) (jf
         balance = omega arith;
       })
 
-  meet_long_two : 3 ≤ e.points → r.points ≡ 2 → Met e r f s (meets e f) (meets r s)
+  meet_long_two : 3 ≤ e.points → r.points ≡ 2 → Met e r f s (ends_of_both e f) (ends_of_both r s)
   meet_long_two n l =
       let o = opens (omega arith) in
       let t = twice K e f ie jf (omega arith) in
@@ -288,7 +289,7 @@ module _ (K : ℕ) (e r f s : EndPoints) (ie : IsEnds K e) (ir : IsEnds K r) (jf
       let h = ir.two l in
       let v : OnSide e.first r.second k.second = subst (λ w. OnSide w r.second k.second) (h.0 ∙ a.first)
       (subst (λ w. OnSide r.before w k.second) h.1 u.side) in
-      met_to (meets_long e f n) (meets_two r s l) (record {
+      met_to (ends_of_both_long e f n) (ends_of_both_two r s l) (record {
         alike = record {
           short = λ z. let c = a.short (omega arith) in absurd (omega arith);
           long = λ z. y;
@@ -301,16 +302,16 @@ module _ (K : ℕ) (e r f s : EndPoints) (ie : IsEnds K e) (ir : IsEnds K r) (jf
         balance = omega arith;
       })
 
-  meet_longer : 3 ≤ e.points → ((r.points < 3) ⊎ (3 ≤ r.points)) → Met e r f s (meets e f) (meets r s)
+  meet_longer : 3 ≤ e.points → ((r.points < 3) ⊎ (3 ≤ r.points)) → Met e r f s (ends_of_both e f) (ends_of_both r s)
   meet_longer n (inl m) = let c = a.long (omega arith) in let l : r.points ≡ 2 = omega arith in meet_long_two n l
   meet_longer n (inr m) = meet_long_long n m
 
-  meet_by : Left e.points → Met e r f s (meets e f) (meets r s)
+  meet_by : Left e.points → Met e r f s (ends_of_both e f) (ends_of_both r s)
   meet_by (left_zero h) = meet_zero h
   meet_by (left_one h) = meet_one h
   meet_by (left_two h) = meet_two h
   meet_by (left_long h) = meet_longer h (cases_lt r.points 3)
 
   -- points and residue lose equally many where two parts meet
-  pub meets_alike : Met e r f s (meets e f) (meets r s)
-  meets_alike = meet_by (left_of e.points)
+  pub ends_of_both_alike : Met e r f s (ends_of_both e f) (ends_of_both r s)
+  ends_of_both_alike = meet_by (left_of e.points)

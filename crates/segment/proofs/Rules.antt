@@ -6,10 +6,10 @@ use Rattle.std.proofs.Common.{◌≡◌, ℕ, zero, suc, ◌+◌, ◌-◌, ◌*�
 use Rattle.recording.specs.declared.TheConstants.{MAX_SAMPLES}
 use Rattle.calibration.specs.Grid.{GridValue, IsGrid}
 use Rattle.turning_points.specs.Points.{points}
-use Rattle.turning_points.specs.EndPoints.{IsEnds, ends_of, ends_push, meets, only_point}
+use Rattle.turning_points.specs.EndPoints.{IsEnds, ends_of, ends_push, ends_of_both, only_point}
 use Rattle.turning_points.proofs.Zigzag.{one as single}
-use Rattle.turning_points.proofs.MeetEnds.{meets_few}
-use Rattle.turning_points.proofs.PushEnds.{list_ends, meets_none, push_is_meets}
+use Rattle.turning_points.proofs.MeetEnds.{ends_of_both_few}
+use Rattle.turning_points.proofs.PushEnds.{list_ends, ends_of_both_none, push_is_meets}
 use Rattle.tally.specs.Counts.{Counts as Tallied, count_of, total_of}
 use Rattle.tally.specs.Room.{room_for}
 use Rattle.four_point.specs.Residue.{AddsCycles, IsResidue, ReducerValue}
@@ -85,7 +85,7 @@ taken_rules v y t q x z i h room long j b s qc tc rc xg xs xf xl xn zg ze zc =
     (omega (arith, b)) in
     let f = ze ∙ push_is_meets k y v.simple.ends e in
     let p = ap (λ n. n.points) f in
-    let a = meets_few k v.simple.ends (only_point y) e w in
+    let a = ends_of_both_few k v.simple.ends (only_point y) e w in
     let c = i.span in
     let d = i.longest in
     record {
@@ -101,7 +101,7 @@ taken_rules v y t q x z i h room long j b s qc tc rc xg xs xf xl xn zg ze zc =
       longest = (d.0, d.1, omega arith);
       readings = omega (arith, i.readings);
       used = omega (arith, i.used);
-      none = λ n. let m = meets_none k v.simple.ends (only_point y) e w (sym p ∙ n) in absurd (let u = m.1 in omega arith);
+      none = λ n. let m = ends_of_both_none k v.simple.ends (only_point y) e w (sym p ∙ n) in absurd (let u = m.1 in omega arith);
       balance = omega (arith, r.balance);
       crossed = λ l. omega (
         arith,
@@ -126,7 +126,7 @@ pub joined_rules : (v w : SegmentValue) (m t : Tallied) (q : ReducerValue) (x : 
     x.last ≡ (if w.crossings.some then w.crossings.last else v.crossings.last) →
     ((l : ℕ) → count_at x l ≡ count_at v.crossings l + count_at w.crossings l + between (v.crossings.some && w.crossings.some)
     v.crossings.reference l v.crossings.last w.crossings.first) →
-    (z.classes ≡ v.simple.classes) × (z.reference ≡ v.simple.reference) → z.ends ≡ meets v.simple.ends w.simple.ends → IsSimple z →
+    (z.classes ≡ v.simple.classes) × (z.reference ≡ v.simple.reference) → z.ends ≡ ends_of_both v.simple.ends w.simple.ends → IsSimple z →
     IsSegment (record {
       grid = v.grid;
       gauge = v.gauge;
@@ -154,7 +154,7 @@ joined_rules v w m t q x z i j n next long tt y b s qc tc rc xg xs xf xl xn zg z
     (residue_ends k w.reducer.residue (omega arith) h) i.alike j.alike i.residue.own j.residue.own i.balance j.balance y
     (omega (arith, b, tt)) in
     let p = ap (λ c. c.points) ze in
-    let a = meets_few k v.simple.ends w.simple.ends e f in
+    let a = ends_of_both_few k v.simple.ends w.simple.ends e f in
     let c = i.span in
     let d = j.span in
     let l = i.longest in
@@ -171,7 +171,7 @@ joined_rules v w m t q x z i j n next long tt y b s qc tc rc xg xs xf xl xn zg z
       longest = (l.0, l.1, omega arith);
       readings = omega (arith, i.readings, j.readings);
       used = omega (arith, i.used, j.used);
-      none = λ e0. let k0 = meets_none k v.simple.ends w.simple.ends e f (sym p ∙ e0) in omega (arith, i.none k0.0, j.none k0.1);
+      none = λ e0. let k0 = ends_of_both_none k v.simple.ends w.simple.ends e f (sym p ∙ e0) in omega (arith, i.none k0.0, j.none k0.1);
       balance = omega (arith, r.balance);
       crossed = λ l0. omega (
         arith,

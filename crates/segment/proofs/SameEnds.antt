@@ -6,10 +6,10 @@ use Rattle.std.proofs.Common.{◌≡◌, ℕ, suc, ◌<◌, ◌≤◌, ◌⊎◌
 use Rattle.std.specs.Prelude.{not}
 use Rattle.std.proofs.lemmas.Bool.{cases_lt}
 use Rattle.std.proofs.lemmas.Bool.Decides.{nat_tests}
-use Rattle.turning_points.specs.EndPoints.{EndPoints, IsEnds, ends_of, ends_push, last_point, meets, ends_prepend, only_point}
+use Rattle.turning_points.specs.EndPoints.{EndPoints, IsEnds, ends_of, ends_push, last_point, ends_of_both, ends_prepend, only_point}
 use Rattle.turning_points.proofs.Put.{PutCase, at_none, at_equal, at_second, at_turn, at_passed, put_equal, put_first, put_none, put_passed, put_second, put_turn, put_two}
 use Rattle.turning_points.proofs.PutEnds.{case_of, put_ends}
-use Rattle.turning_points.proofs.MeetEnds.{Left, left_zero, left_one, left_two, left_long, left_of, meets_long, meets_one, meets_two, meets_zero, twice}
+use Rattle.turning_points.proofs.MeetEnds.{Left, left_zero, left_one, left_two, left_long, left_of, ends_of_both_long, ends_of_both_one, ends_of_both_two, ends_of_both_zero, twice}
 use Rattle.turning_points.proofs.PushEnds.{push_is_meets}
 use Rattle.level_crossing.specs.Crossings.{CrossingsValue, first_of, has_level}
 use Rattle.level_crossing.specs.Loading.{HasEnds}
@@ -49,16 +49,16 @@ module _ (k : ℕ) (e f : EndPoints) (i : IsEnds k e) (j : IsEnds k f) where
   before_last : (ends_prepend e.before (ends_prepend e.last f)).last ≡ (ends_prepend e.last f).last
   before_last = put_last k e.before (ends_prepend e.last f) next_ends next_first.1
 
-  joint_by : Left e.points → Joint e f (meets e f)
+  joint_by : Left e.points → Joint e f (ends_of_both e f)
   joint_by (left_zero h) = record {
-    none = λ z. meets_zero e f h;
+    none = λ z. ends_of_both_zero e f h;
     some = λ s. absurd (omega (arith, h, s));
     first = λ s. absurd (omega (arith, h, s));
     last = λ s t. absurd (omega (arith, h, s));
     left = λ s t. absurd (omega (arith, h, s));
   }
   joint_by (left_one h) =
-      let m = meets_one e f h in
+      let m = ends_of_both_one e f h in
       record {
         none = λ z. absurd (omega (arith, h, z));
         some = λ s. omega (arith, ap (λ g. g.points) m, next_first.1);
@@ -67,7 +67,7 @@ module _ (k : ℕ) (e f : EndPoints) (i : IsEnds k e) (j : IsEnds k f) where
         left = λ s t. ap (λ g. g.last) m ∙ next_last.0 t;
       }
   joint_by (left_two h) =
-      let m = meets_two e f h in
+      let m = ends_of_both_two e f h in
       let w = twice k e f i j (omega (arith, h)) in
       record {
         none = λ z. absurd (omega (arith, h, z));
@@ -77,7 +77,7 @@ module _ (k : ℕ) (e f : EndPoints) (i : IsEnds k e) (j : IsEnds k f) where
         left = λ s t. ap (λ g. g.last) m ∙ before_last ∙ next_last.0 t;
       }
   joint_by (left_long h) =
-      let m = meets_long e f h in
+      let m = ends_of_both_long e f h in
       let w = twice k e f i j (omega (arith, h)) in
       record {
         none = λ z. absurd (omega (arith, h, z));
@@ -87,7 +87,7 @@ module _ (k : ℕ) (e f : EndPoints) (i : IsEnds k e) (j : IsEnds k f) where
         left = λ s t. ap (λ g. g.last) m ∙ before_last ∙ next_last.0 t;
       }
 
-  pub joint : Joint e f (meets e f)
+  pub joint : Joint e f (ends_of_both e f)
   joint = joint_by (left_of e.points)
 
   none_last : f.points ≡ 0 → e.points ≡ 0 → f.last ≡ e.last
@@ -107,15 +107,16 @@ last_by m n x left right g b f h k l o z = grind (arith, nat_tests)
 
 pub joined_ends : (k : ℕ) (v w x : CrossingsValue) (e f g : EndPoints) → IsEnds k e → IsEnds k f → HasEnds v e → HasEnds w f →
     x.some ≡ (v.some || w.some) → x.first ≡ (if v.some then v.first else w.first) → x.last ≡ (if w.some then w.last else v.last) →
-    g ≡ meets e f → HasEnds x g
+    g ≡ ends_of_both e f → HasEnds x g
 joined_ends k v w x e f g i j a b some first last is =
     let t = joint k e f i j in
     let at_first = first ∙ ap (λ n. if v.some then n else w.first) a.1 ∙ ap (λ n. if v.some then e.first else n) b.1 in
     let at_last = last ∙ ap (λ n. if w.some then n else v.last) b.2 ∙ ap (λ n. if w.some then f.last else n) a.2 in
     subst (HasEnds x) (sym is) (
-      some_by e.points f.points (meets e f).points v.some w.some x.some a.0 b.0 some (λ z. ap (λ n. n.points) (t.none z)) t.some,
-      first_by e.points x.first e.first f.first (meets e f).first v.some a.0 at_first (λ z. ap (λ n. n.first) (t.none z)) t.first,
-      last_by e.points f.points x.last e.last f.last (meets e f).last w.some b.0 at_last (λ z. ap (λ n. n.last) (t.none z)) t.last t.left
+      some_by e.points f.points (ends_of_both e f).points v.some w.some x.some a.0 b.0 some (λ z. ap (λ n. n.points) (t.none z)) t.some,
+      first_by e.points x.first e.first f.first (ends_of_both e f).first v.some a.0 at_first (λ z. ap (λ n. n.first) (t.none z)) t.first,
+      last_by e.points f.points x.last e.last f.last (ends_of_both e f).last w.some b.0 at_last
+          (λ z. ap (λ n. n.last) (t.none z)) t.last t.left
           (none_last k e f i j),
     )
 
@@ -132,9 +133,11 @@ pushed_ends k y v x e g i j a some first last is =
     let f : EndPoints = only_point y in
     let at_first = first ∙ ap (λ n. if v.some then n else y) a.1 in
     subst (HasEnds x) (sym (is ∙ push_is_meets k y e i)) (
-      some_more e.points (meets e (only_point y)).points x.some some (λ z. ap (λ n. n.points) (t.none z)) t.some,
-      first_by e.points x.first e.first y (meets e (only_point y)).first v.some a.0 at_first (λ z. ap (λ n. n.first) (t.none z)) t.first,
-      last_more e.points x.last y (meets e (only_point y)).last last (λ z. ap (λ n. n.last) (t.none z)) (λ s. t.last s (omega arith)),
+      some_more e.points (ends_of_both e (only_point y)).points x.some some (λ z. ap (λ n. n.points) (t.none z)) t.some,
+      first_by e.points x.first e.first y (ends_of_both e (only_point y)).first v.some a.0 at_first
+          (λ z. ap (λ n. n.first) (t.none z)) t.first,
+      last_more e.points x.last y (ends_of_both e (only_point y)).last last (λ z. ap (λ n. n.last) (t.none z))
+          (λ s. t.last s (omega arith)),
     )
 
 pub listed_ends : (p : List ℕ) (x : CrossingsValue) (e : EndPoints) → x.some ≡ has_level p → x.first ≡ first_of p → x.last ≡ last_point p →

@@ -1,6 +1,6 @@
 -- What is printed of samples, and what a list of segments holds of it.
 --   halves_of   what a segment tells of a pair, in half units
---   Fig         the figures of samples, in the words of the definitions alone
+--   AreFiguresOf   the figures of samples, in the words of the definitions alone
 --   SameKept    two lists of segments hold the same: the last end, the sums, and for each pair twice the cycles and the
 --               three-point count of the residues, one after the other
 use Rattle.std.specs.Prelude.{◌≡◌, ℕ, ℤ, ◌+◌, ◌-◌, ◌*◌, List, [], ◌∷◌, ◌++◌, length, sum_by}
@@ -23,7 +23,7 @@ doubled_cycles v lo hi = 2 * count_of v.tally.cells lo hi
 abbrev pub halves_of : SegmentValue → ℕ → ℕ → ℕ
 halves_of v lo hi = doubled_cycles v lo hi + half_units_of_pair lo hi (neighbours v.reducer.residue)
 
-pub record Fig (grid : GridValue) (gain : GainValue) (samples : List ℤ) (count used missing refused : ℕ)
+pub record AreFiguresOf (grid : GridValue) (gain : GainValue) (samples : List ℤ) (count used missing refused : ℕ)
     (halves : ℕ → ℕ → ℕ) (half_units crossed peaks valleys ranges : ℕ → ℕ) : Type 0 where
   pub counted : count ≡ length samples
   pub are_used : used ≡ length (history grid gain samples)

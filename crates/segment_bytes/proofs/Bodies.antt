@@ -6,7 +6,7 @@ use Rattle.std.proofs.lemmas.List.{append-nil, nil_from_length}
 use Rattle.segment_bytes.specs.declared.fault.BytesFault.{BytesFault}
 use Rattle.segment_bytes.specs.declared.fault.BytesFault.TheVariants.{Trailing}
 use Rattle.segment_bytes.specs.Fields.{◌>>=◌, Reader, number_at, list_at, list_bytes}
-use Rattle.segment_bytes.specs.Grammar.{cell, bin, row, six_bytes, ends, back, body_with, cell_at, bin_at, row_at, Body, six_at, ends_at, back_at, body_at, FitsCell, FitsBin, FitsRow, FitsList, FitsBins, FitsCells, FitsRows, FitsSix, FitsEnds, FitsBack, FitsBody}
+use Rattle.segment_bytes.specs.Grammar.{cell, bin, row, name_and_counts_bytes, ends, back, body_with, cell_at, bin_at, row_at, Body, name_and_counts_at, ends_at, back_at, body_at, FitsCell, FitsBin, FitsRow, FitsList, FitsBins, FitsCells, FitsRows, FitsNameAndCounts, FitsEnds, FitsBack, FitsBody}
 use Rattle.segment_bytes.specs.Decoding.{all_of}
 use Rattle.segment_bytes.proofs.Formats.{IsFormat, IsBytes, bind_ok, ok_is, number16, number32, number64, pair, seen, list}
 
@@ -18,8 +18,8 @@ pub bin_format : IsFormat FitsBin bin bin_at
 bin_format = seen _ _ _ (pair _ _ _ _ _ _ number16 number64) (λ x. record { key = x.0; n = x.1 }) (λ b. (b.key, b.n)) (λ x. refl)
     (λ y. refl)
 
-name_format : IsFormat FitsSix six_bytes six_at
-unfolding six_at
+name_format : IsFormat FitsNameAndCounts name_and_counts_bytes name_and_counts_at
+unfolding name_and_counts_at
 name_format = pair _ _ _ _ _ _ number16 (pair _ _ _ _ _ _ number64
     (pair _ _ _ _ _ _ number64 (pair _ _ _ _ _ _ number64 (pair _ _ _ _ _ _ number64 number64))))
 

@@ -8,7 +8,7 @@ use Rattle.std.proofs.lemmas.List.Concat.{flat_map-cons}
 use Rattle.std.proofs.lemmas.Nat.{be_bytes_2, be_bytes_4, be_bytes_8, from_be_bytes-to_be_bytes_2, from_be_bytes-to_be_bytes_4, from_be_bytes-to_be_bytes_8}
 use Rattle.segment_bytes.specs.declared.fault.BytesFault.{BytesFault}
 use Rattle.segment_bytes.specs.declared.fault.BytesFault.TheVariants.{Short}
-use Rattle.segment_bytes.specs.Fields.{◌>>=◌, Reader, number_at, both, seen_as, times, list_at, list_bytes}
+use Rattle.segment_bytes.specs.Fields.{◌>>=◌, Reader, number_at, both, seen_as, entry_list, list_at, list_bytes}
 
 abbrev pub IsBytes : List ℕ → Type 0
 IsBytes bytes = (i : ℕ) → (slice_index bytes i) < 256
@@ -181,40 +181,40 @@ module _ {A B : Type 0} (F : A → Type 0) (w : A → List ℕ) (reader : Reader
 -- ---- lists
 
 module _ {A : Type 0} (F : A → Type 0) (w : A → List ℕ) (one : Reader A) (f : IsFormat F w one) where
-  times_takes : (n have : ℕ) (bytes : List ℕ) (x : List A × List ℕ) → IsBytes bytes → times one n have bytes ≡ Ok x
+  entry_list_takes : (n have : ℕ) (bytes : List ℕ) (x : List A × List ℕ) → IsBytes bytes → entry_list one n have bytes ≡ Ok x
       → Takes bytes (flat_map w x.0) x.1 × ((length x.0 ≡ n) × AllByRecursion F x.0)
-  unfolding times
-  times_takes zero have bytes x fits e =
+  unfolding entry_list
+  entry_list_takes zero have bytes x fits e =
       subst (λ (y : List A × List ℕ). Takes bytes (flat_map w y.0) y.1 × ((length y.0 ≡ 0) × AllByRecursion F y.0))
       (ok_is ([], bytes) x e) (record { parts = refl; rest_fits = fits }, (refl, tt))
-  times_takes (suc n) have bytes x fits e =
-      let a = bind_ok (one have bytes) (λ x. times one n have x.1 >>= λ y. Ok (x.0 ∷ y.0, y.1)) x e in
-      let b = bind_ok (times one n have a.0.1) (λ y. Ok (a.0.0 ∷ y.0, y.1)) x a.2 in
+  entry_list_takes (suc n) have bytes x fits e =
+      let a = bind_ok (one have bytes) (λ x. entry_list one n have x.1 >>= λ y. Ok (x.0 ∷ y.0, y.1)) x e in
+      let b = bind_ok (entry_list one n have a.0.1) (λ y. Ok (a.0.0 ∷ y.0, y.1)) x a.2 in
       let s = f.takes have bytes a.0 fits a.1 in
-      let t = times_takes n have a.0.1 b.0 s.0.rest_fits b.1 in
+      let t = entry_list_takes n have a.0.1 b.0 s.0.rest_fits b.1 in
       let both : Takes bytes (w a.0.0 ++ flat_map w b.0.0) b.0.1 = Takes-then _ _ _ _ _ s.0 t.0 in
       subst (λ (y : List A × List ℕ). Takes bytes (flat_map w y.0) y.1 × ((length y.0 ≡ suc n) × AllByRecursion F y.0))
       (ok_is (a.0.0 ∷ b.0.0, b.0.1) x b.2) (rw flat_map-cons both, (ap suc t.1.0, (s.1, t.1.1)))
 
-  times_again : (have : ℕ) (xs : List A) (rest : List ℕ) → AllByRecursion F xs
-      → times one (length xs) have (flat_map w xs ++ rest) ≡ Ok (xs, rest)
-  unfolding times
-  times_again have [] rest fits = refl
-  times_again have (x ∷ xs) rest fits =
+  entry_list_again : (have : ℕ) (xs : List A) (rest : List ℕ) → AllByRecursion F xs
+      → entry_list one (length xs) have (flat_map w xs ++ rest) ≡ Ok (xs, rest)
+  unfolding entry_list
+  entry_list_again have [] rest fits = refl
+  entry_list_again have (x ∷ xs) rest fits =
       let regrouped : flat_map w (x ∷ xs) ++ rest ≡ w x ++ (flat_map w xs ++ rest) = ap (λ (l : List ℕ). l ++ rest)
       (flat_map-cons w x xs) ∙ append_assoc (w x) (flat_map w xs) rest in
-      ap (times one (suc (length xs)) have) regrouped
-      ∙ ap (λ (r : Result (A × List ℕ) BytesFault). r >>= λ x. times one (length xs) have x.1 >>= λ y. Ok (x.0 ∷ y.0, y.1))
+      ap (entry_list one (suc (length xs)) have) regrouped
+      ∙ ap (λ (r : Result (A × List ℕ) BytesFault). r >>= λ x. entry_list one (length xs) have x.1 >>= λ y. Ok (x.0 ∷ y.0, y.1))
       (f.again have x (flat_map w xs ++ rest) fits.0)
-      ∙ ap (λ (r : Result (List A × List ℕ) BytesFault). r >>= λ y. Ok (x ∷ y.0, y.1)) (times_again have xs rest fits.1)
+      ∙ ap (λ (r : Result (List A × List ℕ) BytesFault). r >>= λ y. Ok (x ∷ y.0, y.1)) (entry_list_again have xs rest fits.1)
 
   module _ (width : Width) (limit : ℕ) (count : IsFormat (λ n. n < limit) (to_be_bytes width) (number_at width)) where
     counted_takes : (have : ℕ) (bytes : List ℕ) (x : List A × List ℕ) → IsBytes bytes → list_at width one have bytes ≡ Ok x
         → Takes bytes (list_bytes width w x.0) x.1 × ((length x.0 < limit) × AllByRecursion F x.0)
     counted_takes have bytes x fits e =
-        let a = bind_ok (number_at width have bytes) (λ n. times one n.0 have n.1) x e in
+        let a = bind_ok (number_at width have bytes) (λ n. entry_list one n.0 have n.1) x e in
         let s = count.takes have bytes a.0 fits a.1 in
-        let t = times_takes a.0.0 have a.0.1 x s.0.rest_fits a.2 in
+        let t = entry_list_takes a.0.0 have a.0.1 x s.0.rest_fits a.2 in
         let same : a.0.0 ≡ length x.0 = sym t.1.0 in (
           subst (λ n. Takes bytes (to_be_bytes width n ++ flat_map w x.0) x.1) same (Takes-then _ _ _ _ _ s.0 t.0),
           (omega (arith, same, s.1), t.1.1),
@@ -224,9 +224,9 @@ module _ {A : Type 0} (F : A → Type 0) (w : A → List ℕ) (one : Reader A) (
         → list_at width one have (list_bytes width w xs ++ rest) ≡ Ok (xs, rest)
     counted_again have xs rest fits =
         ap (list_at width one have) (append_assoc (to_be_bytes width (length xs)) (flat_map w xs) rest)
-        ∙ ap (λ (r : Result (ℕ × List ℕ) BytesFault). r >>= λ n. times one n.0 have n.1)
+        ∙ ap (λ (r : Result (ℕ × List ℕ) BytesFault). r >>= λ n. entry_list one n.0 have n.1)
         (count.again have (length xs) (flat_map w xs ++ rest) fits.0)
-        ∙ times_again have xs rest fits.1
+        ∙ entry_list_again have xs rest fits.1
 
     pub list : IsFormat (λ (xs : List A). (length xs < limit) × AllByRecursion F xs) (list_bytes width w) (list_at width one)
     list = record { takes = counted_takes; again = counted_again }

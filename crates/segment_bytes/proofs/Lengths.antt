@@ -25,7 +25,7 @@ use Rattle.segment_bytes.specs.declared.layout.Layout.{Layout}
 use Rattle.segment_bytes.specs.declared.layout.Layout.TheVariants.{One, Two}
 use Rattle.segment_bytes.specs.Rows.{RowValue, AreRowsFrom, cell_in, row_cells, cells_of, rows_of}
 use Rattle.segment_bytes.specs.Fields.{list_bytes}
-use Rattle.segment_bytes.specs.Grammar.{cell, bin, row, six_bytes, ends, back, six_of, back_of, with_list0, body_of, list0, FitsCell, FitsBin, FitsRow, FitsBins, FitsCells, FitsRows, FitsEnds, FitsBody, Fits}
+use Rattle.segment_bytes.specs.Grammar.{cell, bin, row, name_and_counts_bytes, ends, back, name_and_counts_of, back_of, with_list0, body_of, list0, FitsCell, FitsBin, FitsRow, FitsBins, FitsCells, FitsRows, FitsEnds, FitsBody, Fits}
 use Rattle.segment_bytes.proofs.Rows.{cells_again, rows_are, rows_few, rows_sum}
 use Rattle.segment_bytes.specs.Sizes.{max_body, max_body_of, body_length}
 
@@ -83,7 +83,7 @@ row_long r l =
     )
 
 -- a body, in the order of its writing
-pub body_is : (l : Layout) (p : PartsValue) → body_of l p ≡ (six_bytes (six_of p) ++ ends p.ends) ++
+pub body_is : (l : Layout) (p : PartsValue) → body_of l p ≡ (name_and_counts_bytes (name_and_counts_of p) ++ ends p.ends) ++
     (list_bytes w16 (to_be_bytes w16) p.residue ++ (list0 l p ++
     (list_bytes w16 bin p.crossings ++ (list_bytes w16 bin p.peaks ++ (list_bytes w16 bin p.valleys ++ list_bytes w16 bin p.ranges)))))
 body_is One p = refl
@@ -122,7 +122,7 @@ pub body_long : (l : Layout) (p : PartsValue) → length (body_of l p) ≡ body_
 body_long One p =
     omega (
       arith,
-      length-append (six_bytes (six_of p) ++ ends p.ends) (back (list_bytes w32 cell) (back_of p.cells p)),
+      length-append (name_and_counts_bytes (name_and_counts_of p) ++ ends p.ends) (back (list_bytes w32 cell) (back_of p.cells p)),
       back_long (list_bytes w32 cell) p.cells p,
       listed32 (length p.cells) (flat_map cell p.cells),
       cells_long p.cells,
@@ -130,7 +130,7 @@ body_long One p =
 body_long Two p =
     omega (
       arith,
-      length-append (six_bytes (six_of p) ++ ends p.ends) (back (list_bytes w16 row) (back_of (rows_of p.cells) p)),
+      length-append (name_and_counts_bytes (name_and_counts_of p) ++ ends p.ends) (back (list_bytes w16 row) (back_of (rows_of p.cells) p)),
       back_long (list_bytes w16 row) (rows_of p.cells) p,
       listed16 (length (rows_of p.cells)) (flat_map row (rows_of p.cells)),
       rows_long (rows_of p.cells),

@@ -3,7 +3,7 @@ use Rattle.std.proofs.Common.{◌≡◌, ℕ, suc, ◌-◌, ◌+◌, ◌≤◌, 
 use Rattle.std.proofs.lemmas.List.{append-nil}
 use Rattle.segment_bytes.specs.declared.fault.BytesFault.{BytesFault}
 use Rattle.segment_bytes.specs.declared.fault.BytesFault.TheVariants.{OutOfMemory}
-use Rattle.segment_bytes.specs.Fields.{◌>>=◌, Fails, Reader, times}
+use Rattle.segment_bytes.specs.Fields.{◌>>=◌, FailsWith, Reader, entry_list}
 
 -- what was read before, and what is still read
 abbrev pub with_front : {A : Type 0} → List A → Result (List A × List ℕ) BytesFault → Result (List A × List ℕ) BytesFault
@@ -18,31 +18,31 @@ module _ {A : Type 0} where
   module _ (one : Reader A) (have : ℕ) where
     pub goes_on : (front : List A) (count i : ℕ) (bytes : List ℕ) (n : A) (after : List ℕ) (total : Result (List A × List ℕ) BytesFault)
         → i < count → one have bytes ≡ Ok (n, after)
-        → with_front front (times one (count - i) have bytes) ≡ total
-        → with_front (front ++ n ∷ []) (times one (count - (i + 1)) have after) ≡ total
-    unfolding times
+        → with_front front (entry_list one (count - i) have bytes) ≡ total
+        → with_front (front ++ n ∷ []) (entry_list one (count - (i + 1)) have after) ≡ total
+    unfolding entry_list
     goes_on front count i bytes n after total lt h so_far =
         let k : count - i ≡ suc (count - (i + 1)) = omega arith in
-        let one_more : with_front front (times one (count - i) have bytes) ≡ with_front (front ++ n ∷ [])
-        (times one (count - (i + 1)) have after) = rw (k, h) (regroup front n (times one (count - (i + 1)) have after)) in
+        let one_more : with_front front (entry_list one (count - i) have bytes) ≡ with_front (front ++ n ∷ [])
+        (entry_list one (count - (i + 1)) have after) = rw (k, h) (regroup front n (entry_list one (count - (i + 1)) have after)) in
         sym one_more ∙ so_far
 
     pub ends : (e : BytesFault) (front : List A) (count i : ℕ) (bytes : List ℕ) (total : Result (List A × List ℕ) BytesFault) → i < count
-        → Fails e (one have bytes)
-        → with_front front (times one (count - i) have bytes) ≡ total → Fails e total
-    unfolding times
+        → FailsWith e (one have bytes)
+        → with_front front (entry_list one (count - i) have bytes) ≡ total → FailsWith e total
+    unfolding entry_list
     ends OutOfMemory front count i bytes total lt h so_far = tt
     ends f front count i bytes total lt h so_far =
         let k : count - i ≡ suc (count - (i + 1)) = omega arith in
-        let stops : with_front front (times one (count - i) have bytes) ≡ Err f = rw (k, h) refl in
+        let stops : with_front front (entry_list one (count - i) have bytes) ≡ Err f = rw (k, h) refl in
         sym so_far ∙ stops
 
     pub is_done : (front : List A) (count i : ℕ) (bytes : List ℕ) (total : Result (List A × List ℕ) BytesFault) → count ≤ i
-        → with_front front (times one (count - i) have bytes) ≡ total → total ≡ Ok (front, bytes)
-    unfolding times
+        → with_front front (entry_list one (count - i) have bytes) ≡ total → total ≡ Ok (front, bytes)
+    unfolding entry_list
     is_done front count i bytes total le so_far =
         let k : count - i ≡ 0 = omega arith in
-        let all : with_front front (times one (count - i) have bytes) ≡ Ok (front, bytes) = rw k
+        let all : with_front front (entry_list one (count - i) have bytes) ≡ Ok (front, bytes) = rw k
         (ap (λ (ns : List A). Ok (ns, bytes)) (append-nil front)) in
         sym so_far ∙ all
 
@@ -55,14 +55,14 @@ seen f read = read >>= λ x. Ok (f x.0, x.1)
 abbrev failed : {B : Type 0} → BytesFault → Result B BytesFault
 failed d = Err d
 
-pub fails_seen : {A B : Type 0} (e : BytesFault) (f : A → B) (read : Result (A × List ℕ) BytesFault) → Fails e (seen f read)
-    → Fails e read
+pub fails_seen : {A B : Type 0} (e : BytesFault) (f : A → B) (read : Result (A × List ℕ) BytesFault) → FailsWith e (seen f read)
+    → FailsWith e read
 fails_seen OutOfMemory f read h = tt
 fails_seen e f (Ok x) h = absurd cc
 fails_seen e f (Err d) h = let same : d ≡ e = cc in ap failed same
 
-pub seen_fails : {A B : Type 0} (e : BytesFault) (f : A → B) (read : Result (A × List ℕ) BytesFault) → Fails e read
-    → Fails e (seen f read)
+pub seen_fails : {A B : Type 0} (e : BytesFault) (f : A → B) (read : Result (A × List ℕ) BytesFault) → FailsWith e read
+    → FailsWith e (seen f read)
 seen_fails OutOfMemory f read h = tt
 seen_fails e f read h = ap (seen f) h
 
@@ -75,28 +75,28 @@ module _ {A B : Type 0} where
   module _ (one : Reader A) (have : ℕ) where
     pub seen_on : (f g : List A → B) (count i : ℕ) (bytes : List ℕ) (n : A) (after : List ℕ)
         (total : Result (B × List ℕ) BytesFault) → i < count → ((ns : List A) → f (n ∷ ns) ≡ g ns)
-        → one have bytes ≡ Ok (n, after) → seen f (times one (count - i) have bytes) ≡ total
-        → seen g (times one (count - (i + 1)) have after) ≡ total
-    unfolding times
+        → one have bytes ≡ Ok (n, after) → seen f (entry_list one (count - i) have bytes) ≡ total
+        → seen g (entry_list one (count - (i + 1)) have after) ≡ total
+    unfolding entry_list
     seen_on f g count i bytes n after total lt same h so_far =
         let k : count - i ≡ suc (count - (i + 1)) = omega arith in
-        let one_more : seen f (times one (count - i) have bytes) ≡ seen g (times one (count - (i + 1)) have after) = rw (k, h)
-        (seen_one f g n same (times one (count - (i + 1)) have after)) in
+        let one_more : seen f (entry_list one (count - i) have bytes) ≡ seen g (entry_list one (count - (i + 1)) have after) = rw (k, h)
+        (seen_one f g n same (entry_list one (count - (i + 1)) have after)) in
         sym one_more ∙ so_far
 
     pub seen_ends : (e : BytesFault) (f : List A → B) (count i : ℕ) (bytes : List ℕ) (total : Result (B × List ℕ) BytesFault)
-        → i < count → Fails e (one have bytes) → seen f (times one (count - i) have bytes) ≡ total → Fails e total
-    unfolding times
+        → i < count → FailsWith e (one have bytes) → seen f (entry_list one (count - i) have bytes) ≡ total → FailsWith e total
+    unfolding entry_list
     seen_ends OutOfMemory f count i bytes total lt h so_far = tt
     seen_ends e f count i bytes total lt h so_far =
         let k : count - i ≡ suc (count - (i + 1)) = omega arith in
-        let stops : seen f (times one (count - i) have bytes) ≡ Err e = rw (k, h) refl in
+        let stops : seen f (entry_list one (count - i) have bytes) ≡ Err e = rw (k, h) refl in
         sym so_far ∙ stops
 
     pub seen_done : (f : List A → B) (count i : ℕ) (bytes : List ℕ) (total : Result (B × List ℕ) BytesFault) → count ≤ i
-        → seen f (times one (count - i) have bytes) ≡ total → total ≡ Ok (f [], bytes)
-    unfolding times
+        → seen f (entry_list one (count - i) have bytes) ≡ total → total ≡ Ok (f [], bytes)
+    unfolding entry_list
     seen_done f count i bytes total le so_far =
         let k : count - i ≡ 0 = omega arith in
-        let all : seen f (times one (count - i) have bytes) ≡ Ok (f [], bytes) = rw k refl in
+        let all : seen f (entry_list one (count - i) have bytes) ≡ Ok (f [], bytes) = rw k refl in
         sym so_far ∙ all

@@ -10,10 +10,10 @@ use Rattle.segment_rules.specs.Tests.{order_broken, wrong_bin}
 use Rattle.segment_bytes.specs.declared.fault.BytesFault.{BytesFault}
 use Rattle.segment_bytes.specs.declared.fault.BytesFault.TheVariants.{Trailing}
 use Rattle.segment_bytes.specs.declared.layout.Layout.TheVariants.{Two}
-use Rattle.segment_bytes.specs.Fields.{◌>>=◌, Fails, Reader, number_at, both, seen_as, times, list_at}
+use Rattle.segment_bytes.specs.Fields.{◌>>=◌, FailsWith, Reader, number_at, both, seen_as, entry_list, list_at}
 use Rattle.std.specs.Option.{option_or}
 use Rattle.segment_bytes.specs.Rows.{RowValue, cell_in, row_cells, cells_of, bin_of, wrong_row}
-use Rattle.segment_bytes.specs.Grammar.{Back, Body, bin_at, row_at, six_at, ends_at, back_at, body_at, parts_of_body, flat}
+use Rattle.segment_bytes.specs.Grammar.{Back, Body, bin_at, row_at, name_and_counts_at, ends_at, back_at, body_at, parts_of_body, flat}
 use Rattle.segment_bytes.specs.Decoding.{all_of, or_fault, parts_in}
 use Rattle.segment_bytes.specs.RowReading.{FoundRows, no_rows, wrong_in, with_row, with_rows, cells_alone, parts_of_rows}
 use Rattle.segment_bytes.proofs.Formats.{bind_ok, ok_is}
@@ -26,7 +26,7 @@ pub one_cell : (cells : List Cell) (lo : ℕ) (b : Bin) (bins : List Bin)
 one_cell cells lo b bins = sym (append_assoc cells (cell_in lo b ∷ []) (map (cell_in lo) bins))
 
 pub cells_done : (cells : List Cell) (lo have count i : ℕ) (bytes : List ℕ) (total : Result (List Cell × List ℕ) BytesFault) → count ≤ i
-    → seen (λ bins. cells ++ map (cell_in lo) bins) (times bin_at (count - i) have bytes) ≡ total → total ≡ Ok (cells, bytes)
+    → seen (λ bins. cells ++ map (cell_in lo) bins) (entry_list bin_at (count - i) have bytes) ≡ total → total ≡ Ok (cells, bytes)
 cells_done cells lo have count i bytes total le so_far =
     seen_done bin_at have (λ bins. cells ++ map (cell_in lo) bins) count i bytes total le so_far
     ∙ ap (λ (l : List Cell). Ok (l, bytes)) (append-nil cells)
@@ -52,22 +52,23 @@ module _ {B : Type 0} (f : RowValue → B) (have lo count : ℕ) (bytes first re
   as_row (Ok x) = refl
   as_row (Err d) = refl
 
-  pub row_read : seen_as f row_at have bytes ≡ seen (λ bins. f (record { lo = lo; bins = bins })) (times bin_at count have rest)
+  pub row_read : seen_as f row_at have bytes ≡ seen (λ bins. f (record { lo = lo; bins = bins })) (entry_list bin_at count have rest)
   row_read =
       ap (λ (r : Result (ℕ × List ℕ) BytesFault). seen f (seen (λ (x : ℕ × List Bin). record { lo = x.0; bins = x.1 })
       (r >>= λ x. (list_at w16 bin_at have x.1 >>= λ y. Ok ((x.0, y.0), y.1))))) lo_is
       ∙ ap (λ (r : Result (ℕ × List ℕ) BytesFault). seen f (seen (λ (x : ℕ × List Bin). record { lo = x.0; bins = x.1 })
-      ((r >>= λ n. times bin_at n.0 have n.1) >>= λ y. Ok ((lo, y.0), y.1)))) count_is
-      ∙ as_row (times bin_at count have rest)
+      ((r >>= λ n. entry_list bin_at n.0 have n.1) >>= λ y. Ok ((lo, y.0), y.1)))) count_is
+      ∙ as_row (entry_list bin_at count have rest)
 
 pub row_fails : (e : BytesFault) (k : ℕ) (found : FoundRows) (have lo count : ℕ) (bytes first rest : List ℕ)
     → number_at w16 have bytes ≡ Ok (lo, first) → number_at w16 have first ≡ Ok (count, rest)
-    → Fails e (seen (λ bins. found.cells ++ map (cell_in lo) bins) (times bin_at count have rest))
-    → Fails e (seen_as (with_row k found) row_at have bytes)
+    → FailsWith e (seen (λ bins. found.cells ++ map (cell_in lo) bins) (entry_list bin_at count have rest))
+    → FailsWith e (seen_as (with_row k found) row_at have bytes)
 row_fails e k found have lo count bytes first rest a b h =
-    let t = fails_seen e (λ bins. found.cells ++ map (cell_in lo) bins) (times bin_at count have rest) h in
-    subst (λ (r : Result (FoundRows × List ℕ) BytesFault). Fails e r) (sym (row_read (with_row k found) have lo count bytes first rest a b))
-    (seen_fails e (λ bins. with_row k found (record { lo = lo; bins = bins })) (times bin_at count have rest) t)
+    let t = fails_seen e (λ bins. found.cells ++ map (cell_in lo) bins) (entry_list bin_at count have rest) h in
+    subst (λ (r : Result (FoundRows × List ℕ) BytesFault). FailsWith e r)
+    (sym (row_read (with_row k found) have lo count bytes first rest a b))
+    (seen_fails e (λ bins. with_row k found (record { lo = lo; bins = bins })) (entry_list bin_at count have rest) t)
 
 -- a list from a place on
 pub list_from : (n : ℕ) (cells : List Cell) → take (length cells - n) (drop n cells) ≡ drop n cells
@@ -84,10 +85,10 @@ row_made k found lo cells = record {
 
 pub row_is : (k : ℕ) (found : FoundRows) (have lo count : ℕ) (bytes first rest after : List ℕ) (cells : List Cell)
     → number_at w16 have bytes ≡ Ok (lo, first) → number_at w16 have first ≡ Ok (count, rest)
-    → seen (λ bins. found.cells ++ map (cell_in lo) bins) (times bin_at count have rest) ≡ Ok (cells, after)
+    → seen (λ bins. found.cells ++ map (cell_in lo) bins) (entry_list bin_at count have rest) ≡ Ok (cells, after)
     → seen_as (with_row k found) row_at have bytes ≡ Ok (row_made k found lo cells, after)
 row_is k found have lo count bytes first rest after cells a b h =
-    let t = bind_ok (times bin_at count have rest) (λ x. Ok (found.cells ++ map (cell_in lo) x.0, x.1)) (cells, after) h in
+    let t = bind_ok (entry_list bin_at count have rest) (λ x. Ok (found.cells ++ map (cell_in lo) x.0, x.1)) (cells, after) h in
     let p = ok_is (found.cells ++ map (cell_in lo) t.0.0, t.0.1) (cells, after) t.2 in
     row_read (with_row k found) have lo count bytes first rest a b
     ∙ ap (seen (λ bins. with_row k found (record { lo = lo; bins = bins }))) t.1
@@ -126,12 +127,12 @@ row_more k found r rs =
 pub rows_on : (k : ℕ) (found next : FoundRows) (have count i : ℕ) (bytes after : List ℕ)
     (total : Result ((List Cell × Option ℕ) × List ℕ) BytesFault) → i < count
     → seen_as (with_row k found) row_at have bytes ≡ Ok (next, after)
-    → seen (with_rows k found) (times row_at (count - i) have bytes) ≡ total
-    → seen (with_rows k next) (times row_at (count - (i + 1)) have after) ≡ total
+    → seen (with_rows k found) (entry_list row_at (count - i) have bytes) ≡ total
+    → seen (with_rows k next) (entry_list row_at (count - (i + 1)) have after) ≡ total
 rows_on k found next have count i bytes after total lt h so_far =
     let t = bind_ok (row_at have bytes) (λ x. Ok (with_row k found x.0, x.1)) (next, after) h in
     let p = ok_is (with_row k found t.0.0, t.0.1) (next, after) t.2 in
-    subst (λ (q : FoundRows × List ℕ). seen (with_rows k q.0) (times row_at (count - (i + 1)) have q.1) ≡ total) p
+    subst (λ (q : FoundRows × List ℕ). seen (with_rows k q.0) (entry_list row_at (count - (i + 1)) have q.1) ≡ total) p
     (seen_on row_at have (with_rows k found) (with_rows k (with_row k found t.0.0)) count i bytes t.0.0 t.0.1 total lt
     (λ rs. row_more k found t.0.0 rs) t.1 so_far)
 
@@ -141,7 +142,7 @@ no_next (Some place) = refl
 
 pub rows_done : (k : ℕ) (found : FoundRows) (have count i : ℕ) (bytes : List ℕ)
     (total : Result ((List Cell × Option ℕ) × List ℕ) BytesFault) → count ≤ i
-    → seen (with_rows k found) (times row_at (count - i) have bytes) ≡ total → total ≡ Ok ((found.cells, found.wrong), bytes)
+    → seen (with_rows k found) (entry_list row_at (count - i) have bytes) ≡ total → total ≡ Ok ((found.cells, found.wrong), bytes)
 rows_done k found have count i bytes total le so_far =
     seen_done row_at have (with_rows k found) count i bytes total le so_far
     ∙ ap (λ (l : List Cell). Ok ((l, option_or found.wrong None), bytes)) (append-nil found.cells)
@@ -197,7 +198,7 @@ module _ {L M : Type 0} (f : L → M) (list0 : Reader L) where
   body_seen : (have : ℕ) (bytes : List ℕ) → body_at (seen_as f list0) have bytes ≡ seen body_as (body_at list0 have bytes)
   unfolding body_at
   body_seen have bytes =
-      seen_second back_as (both six_at ends_at) (back_at list0) (back_at (seen_as f list0)) have bytes (λ l. back_seen have l)
+      seen_second back_as (both name_and_counts_at ends_at) (back_at list0) (back_at (seen_as f list0)) have bytes (λ l. back_seen have l)
 
   pub all_seen : (bytes : List ℕ) → all_of (seen_as f list0) bytes ≡ (all_of list0 bytes >>= λ x. Ok (body_as x))
   unfolding all_of

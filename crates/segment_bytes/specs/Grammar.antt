@@ -19,24 +19,24 @@ use Rattle.segment_bytes.specs.Fields.{Reader, number_at, both, seen_as, list_at
 -- ---- a body's numbers and lists
 
 -- gauge, from, to, used, missing, refused
-abbrev pub Six : Type 0
-Six = ℕ × (ℕ × (ℕ × (ℕ × (ℕ × ℕ))))
+abbrev pub NameAndCounts : Type 0
+NameAndCounts = ℕ × (ℕ × (ℕ × (ℕ × (ℕ × ℕ))))
 
 -- the residue, list 0, crossings, peaks, valleys, ranges
 abbrev pub Back : Type 0 → Type 0
 Back L = List ℕ × (L × (List Bin × (List Bin × (List Bin × List Bin))))
 
 abbrev pub Body : Type 0 → Type 0
-Body L = (Six × EndPoints) × Back L
+Body L = (NameAndCounts × EndPoints) × Back L
 
-abbrev pub six_of : PartsValue → Six
-six_of p = (p.name.gauge, (p.name.from, (p.name.to, (p.used, (p.missing, p.refused)))))
+abbrev pub name_and_counts_of : PartsValue → NameAndCounts
+name_and_counts_of p = (p.name.gauge, (p.name.from, (p.name.to, (p.used, (p.missing, p.refused)))))
 
 abbrev pub back_of : {L : Type 0} → L → PartsValue → Back L
 back_of list0 p = (p.residue, (list0, (p.crossings, (p.peaks, (p.valleys, p.ranges)))))
 
 abbrev pub with_list0 : {L : Type 0} → L → PartsValue → Body L
-with_list0 list0 p = ((six_of p, p.ends), back_of list0 p)
+with_list0 list0 p = ((name_and_counts_of p, p.ends), back_of list0 p)
 
 abbrev pub parts_of_body : Body (List Cell) → PartsValue
 parts_of_body x = record {
@@ -73,8 +73,9 @@ abbrev pub ends : EndPoints → List ℕ
 ends e = to_be_bytes w64 e.points ++ (to_be_bytes w16 e.first ++
     (to_be_bytes w16 e.second ++ (to_be_bytes w16 e.before ++ to_be_bytes w16 e.last)))
 
-abbrev pub six_bytes : Six → List ℕ
-six_bytes x = to_be_bytes w16 x.0 ++ (to_be_bytes w64 x.1.0 ++ (to_be_bytes w64 x.1.1.0 ++ (to_be_bytes w64 x.1.1.1.0
+abbrev pub name_and_counts_bytes : NameAndCounts → List ℕ
+name_and_counts_bytes x = to_be_bytes w16 x.0
+    ++ (to_be_bytes w64 x.1.0 ++ (to_be_bytes w64 x.1.1.0 ++ (to_be_bytes w64 x.1.1.1.0
     ++ (to_be_bytes w64 x.1.1.1.1.0 ++ to_be_bytes w64 x.1.1.1.1.1))))
 
 -- where list0 writes list 0
@@ -84,7 +85,7 @@ back list0 x = list_bytes w16 (to_be_bytes w16) x.0
     ++ (list_bytes w16 bin x.1.1.1.1.0 ++ list_bytes w16 bin x.1.1.1.1.1))))
 
 abbrev pub body_with : {L : Type 0} → (L → List ℕ) → Body L → List ℕ
-body_with list0 x = (six_bytes x.0.0 ++ ends x.0.1) ++ back list0 x.1
+body_with list0 x = (name_and_counts_bytes x.0.0 ++ ends x.0.1) ++ back list0 x.1
 
 abbrev pub body_of : Layout → PartsValue → List ℕ
 body_of One p = body_with (list_bytes w32 cell) (with_list0 p.cells p)
@@ -107,8 +108,8 @@ bin_at = seen_as (λ x. record { key = x.0; n = x.1 }) (both (number_at w16) (nu
 abbrev pub row_at : Reader RowValue
 row_at = seen_as (λ x. record { lo = x.0; bins = x.1 }) (both (number_at w16) (list_at w16 bin_at))
 
-unfoldable pub six_at : Reader Six
-six_at = both (number_at w16) (both (number_at w64) (both (number_at w64)
+unfoldable pub name_and_counts_at : Reader NameAndCounts
+name_and_counts_at = both (number_at w16) (both (number_at w64) (both (number_at w64)
     (both (number_at w64) (both (number_at w64) (number_at w64)))))
 
 unfoldable pub ends_at : Reader EndPoints
@@ -120,7 +121,7 @@ back_at list0 = both (list_at w16 (number_at w16)) (both list0 (both (list_at w1
     (both (list_at w16 bin_at) (list_at w16 bin_at)))))
 
 unfoldable pub body_at : {L : Type 0} → Reader L → Reader (Body L)
-body_at list0 = both (both six_at ends_at) (back_at list0)
+body_at list0 = both (both name_and_counts_at ends_at) (back_at list0)
 
 -- ---- what has a body
 
@@ -136,8 +137,8 @@ FitsList limit F xs = (length xs < limit) × AllByRecursion F xs
 abbrev pub FitsBins : List Bin → Type 0
 FitsBins bins = FitsList (2 ^ 16) FitsBin bins
 
-abbrev pub FitsSix : Six → Type 0
-FitsSix x = (x.0 < 2 ^ 16) × ((x.1.0 < 2 ^ 64) × ((x.1.1.0 < 2 ^ 64) ×
+abbrev pub FitsNameAndCounts : NameAndCounts → Type 0
+FitsNameAndCounts x = (x.0 < 2 ^ 16) × ((x.1.0 < 2 ^ 64) × ((x.1.1.0 < 2 ^ 64) ×
     ((x.1.1.1.0 < 2 ^ 64) × ((x.1.1.1.1.0 < 2 ^ 64) × (x.1.1.1.1.1 < 2 ^ 64)))))
 
 abbrev pub FitsEnds : EndPoints → Type 0
@@ -149,7 +150,7 @@ FitsBack F x = FitsList (2 ^ 16) (λ n. n < 2 ^ 16) x.0 × (F x.1.0 ×
     (FitsBins x.1.1.0 × (FitsBins x.1.1.1.0 × (FitsBins x.1.1.1.1.0 × FitsBins x.1.1.1.1.1))))
 
 abbrev pub FitsBody : {L : Type 0} → (L → Type 0) → Body L → Type 0
-FitsBody F x = (FitsSix x.0.0 × FitsEnds x.0.1) × FitsBack F x.1
+FitsBody F x = (FitsNameAndCounts x.0.0 × FitsEnds x.0.1) × FitsBack F x.1
 
 abbrev pub FitsCells : List Cell → Type 0
 FitsCells cells = FitsList (2 ^ 32) FitsCell cells

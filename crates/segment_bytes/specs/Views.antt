@@ -4,17 +4,17 @@ use Rattle.tally.specs.declared.cells.Cell.{Cell}
 use Rattle.tally.specs.declared.cells.Bin.{Bin}
 use Rattle.segment_rules.specs.declared.parts.Parts.{Parts}
 use Rattle.segment_rules.specs.Parts.{parts_value}
-use Rattle.segment_bytes.specs.declared.numbers.Six as numbers
+use Rattle.segment_bytes.specs.declared.numbers.NameAndCounts as numbers
 use Rattle.segment_bytes.specs.declared.entries.Four.{Four}
 use Rattle.segment_bytes.specs.declared.entries.Lists.{Lists}
 use Rattle.segment_bytes.specs.declared.entries.RowLists.{RowLists}
 use Rattle.segment_bytes.specs.declared.reading.RowParts.{RowParts}
 use Rattle.segment_bytes.specs.declared.row_reading.Rows.{Rows}
 use Rattle.segment_bytes.specs.RowReading.{FoundRows}
-use Rattle.segment_bytes.specs.Grammar.{Six, Back, Body, with_list0}
+use Rattle.segment_bytes.specs.Grammar.{NameAndCounts, Back, Body, with_list0}
 
-abbrev pub six : numbers.Six → Six
-six x = (x.gauge, (x.from, (x.to, (x.used, (x.missing, x.refused)))))
+abbrev pub name_and_counts : numbers.NameAndCounts → NameAndCounts
+name_and_counts x = (x.gauge, (x.from, (x.to, (x.used, (x.missing, x.refused)))))
 
 abbrev pub see_rows : Rows → FoundRows
 see_rows r = record { cells = r.cells.items; from = r.from; wrong = r.wrong }

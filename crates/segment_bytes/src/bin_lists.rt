@@ -12,26 +12,26 @@ pub(crate) enum Table {
     Ranges,
 }
 
-fn count_in(seg: &Segment, table: Table, key: u16) -> u64
-    requires from { first_key seg.now.grid table ≤ key }
-    requires to { key < seg.now.grid.classes }
-    ensures { result ≡ count_in seg.now table key }
+fn count_in(segment: &Segment, table: Table, key: u16) -> u64
+    requires from { first_key segment.now.grid table ≤ key }
+    requires to { key < segment.now.grid.classes }
+    ensures { result ≡ count_in segment.now table key }
 {
     match table {
-        Table::Crossings => seg.crossings(key),
-        Table::Peaks => seg.peaks(key),
-        Table::Valleys => seg.valleys(key),
-        Table::Ranges => seg.ranges(key),
+        Table::Crossings => segment.crossings(key),
+        Table::Peaks => segment.peaks(key),
+        Table::Valleys => segment.valleys(key),
+        Table::Ranges => segment.ranges(key),
     }
 }
 
 /// The least key of a table, and how many it has.
-pub(crate) fn keys_of(seg: &Segment, table: Table) -> (u16, u16)
-    ensures first { result.0 ≡ first_key seg.now.grid table }
-    ensures keys { result.1 ≡ keys seg.now.grid table }
-    ensures within { result.0 + result.1 ≤ seg.now.grid.classes }
+pub(crate) fn keys_of(segment: &Segment, table: Table) -> (u16, u16)
+    ensures first { result.0 ≡ first_key segment.now.grid table }
+    ensures keys { result.1 ≡ keys segment.now.grid table }
+    ensures within { result.0 + result.1 ≤ segment.now.grid.classes }
 {
-    let grid = seg.grid();
+    let grid = segment.grid();
     let (classes, reference) = (grid.classes(), grid.reference());
     match table {
         Table::Crossings | Table::Ranges => (1, classes - 1),
@@ -41,16 +41,16 @@ pub(crate) fn keys_of(seg: &Segment, table: Table) -> (u16, u16)
 }
 
 /// The counts of a table, from its least key on.
-pub(crate) fn fill(seg: &Segment, table: Table, first: u16, out: &mut [u64])
-    requires first { first ≡ first_key seg.now.grid table }
-    requires within { first + length out.old ≤ seg.now.grid.classes }
+pub(crate) fn fill(segment: &Segment, table: Table, first: u16, out: &mut [u64])
+    requires first { first ≡ first_key segment.now.grid table }
+    requires within { first + length out.old ≤ segment.now.grid.classes }
     ensures { (k : ℕ) → k < length out.new →
-        slice_index out.new k ≡ count_in seg.now table (first + k) }
+        slice_index out.new k ≡ count_in segment.now table (first + k) }
 {
-    let _grid = seg.grid();
+    let _grid = segment.grid();
     let mut key = first;
     for i in 0..out.len() {
-        out[i] = count_in(seg, table, key);
+        out[i] = count_in(segment, table, key);
         key += 1;
     }
 }

@@ -1,6 +1,6 @@
 ghost use Rattle.std.specs.Prelude.{◌≡◌, ◌+◌, ◌-◌, ◌≤◌, ◌<◌, ◌^◌, length, IfOk};
 ghost use Rattle.std.specs.Int.{w16, w32};
-ghost use Rattle.segment_bytes.specs.Fields.{Gives, number_at, times, list_at, both};
+ghost use Rattle.segment_bytes.specs.Fields.{Gives, number_at, entry_list, list_at, both};
 ghost use Rattle.segment_bytes.specs.Grammar.{cell_at, bin_at, back_at};
 ghost use Rattle.segment_bytes.specs.RowReading.{rows_at};
 ghost use Rattle.segment_bytes.specs.Views.{lists, row_lists, four};
@@ -20,7 +20,7 @@ fn levels_of(
     requires within { length bytes.now ≤ have }
     requires small { have < 2 ^ 63 }
     ensures reads { Gives (λ x. (x.0.items, x.1.now)) result
-        (times (number_at w16) count have bytes.now) }
+        (entry_list (number_at w16) count have bytes.now) }
     ensures rest { IfOk result (λ x. length x.1.now ≤ length bytes.now) }
 {
     let mut levels = Vec::with_capacity(alloc, usize::from(count).min(bytes.len() / 2))?;
@@ -41,7 +41,8 @@ fn cells_of(
 ) -> Result<(Vec<Cell>, &[u8]), BytesFault>
     requires within { length bytes.now ≤ have }
     requires small { have < 2 ^ 63 }
-    ensures reads { Gives (λ x. (x.0.items, x.1.now)) result (times cell_at count have bytes.now) }
+    ensures reads { Gives (λ x. (x.0.items, x.1.now)) result
+        (entry_list cell_at count have bytes.now) }
     ensures rest { IfOk result (λ x. length x.1.now ≤ length bytes.now) }
 {
     let mut cells = Vec::with_capacity(alloc, (count as usize).min(bytes.len() / 12))?;
@@ -62,7 +63,8 @@ fn bins_of(
 ) -> Result<(Vec<Bin>, &[u8]), BytesFault>
     requires within { length bytes.now ≤ have }
     requires small { have < 2 ^ 63 }
-    ensures reads { Gives (λ x. (x.0.items, x.1.now)) result (times bin_at count have bytes.now) }
+    ensures reads { Gives (λ x. (x.0.items, x.1.now)) result
+        (entry_list bin_at count have bytes.now) }
     ensures rest { IfOk result (λ x. length x.1.now ≤ length bytes.now) }
 {
     let mut bins = Vec::with_capacity(alloc, usize::from(count).min(bytes.len() / 10))?;

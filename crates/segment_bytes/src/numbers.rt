@@ -2,8 +2,8 @@ ghost use Rattle.std.specs.Prelude.{◌≡◌, ◌+◌, ◌-◌, ◌≤◌, ◌<
 ghost use Rattle.std.specs.Int.{w16, w32, w64};
 ghost use Rattle.turning_points.specs.Ends.{end_points};
 ghost use Rattle.segment_bytes.specs.Fields.{Gives, number_at};
-ghost use Rattle.segment_bytes.specs.Grammar.{bin_at, cell_at, ends_at, six_at};
-ghost use Rattle.segment_bytes.specs.Views.{six};
+ghost use Rattle.segment_bytes.specs.Grammar.{bin_at, cell_at, ends_at, name_and_counts_at};
+ghost use Rattle.segment_bytes.specs.Views.{name_and_counts};
 ghost use Rattle.segment_bytes.specs.declared.fault.BytesFault.TheVariants.{Short};
 
 use crate::fault::BytesFault;
@@ -95,7 +95,7 @@ pub(crate) fn bin_of(have: usize, bytes: &[u8]) -> Result<(Bin, &[u8]), BytesFau
 
 // The six numbers at the front.
 #[derive(Clone, Copy)]
-pub(crate) struct Six {
+pub(crate) struct NameAndCounts {
     pub(crate) gauge: u16,
     pub(crate) from: u64,
     pub(crate) to: u64,
@@ -104,11 +104,15 @@ pub(crate) struct Six {
     pub(crate) refused: u64,
 }
 
-#[tactic(auto, unfolding(crate::specs::Grammar::six_at))]
-pub(crate) fn six_of(have: usize, bytes: &[u8]) -> Result<(Six, &[u8]), BytesFault>
+#[tactic(auto, unfolding(crate::specs::Grammar::name_and_counts_at))]
+pub(crate) fn name_and_counts_of(
+    have: usize,
+    bytes: &[u8],
+) -> Result<(NameAndCounts, &[u8]), BytesFault>
     requires within { length bytes.now ≤ have }
     requires small { have < 2 ^ 63 }
-    ensures reads { Gives (λ x. (six x.0, x.1.now)) result (six_at have bytes.now) }
+    ensures reads { Gives (λ x. (name_and_counts x.0, x.1.now)) result
+        (name_and_counts_at have bytes.now) }
     ensures rest { IfOk result (λ x. length x.1.now ≤ length bytes.now) }
 {
     let (gauge, rest) = u16_at(have, bytes)?;
@@ -117,7 +121,7 @@ pub(crate) fn six_of(have: usize, bytes: &[u8]) -> Result<(Six, &[u8]), BytesFau
     let (used, rest) = u64_at(have, rest)?;
     let (missing, rest) = u64_at(have, rest)?;
     let (refused, rest) = u64_at(have, rest)?;
-    let six = Six {
+    let name_and_counts = NameAndCounts {
         gauge,
         from,
         to,
@@ -125,7 +129,7 @@ pub(crate) fn six_of(have: usize, bytes: &[u8]) -> Result<(Six, &[u8]), BytesFau
         missing,
         refused,
     };
-    Ok((six, rest))
+    Ok((name_and_counts, rest))
 }
 
 #[tactic(auto, unfolding(crate::specs::Grammar::ends_at))]

@@ -5,19 +5,25 @@ ghost use Rattle.segment_rules.specs.Parts.{parts_value};
 ghost use Rattle.segment_bytes.specs.Fields.{Gives, list_at};
 ghost use Rattle.segment_bytes.specs.Grammar.{body_at, cell_at, parts_of_body};
 ghost use Rattle.segment_bytes.specs.RowReading.{rows_at};
-ghost use Rattle.segment_bytes.specs.Views.{cells_body, four, rows_body, six};
+ghost use Rattle.segment_bytes.specs.Views.{cells_body, four, rows_body, name_and_counts};
 
 use crate::entries::{Four, RowLists, lists_of, row_lists_of};
 use crate::fault::BytesFault;
-use crate::numbers::{Six, ends_of, six_of};
+use crate::numbers::{NameAndCounts, ends_of, name_and_counts_of};
 use segment_rules::{Bins, Cells, Levels, Name, Parts};
 use std::alloc::Global;
 use tally::Cell;
 use turning_points::Ends;
 
-fn parts_of_body(front: &Six, ends: &Ends, residue: Vec<u16>, cells: Vec<Cell>, back: Four) -> Parts
+fn parts_of_body(
+    front: &NameAndCounts,
+    ends: &Ends,
+    residue: Vec<u16>,
+    cells: Vec<Cell>,
+    back: Four,
+) -> Parts
     ensures { parts_value result ≡ parts_of_body ((
-      (six front.now, end_points ends.now),
+      (name_and_counts front.now, end_points ends.now),
       (residue.items, (cells.items, four back)),
     )) }
 {
@@ -53,7 +59,7 @@ pub(crate) fn parts_of(
     ensures { Gives (λ x. (cells_body x.0, x.1.now)) result
         (body_at (list_at w32 cell_at) have bytes.now) }
 {
-    let (front, rest) = six_of(have, bytes)?;
+    let (front, rest) = name_and_counts_of(have, bytes)?;
     let (ends, rest) = ends_of(have, rest)?;
     let (lists, rest) = lists_of(alloc, have, rest)?;
     let parts = parts_of_body(&front, &ends, lists.residue, lists.cells, lists.four);
@@ -81,7 +87,7 @@ pub(crate) fn row_parts_of(
     ensures { Gives (λ x. (rows_body x.0, x.1.now)) result
         (body_at (rows_at classes) have bytes.now) }
 {
-    let (front, rest) = six_of(have, bytes)?;
+    let (front, rest) = name_and_counts_of(have, bytes)?;
     let (ends, rest) = ends_of(have, rest)?;
     let (lists, rest) = row_lists_of(alloc, have, classes, rest)?;
     let RowLists {

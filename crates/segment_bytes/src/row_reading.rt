@@ -1,6 +1,6 @@
 ghost use Rattle.std.specs.Prelude.{◌≡◌, ◌≤◌, ◌<◌, ◌+◌, ◌++◌, ◌^◌, IfOk, length, map};
 ghost use Rattle.segment_rules.specs.Tests.{wrong_bin};
-ghost use Rattle.segment_bytes.specs.Fields.{Gives, seen_as, times};
+ghost use Rattle.segment_bytes.specs.Fields.{Gives, seen_as, entry_list};
 ghost use Rattle.segment_bytes.specs.Grammar.{bin_at, row_at};
 ghost use Rattle.segment_bytes.specs.Rows.{bin_of, cell_in};
 ghost use Rattle.segment_bytes.specs.RowReading.{with_row, with_rows, no_rows, wrong_in};
@@ -32,7 +32,7 @@ fn push_cells<'a>(
     requires small { have < 2 ^ 63 }
     ensures reads { Gives (λ x. (cells.new.items, x.now)) result
         (seen_as (λ bins. cells.old.items ++ map (cell_in lo) bins)
-        (times bin_at count) have bytes.now) }
+        (entry_list bin_at count) have bytes.now) }
     ensures rest { IfOk result (λ x. length x.now ≤ length bytes.now) }
     ensures few { IfOk result (λ _.
         length cells.new.items ≤ length cells.old.items + count) }
@@ -118,7 +118,7 @@ pub(crate) fn rows_of(
     requires within { length bytes.now ≤ have }
     requires small { have < 2 ^ 63 }
     ensures reads { Gives (λ x. ((x.0.cells.items, x.0.wrong), x.1.now)) result
-        (seen_as (with_rows classes no_rows) (times row_at count) have bytes.now) }
+        (seen_as (with_rows classes no_rows) (entry_list row_at count) have bytes.now) }
     ensures rest { IfOk result (λ x. length x.1.now ≤ length bytes.now) }
 {
     // A cell takes ten bytes, so that there is a place for each.

@@ -3,7 +3,7 @@ use Rattle.std.proofs.Common.{◌≡◌, ℕ, ◌+◌, ◌<◌, ◌≤◌, List,
 use Rattle.std.specs.Prelude.{IfOk, OnOk}
 use Rattle.std.specs.Option.{option_or}
 use Rattle.std.proofs.lemmas.List.{length-take}
-use Rattle.outside.specs.Fault.{Rose}
+use Rattle.outside.specs.Fault.{CountRose}
 use Rattle.station.specs.Station.{Image, Only}
 use Rattle.calibration.specs.Gain.{GainValue}
 use Rattle.segment_rules.specs.Parts.{PartsValue}
@@ -20,10 +20,10 @@ use Rattle.segment_bytes.specs.declared.layout.Layout.{Layout}
 use Rattle.segment_bytes.specs.Sizes.{max_body}
 use Rattle.store_head.specs.Head.{HeadValue, IsHead, head_of, start_of}
 use Rattle.segment_store.specs.Image.{open_bodies, IsNext, Reads, nothing_held}
-use Rattle.store_head.specs.Judging.{gauge_fault, gauge_at, gauges_fault, head_fault, layout_in}
+use Rattle.store_head.specs.HeadFaults.{gauge_fault, gauge_at, gauges_fault, head_fault, layout_in}
 use Rattle.segment_store.specs.Held.{AreHeld, ends_of}
 use Rattle.segment_store.specs.Moments.{StoreValue, IsAt, IsOn}
-use Rattle.segment_store.specs.Resuming.{Walks, Ends}
+use Rattle.segment_store.specs.Resuming.{Walks, EndsWalkAs}
 use Rattle.segment_store.specs.Reading.{IsFound, NoDamage, StartsAt}
 use Rattle.segment_store.specs.Opening.{fault_is, resume_fault_of, IsHeadAnswer, DiskRose, WalksAs, Resumes, IsUnharmed}
 
@@ -52,7 +52,7 @@ pub head_answer_then : {X : Type 0} (r : Result X ResumeFault) (a b : Option Hea
     → IsHeadAnswer r (option_or a b)
 head_answer_then r a b e h = subst (λ o. IsHeadAnswer r o) (sym (ap (λ c. option_or c b) e)) h
 
-wider : (a b c d : ℕ) → Rose b c → a ≤ b → c ≤ d → Rose a d
+wider : (a b c d : ℕ) → CountRose b c → a ≤ b → c ≤ d → CountRose a d
 wider a b c d r e f = grind arith
 
 pub rose_wider : (X Y : Type 0) (f : ResumeFault) (a b c d : ℕ) → DiskRose {X = X} b c (Err f) → a ≤ b → c ≤ d
@@ -81,7 +81,7 @@ module _ (g : ℕ) (x : GainValue) (gains : List GainValue) (i : ℕ) (image : I
 
 module _ {X : Type 0} (lay : Layout) (s : Setup) (limit : ℕ) (image : Image) (see : X → ℕ × List ℕ) where
   pub walks_err : (index : ℕ) (stop : Stop) (see2 : ℕ × ℕ → ℕ × List ℕ)
-      → Ends see2 (Walks lay s limit image 0 (start_of s) (nothing_held s)) (Err (index, stop))
+      → EndsWalkAs see2 (Walks lay s limit image 0 (start_of s) (nothing_held s)) (Err (index, stop))
       → WalksAs lay s limit image see (Err (fault_is index stop))
   walks_err index stops.Memory see2 e = tt
   walks_err index stops.Disk see2 e = tt
@@ -178,8 +178,8 @@ module _ (lay : Layout) (s : Setup) (image : Image) (limit limit2 start start2 :
       (subst (λ n. StartsAt lay s limit2 image start2 n bodies last gate front rest) (sym e) w))
 
   pub stops_moved : (see : ℕ × ℕ → ℕ × List ℕ) (index : ℕ) (stop : Stop)
-      → Ends see (Walks lay s limit image 0 start ends) (Err (index, stop))
-      → Ends see (Walks lay s limit2 image 0 start2 ends2) (Err (index, stop))
+      → EndsWalkAs see (Walks lay s limit image 0 start ends) (Err (index, stop))
+      → EndsWalkAs see (Walks lay s limit2 image 0 start2 ends2) (Err (index, stop))
   stops_moved see index stops.Memory w = tt
   stops_moved see index stops.Disk w = tt
   stops_moved see index (stops.Damaged d) w = walks_moved (Err (index, d)) w

@@ -17,7 +17,7 @@ use Rattle.segment_rules.specs.Parts.{PartsValue}
 use Rattle.segment.specs.Segment.{SegmentValue, IsSegment}
 use Rattle.segment.specs.Parts.{parts_of}
 use Rattle.segment.specs.Figures.{halves_of}
-use Rattle.segment_store.specs.Held.{IsHeld, Joined, none, other, joined}
+use Rattle.segment_store.specs.Held.{IsHeld, JoinsPart, none, other, joined}
 use Rattle.segment_store.specs.Keeps.{Keeps, bodies_of, last_end}
 use Rattle.segment_store.specs.Moments.{IsOn, StoreValue}
 
@@ -49,7 +49,7 @@ residues_push bodies p q =
     ∙ ap (λ l. flat_map (λ (b : PartsValue). b.residue) bodies ++ l) (append-nil p.residue))
     ∙ append_assoc (flat_map (λ (b : PartsValue). b.residue) bodies) p.residue q
 
-keeps_more : (u right v : SegmentValue) (bodies : List PartsValue) → KeepsBefore u bodies → Joined u right v →
+keeps_more : (u right v : SegmentValue) (bodies : List PartsValue) → KeepsBefore u bodies → JoinsPart u right v →
     KeepsBefore v (bodies ++ parts_of right ∷ [])
 keeps_more u right v bodies k j = record {
   last = j.end ∙ sym (last_push bodies (parts_of right));

@@ -13,7 +13,7 @@ use Rattle.segment_store.specs.declared.damage.Damage.{Damage}
 use Rattle.segment_store.specs.declared.damage.Stop.{Stop}
 use Rattle.segment_store.specs.declared.damage.Stop.TheVariants as stops
 use Rattle.segment_store.specs.Image.{ends_after}
-use Rattle.segment_store.specs.Resuming.{length_at, Finds, Told, Walks, Ends, damaged, more}
+use Rattle.segment_store.specs.Resuming.{length_at, Finds, TellsAs, Walks, EndsWalkAs, damaged, more}
 use Rattle.segment_store.specs.Reading.{NoDamage}
 
 pub on_ok : {E : Type 0} (r : Result (Unit {0}) E) (P : Type 0) → is_err r ≡ false → OnOk r P → P
@@ -42,15 +42,15 @@ module _ (lay : Layout) (setup : Setup) (limit limit2 : ℕ) (image image2 : Ima
       ∙ ap (λ i. at + length_at i at + 37) same) w)
 
   pub stops_here : (W : Result (ℕ × List ℕ) (ℕ × Damage) → Type 0) (see : ℕ × ℕ → ℕ × List ℕ) (stop : Stop)
-      → Told (λ (x : SegmentValue × ℕ). parts_of x.0) (Finds lay setup limit2 image2 ends2 at) (Err stop)
-      → ((r : Result (ℕ × List ℕ) (ℕ × Damage)) → Walks lay setup limit image index at ends r → W r) → Ends see W (Err (index, stop))
+      → TellsAs (λ (x : SegmentValue × ℕ). parts_of x.0) (Finds lay setup limit2 image2 ends2 at) (Err stop)
+      → ((r : Result (ℕ × List ℕ) (ℕ × Damage)) → Walks lay setup limit image index at ends r → W r) → EndsWalkAs see W (Err (index, stop))
   stops_here W see stops.Memory t go = tt
   stops_here W see stops.Disk t go = tt
   stops_here W see (stops.Damaged d) t go = go (Err (index, d)) (damaged gate (moved (Err d) t))
 
 -- where every way to walk ends well
 pub no_damage : (last : List ℕ) (W : Result (ℕ × List ℕ) (ℕ × Damage) → Type 0) (see : ℕ × ℕ → ℕ × List ℕ) (r : Result (ℕ × ℕ) (ℕ × Stop))
-    → Ends see W r
+    → EndsWalkAs see W r
     → ((q : Result (ℕ × List ℕ) (ℕ × Damage)) → W q → (place : ℕ) × (q ≡ Ok (place, last))) → NoDamage r
 no_damage last W see (Ok x) e only = tt
 no_damage last W see (Err (index, stops.Memory)) e only = tt

@@ -1,6 +1,6 @@
 -- What a moment of making a store is, and when it is refused.
 use Rattle.std.specs.Prelude.{◌≡◌, ◌≢◌, ◌⊎◌, ◌<◌, ℕ, List, length, slice_index, Result, Ok, Err}
-use Rattle.outside.specs.Fault.{Rose}
+use Rattle.outside.specs.Fault.{CountRose}
 use Rattle.station.specs.Station.{Image, Lines, IsMoment}
 use Rattle.segment_store.specs.declared.fault.InitFault.{InitFault}
 use Rattle.segment_store.specs.declared.fault.InitFault.TheVariants.{NotEmpty, DiskFault, OutOfMemory}
@@ -29,5 +29,5 @@ Unwrites (Err OutOfMemory) P = P
 abbrev pub InitRose : {T : Type 0} → ℕ → ℕ → Result T InitFault → Type 0
 InitRose before now (Ok t) = Unit {0}
 InitRose before now (Err (NotEmpty n)) = Unit {0}
-InitRose before now (Err DiskFault) = Rose before now
+InitRose before now (Err DiskFault) = CountRose before now
 InitRose before now (Err OutOfMemory) = Unit {0}

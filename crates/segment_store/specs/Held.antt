@@ -1,5 +1,5 @@
 -- What a store holds of each gauge.
---   Joined     a segment after another was joined to it
+--   JoinsPart   a segment after another was joined to it
 --   IsHeld     the bodies of a gauge, joined in their order, from the empty segment on
 --   AreHeld    so is the segment of each gauge
 --   ends_of    where the held segments end
@@ -13,7 +13,7 @@ use Rattle.segment.specs.Figures.{SameKept}
 use Rattle.segment.specs.Parts.{parts_of}
 
 -- what joining a part that comes next promises
-pub record Joined (v right w : SegmentValue) : Type 0 where
+pub record JoinsPart (v right w : SegmentValue) : Type 0 where
   pub next : right.from ≡ v.to
   pub start : SameStart v w
   pub end : w.to ≡ right.to
@@ -27,7 +27,7 @@ pub data IsHeld (grid : GridValue) (g : ℕ) : List PartsValue → SegmentValue 
       → IsHeld grid g (bodies ++ p ∷ []) v
   joined : {bodies : List PartsValue} {v w : SegmentValue} (right : SegmentValue) → right.gauge ≡ g →
       right.grid ≡ grid → IsSegment right
-      → IsHeld grid g bodies v → Joined v right w → IsHeld grid g (bodies ++ parts_of right ∷ []) w
+      → IsHeld grid g bodies v → JoinsPart v right w → IsHeld grid g (bodies ++ parts_of right ∷ []) w
 
 abbrev pub AreHeld : GridValue → List PartsValue → List SegmentValue → Type 0
 AreHeld grid bodies held = (g : ℕ) (d : SegmentValue) → g < length held → IsHeld grid g bodies (slice_index_or held g d)

@@ -6,7 +6,7 @@
 --   IsUnharmed    no fault but of the disk and of memory
 --   DiskRose      the disk is blamed only where the count of faults rose
 use Rattle.std.specs.Prelude.{◌≡◌, ℕ, List, Option, Some, None, Result, Ok, Err}
-use Rattle.outside.specs.Fault.{Rose}
+use Rattle.outside.specs.Fault.{CountRose}
 use Rattle.station.specs.Station.{Image}
 use Rattle.calibration.specs.declared.setup.Setup.{Setup}
 use Rattle.segment_bytes.specs.declared.layout.Layout.{Layout}
@@ -18,7 +18,7 @@ use Rattle.store_head.specs.declared.fault.HeadFault.TheVariants as heads
 use Rattle.segment_store.specs.declared.fault.ResumeFault.{ResumeFault}
 use Rattle.segment_store.specs.declared.fault.ResumeFault.TheVariants.{NotAStore, Version, Differs, Damaged, DiskFault, OutOfMemory}
 use Rattle.store_head.specs.Head.{start_of}
-use Rattle.store_head.specs.Judging.{head_fault, layout_in}
+use Rattle.store_head.specs.HeadFaults.{head_fault, layout_in}
 use Rattle.segment_store.specs.Image.{nothing_held}
 use Rattle.segment_store.specs.Resuming.{Walks}
 
@@ -80,5 +80,5 @@ DiskRose before now (Err NotAStore) = Unit {0}
 DiskRose before now (Err (Version v)) = Unit {0}
 DiskRose before now (Err (Differs field kept found)) = Unit {0}
 DiskRose before now (Err (Damaged index damage)) = Unit {0}
-DiskRose before now (Err DiskFault) = Rose before now
+DiskRose before now (Err DiskFault) = CountRose before now
 DiskRose before now (Err OutOfMemory) = Unit {0}

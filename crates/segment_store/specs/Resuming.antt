@@ -4,12 +4,12 @@
 --   Checks    what bytes with a digest are, where each gauge is held up to its end
 --   Finds     what stands behind an open gate
 --   Walks     from one gate to the next, until one is closed, or a body is damaged
---   Told, Ends   what a call answered is one of these, unless memory ran out or the disk failed
+--   TellsAs, EndsWalkAs   what a call answered is one of these, unless memory ran out or the disk failed
 --   StopRose     the disk is blamed only where the count of faults rose
 use Rattle.std.specs.Prelude.{◌≡◌, ◌≢◌, ◌<◌, ◌≤◌, ◌+◌, ℕ, List, ◌++◌, length, slice_index, slice_range, Result, Ok, Err}
 use Rattle.std.specs.Int.{w32, from_be_bytes, to_be_bytes}
 use Rattle.sha2.specs.Sha256.{sha256}
-use Rattle.outside.specs.Fault.{Rose}
+use Rattle.outside.specs.Fault.{CountRose}
 use Rattle.station.specs.Station.{Image}
 use Rattle.calibration.specs.declared.setup.Setup.{Setup}
 use Rattle.segment.specs.declared.segment.join.JoinRefusal.TheVariants as refusals
@@ -93,11 +93,11 @@ pub data Walks (l : Layout) (setup : Setup) (limit : ℕ) (image : Image) : ℕ 
       Walks l setup limit image index at ends r
 
 -- what a call answered is one of these, unless memory ran out or the disk failed
-abbrev pub Told : {X : Type 0} → (X → PartsValue) → (Result PartsValue Damage → Type 0) → Result X Stop → Type 0
-Told see P (Ok p) = P (Ok (see p))
-Told see P (Err stops.Memory) = Unit {0}
-Told see P (Err stops.Disk) = Unit {0}
-Told see P (Err (stops.Damaged d)) = P (Err d)
+abbrev pub TellsAs : {X : Type 0} → (X → PartsValue) → (Result PartsValue Damage → Type 0) → Result X Stop → Type 0
+TellsAs see P (Ok p) = P (Ok (see p))
+TellsAs see P (Err stops.Memory) = Unit {0}
+TellsAs see P (Err stops.Disk) = Unit {0}
+TellsAs see P (Err (stops.Damaged d)) = P (Err d)
 
 -- a fault of decoding is a damage, but want of memory
 abbrev pub StopsAs : BytesFault → Stop → Type 0
@@ -105,17 +105,17 @@ StopsAs faults.OutOfMemory stop = stop ≡ stops.Memory
 StopsAs f stop = stop ≡ stops.Damaged (damages.Bytes f)
 
 -- how a walk ends, unless memory ran out or the disk failed
-abbrev pub Ends : {X : Type 0} → (X → ℕ × List ℕ) → (Result (ℕ × List ℕ) (ℕ × Damage) → Type 0) →
+abbrev pub EndsWalkAs : {X : Type 0} → (X → ℕ × List ℕ) → (Result (ℕ × List ℕ) (ℕ × Damage) → Type 0) →
     Result X (ℕ × Stop) → Type 0
-Ends view P (Ok x) = P (Ok (view x))
-Ends view P (Err (index, stops.Memory)) = Unit {0}
-Ends view P (Err (index, stops.Disk)) = Unit {0}
-Ends view P (Err (index, stops.Damaged d)) = P (Err (index, d))
+EndsWalkAs view P (Ok x) = P (Ok (view x))
+EndsWalkAs view P (Err (index, stops.Memory)) = Unit {0}
+EndsWalkAs view P (Err (index, stops.Disk)) = Unit {0}
+EndsWalkAs view P (Err (index, stops.Damaged d)) = P (Err (index, d))
 
 -- the disk is blamed only where the count of faults rose
 abbrev pub StopRose : ℕ → ℕ → Stop → Type 0
 StopRose before now stops.Memory = Unit {0}
-StopRose before now stops.Disk = Rose before now
+StopRose before now stops.Disk = CountRose before now
 StopRose before now (stops.Damaged d) = Unit {0}
 
 abbrev pub IsNotDisk : Stop → Type 0

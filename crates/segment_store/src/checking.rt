@@ -21,7 +21,7 @@ ghost use Rattle.segment_bytes.specs.Decoding.{IsBodyOf};
 ghost use Rattle.segment_bytes.specs.declared.layout.Layout.TheVariants.{One};
 ghost use Rattle.calibration.specs.Grid.{IsGrid};
 ghost use Rattle.segment_store.specs.Held.{ends_of};
-ghost use Rattle.segment_store.specs.Resuming.{Checks, Told, StopsAs, IsNotDisk};
+ghost use Rattle.segment_store.specs.Resuming.{Checks, TellsAs, StopsAs, IsNotDisk};
 ghost use Rattle.segment_bytes.specs.declared.layout.TheConstants.{MAX_CLASSES_ONE};
 
 use crate::damage::{Damage, Stop};
@@ -69,7 +69,7 @@ pub(crate) fn check(
 ) -> Result<Segment, Stop>
     requires narrow { layout ≡ One → setup.now.grid.classes ≤ MAX_CLASSES_ONE }
     requires gauges { length held.now ≡ length setup.now.gains }
-    ensures checks { Told parts_of
+    ensures checks { TellsAs parts_of
         (Checks layout setup.now (ends_of held.now) bytes.now kept found) result }
     ensures body { IfOk result (λ s. IsBodyOf layout setup.now.grid (parts_of s) bytes.now) }
     ensures over { IfOk result (λ s. s.grid ≡ setup.now.grid) }

@@ -20,7 +20,7 @@ ghost use Rattle.store_head.specs.Head.{
   gauge as gauge_bytes,
   gauges as gauges_bytes,
 };
-ghost use Rattle.store_head.specs.Judging.{
+ghost use Rattle.store_head.specs.HeadFaults.{
   start_fault,
   gauge_fault as gauge_fault_in,
   gauges_fault,

@@ -17,7 +17,7 @@ ghost use Rattle.segment_bytes.specs.Sizes.{max_body as longest_body};
 ghost use Rattle.segment_bytes.specs.declared.layout.Layout.{Layout as LayoutIs};
 ghost use Rattle.segment_bytes.specs.declared.layout.Layout.TheVariants.{One};
 ghost use Rattle.store_head.specs.Head.{HeadValue, IsHead, see_head, head_of, start_of};
-ghost use Rattle.store_head.specs.Judging.{head_fault, layout_in};
+ghost use Rattle.store_head.specs.HeadFaults.{head_fault, layout_in};
 ghost use Rattle.store_head.specs.declared.setup.StoreHead.{StoreHead as HeadIs};
 ghost use Rattle.segment_store.specs.Held.{AreHeld, ends_of};
 ghost use Rattle.segment_store.specs.Image.{Reads, nothing_held};

@@ -18,7 +18,7 @@ ghost use Rattle.std.specs.Prelude.{
   OnErr,
   Err,
 };
-ghost use Rattle.outside.specs.Fault.{Rose};
+ghost use Rattle.outside.specs.Fault.{CountRose};
 ghost use Rattle.station.specs.Station.{Since};
 ghost use Rattle.segment_rules.specs.Parts.{PartsValue};
 ghost use Rattle.segment.specs.Parts.{parts_of};
@@ -27,7 +27,7 @@ ghost use Rattle.segment_store.specs.Held.{AreHeld, ends_of};
 ghost use Rattle.segment_store.specs.Image.{ends_after, IsBody, IsNext};
 ghost use Rattle.segment_store.specs.Keeping.{IsKept};
 ghost use Rattle.segment_store.specs.Moments.{IsAt, InPut};
-ghost use Rattle.segment_store.specs.Putting.{Refuses, Unwritten};
+ghost use Rattle.segment_store.specs.Putting.{Refuses, LeavesUnwritten};
 ghost use Rattle.segment_store.specs.declared.fault.PutFault.TheVariants.{
   DiskFault,
   NotNext,
@@ -88,7 +88,8 @@ impl State {
         ensures told { K.tells → K.told station.new ≡ K.told station.old }
         ensures refuses { Refuses self.old.shut
             (slice_index (ends_of self.old.held) segment.now.gauge) segment.now.from result }
-        ensures unwritten { K.tells → Unwritten result (K.seen station.old) (K.seen station.new)
+        ensures unwritten { K.tells → LeavesUnwritten result (K.seen station.old)
+            (K.seen station.new)
             (K.leaves station.old) (K.leaves station.new) }
         ensures joined { (bodies : List PartsValue) →
             AreHeld self.old.head.setup.grid bodies self.old.held →
@@ -101,7 +102,7 @@ impl State {
             × (self.new.count ≡ self.old.count) × (self.new.place ≡ self.old.place)) }
         ensures kept { IsKept self.new }
         ensures disk { result ≡ Err DiskFault →
-            Rose (K.faults station.old) (K.faults station.new) × (self.new.shut ≡ true) }
+            CountRose (K.faults station.old) (K.faults station.new) × (self.new.shut ≡ true) }
         ensures shut { (result ≡ Err DiskFault) ⊎ (self.new.shut ≡ self.old.shut) }
         ensures head { self.new.head ≡ self.old.head }
         ensures layout { self.new.layout ≡ self.old.layout }

@@ -16,12 +16,12 @@ ghost use Rattle.std.specs.Prelude.{
 };
 ghost use Rattle.segment_rules.specs.Parts.{PartsValue};
 ghost use Rattle.segment.specs.Parts.{parts_of};
-ghost use Rattle.outside.specs.Fault.{Rose};
+ghost use Rattle.outside.specs.Fault.{CountRose};
 ghost use Rattle.station.specs.Station.{Image, Lines};
 ghost use Rattle.segment_bytes.specs.declared.layout.Layout.TheVariants.{One};
 ghost use Rattle.segment_store.specs.Held.{AreHeld, ends_of};
 ghost use Rattle.segment_store.specs.Quiet.{IsQuiet};
-ghost use Rattle.segment_store.specs.Resuming.{Finds, Told, Walks, Ends, length_at, StopRose};
+ghost use Rattle.segment_store.specs.Resuming.{Finds, TellsAs, Walks, EndsWalkAs, length_at, StopRose};
 ghost use Rattle.segment_store.specs.Reading.{StartsAt, NoDamage, IsFound};
 ghost use Rattle.segment_store.specs.Places.{IsStep, IsNear};
 ghost use Rattle.std.specs.Int.{w32, to_be_bytes, from_be_bytes};
@@ -64,7 +64,7 @@ fn next_body<K: Station>(
     requires at { at ≤ size }
     requires few { limit < 2 ^ 32 }
     requires room { limit ≤ length buf.old }
-    ensures finds { K.tells → Told (λ x. parts_of x.0)
+    ensures finds { K.tells → TellsAs (λ x. parts_of x.0)
         (Finds layout setup.now limit (K.seen station.old) (ends_of held.now) at) result }
     ensures gate { K.tells → IfOk result (λ x.
         x.1 ≡ at + length_at (K.seen station.old) at + 37) }
@@ -125,7 +125,7 @@ pub(crate) fn walk<K: Station>(
     requires few { limit < 2 ^ 32 }
     requires room { limit ≤ length buf.old }
     // It ends as the image says, unless memory runs out or the disk fails.
-    ensures walks { K.tells → Ends (λ x. (x.0, ends_of held.new))
+    ensures walks { K.tells → EndsWalkAs (λ x. (x.0, ends_of held.new))
         (Walks layout setup.now limit (K.seen station.old) 0 start (ends_of held.old)) result }
     // Where the image reads as bodies, nothing is damaged.
     ensures reads { K.tells → (bodies : List PartsValue) (last : List ℕ) (gate : ℕ)
@@ -169,7 +169,7 @@ fn walk_from<K: Station>(
     requires near { IsNear start (ends_of held.old) }
     requires few { limit < 2 ^ 32 }
     requires room { limit ≤ length buf.old }
-    ensures walks { K.tells → Ends (λ x. (x.0, ends_of held.new))
+    ensures walks { K.tells → EndsWalkAs (λ x. (x.0, ends_of held.new))
         (Walks layout setup.now limit (K.seen station.old) 0 start (ends_of held.old)) result }
     ensures found { IfOk result (λ x. (bodies : List PartsValue)
         × AreHeld setup.now.grid bodies held.new × (x.1 ≡ length bodies) × (K.tells →

@@ -19,7 +19,7 @@ ghost use Rattle.std.specs.Prelude.{
   OnErr,
   Err,
 };
-ghost use Rattle.outside.specs.Fault.{Rose};
+ghost use Rattle.outside.specs.Fault.{CountRose};
 ghost use Rattle.station.specs.Station.{Since};
 ghost use Rattle.segment_rules.specs.Parts.{PartsValue};
 ghost use Rattle.segment.specs.Parts.{parts_of};
@@ -29,7 +29,7 @@ ghost use Rattle.segment_store.specs.Held.{ends_of};
 ghost use Rattle.segment_store.specs.Image.{Reads, ends_after, IsNext};
 ghost use Rattle.segment_store.specs.Moments.{StoreValue, IsOn, IsThere, InPut};
 ghost use Rattle.segment_store.specs.Opening.{DiskRose, Resumes, IsUnharmed};
-ghost use Rattle.segment_store.specs.Putting.{Refuses, Unwritten};
+ghost use Rattle.segment_store.specs.Putting.{Refuses, LeavesUnwritten};
 ghost use Rattle.segment_store.specs.Quiet.{IsQuiet};
 ghost use Rattle.segment_store.specs.declared.fault.PutFault.TheVariants.{DiskFault, Shut};
 ghost use Rattle.calibration.specs.declared.limits.TheConstants.{MAX_GAUGES};
@@ -130,10 +130,11 @@ impl Store {
         // When it refuses.
         ensures refuses { Refuses self.old.shut
             (slice_index (ends_of self.old.held) segment.now.gauge) segment.now.from result }
-        ensures unwritten { K.tells → Unwritten result (K.seen station.old) (K.seen station.new)
+        ensures unwritten { K.tells → LeavesUnwritten result (K.seen station.old)
+            (K.seen station.new)
             (K.leaves station.old) (K.leaves station.new) }
         ensures disk { result ≡ Err DiskFault →
-            Rose (K.faults station.old) (K.faults station.new) × (self.new.shut ≡ true) }
+            CountRose (K.faults station.old) (K.faults station.new) × (self.new.shut ≡ true) }
         ensures shut { (result ≡ Err DiskFault) ⊎ (self.new.shut ≡ self.old.shut) }
         // What is held.
         ensures held { OnOk result (ends_of self.new.held ≡

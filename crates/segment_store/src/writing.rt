@@ -15,7 +15,7 @@ ghost use Rattle.std.specs.Prelude.{
   OnOk,
   OnErr,
 };
-ghost use Rattle.outside.specs.Fault.{Rose, HasCause};
+ghost use Rattle.outside.specs.Fault.{CountRose, HasCause};
 ghost use Rattle.station.specs.Station.{Image, Lines, Since, Overwrites, Only};
 ghost use Rattle.segment_rules.specs.Parts.{PartsValue};
 ghost use Rattle.segment_bytes.specs.Grammar.{body_of};

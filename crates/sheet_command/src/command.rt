@@ -1,5 +1,5 @@
 ghost use Rattle.std.specs.Prelude.{◌≡◌, ◌≢◌, ◌≤◌, ◌⊎◌, ◌++◌, [], ◌∷◌, Ok, length};
-ghost use Rattle.outside.specs.Fault.{Rose};
+ghost use Rattle.outside.specs.Fault.{CountRose};
 ghost use Rattle.site_config.specs.Configuration.{config_of_bytes};
 ghost use Rattle.site_config.specs.Valid.{IsConfig};
 ghost use Rattle.site_config.specs.declared.config.Config.{Config};
@@ -31,9 +31,9 @@ pub fn sheet_command<C: Source, T: Site, K: Station, O: Sink>(
     out: &mut O,
 ) -> Status
     requires home { T.out site.old ≡ 0 }
-    ensures prints { O.tells → T.tells → C.tells → (conf : Config) →
-        config_of_bytes (C.left config.old) ≡ Ok conf →
-        Prints result (sheet_of conf (T.files site.old)) (O.written out.old) (O.written out.new) }
+    ensures prints { O.tells → T.tells → C.tells → (bridge : Config) →
+        config_of_bytes (C.left config.old) ≡ Ok bridge →
+        Prints result (sheet_of bridge (T.files site.old)) (O.written out.old) (O.written out.new) }
     ensures nothing { O.tells → result ≢ Done → result ≢ WriteFault →
         O.written out.new ≡ O.written out.old }
     // At most the line of the answer is told, and the store stays.
@@ -44,22 +44,22 @@ pub fn sheet_command<C: Source, T: Site, K: Station, O: Sink>(
         (K.leaves station.old) (K.leaves station.new) }
     ensures silent { K.tells → result ≡ Done → K.told station.new ≡ K.told station.old }
     ensures last { K.tells → C.tells → result ≢ Done →
-        Rose (K.faults station.old) (K.faults station.new) ⊎ EndsIn
+        CountRose (K.faults station.old) (K.faults station.new) ⊎ EndsIn
         (fault_line result (name_by (config_of_bytes (C.left config.old)) result))
         (K.told station.new) }
     // Which answer it is, and when it is the configuration's and the files' own.
     ensures answer { T.tells → C.tells → MayAnswer
         (sheet_answer (config_of_bytes (C.left config.old)) (T.files site.old)) result }
     ensures complete { T.tells → C.tells →
-        (Rose (C.faults config.old) (C.faults config.new) → ⊥) →
-        (Rose (T.faults site.old) (T.faults site.new) → ⊥) →
-        (Rose (O.faults out.old) (O.faults out.new) → ⊥) →
+        (CountRose (C.faults config.old) (C.faults config.new) → ⊥) →
+        (CountRose (T.faults site.old) (T.faults site.new) → ⊥) →
+        (CountRose (O.faults out.old) (O.faults out.new) → ⊥) →
         (result ≡ sheet_answer (config_of_bytes (C.left config.old)) (T.files site.old)) ⊎
         (result ≡ OutOfMemory) }
     ensures named { result ≢ Usage }
-    ensures read { result ≡ ReadFault → Rose (C.faults config.old) (C.faults config.new) ⊎
-        Rose (T.faults site.old) (T.faults site.new) }
-    ensures write { result ≡ WriteFault → Rose (O.faults out.old) (O.faults out.new) }
+    ensures read { result ≡ ReadFault → CountRose (C.faults config.old) (C.faults config.new) ⊎
+        CountRose (T.faults site.old) (T.faults site.new) }
+    ensures write { result ≡ WriteFault → CountRose (O.faults out.old) (O.faults out.new) }
     // The gauges' files are asked for, in their order and each once, and no other.
     ensures asked { C.tells → AsksFirst (T.names_asked site.old) (T.names_asked site.new)
         (names_in (config_of_bytes (C.left config.old))) }
@@ -71,9 +71,9 @@ pub fn sheet_command<C: Source, T: Site, K: Station, O: Sink>(
         return Status::OutOfMemory;
     };
     match read_config(alloc, config) {
-        Ok(conf) => {
-            let status = sheet_by(alloc, &conf, site, out);
-            tell_fault(station, &mut line, status, name_in(&conf, status));
+        Ok(bridge) => {
+            let status = sheet_by(alloc, &bridge, site, out);
+            tell_fault(station, &mut line, status, name_in(&bridge, status));
             status
         }
         Err(status) => {
@@ -84,25 +84,25 @@ pub fn sheet_command<C: Source, T: Site, K: Station, O: Sink>(
 }
 
 // The same by a configuration, and nothing is told.
-fn sheet_by<T: Site, O: Sink>(alloc: Global, conf: &Config, site: &mut T, out: &mut O) -> Status
-    requires conf { IsConfig conf.now }
+fn sheet_by<T: Site, O: Sink>(alloc: Global, bridge: &Config, site: &mut T, out: &mut O) -> Status
+    requires bridge { IsConfig bridge.now }
     requires home { T.out site.old ≡ 0 }
     ensures prints { O.tells → T.tells →
-        Prints result (sheet_of conf.now (T.files site.old)) (O.written out.old)
+        Prints result (sheet_of bridge.now (T.files site.old)) (O.written out.old)
         (O.written out.new) }
     ensures nothing { O.tells → result ≢ Done → result ≢ WriteFault →
         O.written out.new ≡ O.written out.old }
-    ensures answer { T.tells → MayAnswer (answer_over conf.now (T.files site.old)) result }
+    ensures answer { T.tells → MayAnswer (answer_over bridge.now (T.files site.old)) result }
     ensures named { result ≢ Usage }
-    ensures read { result ≡ ReadFault → Rose (T.faults site.old) (T.faults site.new) }
-    ensures write { result ≡ WriteFault → Rose (O.faults out.old) (O.faults out.new) }
+    ensures read { result ≡ ReadFault → CountRose (T.faults site.old) (T.faults site.new) }
+    ensures write { result ≡ WriteFault → CountRose (O.faults out.old) (O.faults out.new) }
     ensures asked { AsksFirst (T.names_asked site.old) (T.names_asked site.new)
-        (file_names conf.now) }
+        (file_names bridge.now) }
     ensures back { T.out site.new ≡ 0 }
     ensures files { T.tells → T.files site.new ≡ T.files site.old }
 {
-    match read_recordings(alloc, conf, site) {
-        Ok(recordings) => write_sheet(alloc, conf, recordings.as_slice(), out),
+    match read_recordings(alloc, bridge, site) {
+        Ok(recordings) => write_sheet(alloc, bridge, recordings.as_slice(), out),
         Err(status) => status,
     }
 }

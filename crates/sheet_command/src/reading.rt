@@ -1,5 +1,5 @@
 ghost use Rattle.std.specs.Prelude.{◌≡◌, ◌≤◌, ℕ, [], ◌∷◌, Err, IfOk, IfErr, OnOk, drop, length, map};
-ghost use Rattle.outside.specs.Fault.{Rose};
+ghost use Rattle.outside.specs.Fault.{CountRose};
 ghost use Rattle.outside.specs.Site.{Asks};
 ghost use Rattle.recording.specs.Samples.{samples};
 ghost use Rattle.site_config.specs.Valid.{IsConfig};
@@ -23,27 +23,27 @@ use std::alloc::{AllocError, Global};
 /// Reads all recordings whole, in order of gauge.
 pub(crate) fn read_recordings<T: Site>(
     alloc: Global,
-    conf: &Config,
+    bridge: &Config,
     site: &mut T,
 ) -> Result<Vec<Samples>, Status>
-    requires conf { IsConfig conf.now }
+    requires bridge { IsConfig bridge.now }
     requires home { T.out site.old ≡ 0 }
     ensures samples { T.tells → IfOk result (λ recordings.
-        map (λ w. w.items) recordings.items ≡ recordings_of conf.now.gauges (T.files site.old)) }
+        map (λ w. w.items) recordings.items ≡ recordings_of bridge.now.gauges (T.files site.old)) }
     ensures many { IfOk result (λ recordings.
-        length recordings.items ≡ length conf.now.gauges) }
-    ensures sound { T.tells → OnOk result (answer_over conf.now (T.files site.old) ≡ Done) }
+        length recordings.items ≡ length bridge.now.gauges) }
+    ensures sound { T.tells → OnOk result (answer_over bridge.now (T.files site.old) ≡ Done) }
     ensures refused { T.tells → IfErr result
-        (MayAnswer (answer_over conf.now (T.files site.old))) }
+        (MayAnswer (answer_over bridge.now (T.files site.old))) }
     ensures kind { IfErr result IsReadStatus }
-    ensures cause { result ≡ Err ReadFault → Rose (T.faults site.old) (T.faults site.new) }
+    ensures cause { result ≡ Err ReadFault → CountRose (T.faults site.old) (T.faults site.new) }
     ensures later { T.faults site.old ≤ T.faults site.new }
     ensures asked { AsksFirst (T.names_asked site.old) (T.names_asked site.new)
-        (file_names conf.now) }
+        (file_names bridge.now) }
     ensures back { T.out site.new ≡ 0 }
     ensures files { T.tells → T.files site.new ≡ T.files site.old }
 {
-    let gauges = conf.gauges.as_slice();
+    let gauges = bridge.gauges.as_slice();
     let Ok(mut recordings) = Vec::with_capacity(alloc, gauges.len()) else {
         return Err(Status::OutOfMemory);
     };
@@ -71,7 +71,7 @@ fn read_recording<T: Site>(
     ensures refused { T.tells → IfErr result (λ status.
         MayAnswerFor number status (file_state (T.files site.old gauge.now.file))) }
     ensures kind { IfErr result IsReadStatus }
-    ensures cause { result ≡ Err ReadFault → Rose (T.faults site.old) (T.faults site.new) }
+    ensures cause { result ≡ Err ReadFault → CountRose (T.faults site.old) (T.faults site.new) }
     ensures later { T.faults site.old ≤ T.faults site.new }
     ensures asked { Asks (T.names_asked site.old) (T.names_asked site.new)
         (gauge.now.file ∷ []) }
@@ -91,9 +91,11 @@ fn read_recording<T: Site>(
 
 // All samples of a recording.
 fn read_samples<S: Source>(alloc: Global, src: &mut S) -> Result<Samples, Refusal>
-    ensures samples { S.tells → IfOk result (λ w. w.items ≡ samples (drop HEAD_LENGTH (S.left src.old))) }
+    ensures samples { S.tells →
+        IfOk result (λ w. w.items ≡ samples (drop HEAD_LENGTH (S.left src.old))) }
     ensures cause { S.tells → (gauge : ℕ) → MayGive gauge result (state_of (S.left src.old)) }
-    ensures fault { result ≡ Err refusal.ReadFault → Rose (S.faults src.old) (S.faults src.new) }
+    ensures fault { result ≡ Err refusal.ReadFault →
+        CountRose (S.faults src.old) (S.faults src.new) }
     ensures later { S.faults src.old ≤ S.faults src.new }
 {
     read_head(src)?;
@@ -113,7 +115,8 @@ fn read_body<S: Source>(alloc: Global, src: &mut S, piece: &mut [i32]) -> Result
     requires { length piece.old ≡ PIECE }
     ensures samples { S.tells → IfOk result (λ w. w.items ≡ samples (S.left src.old)) }
     ensures cause { S.tells → (gauge : ℕ) → MayGive gauge result (body_state (S.left src.old)) }
-    ensures fault { result ≡ Err refusal.ReadFault → Rose (S.faults src.old) (S.faults src.new) }
+    ensures fault { result ≡ Err refusal.ReadFault →
+        CountRose (S.faults src.old) (S.faults src.new) }
     ensures later { S.faults src.old ≤ S.faults src.new }
 {
     let mut samples = Vec::new(alloc);

@@ -1,5 +1,5 @@
 ghost use Rattle.std.specs.Prelude.{◌≡◌, map, string_bytes, IfOk, length};
-ghost use Rattle.outside.specs.Fault.{Rose};
+ghost use Rattle.outside.specs.Fault.{CountRose};
 ghost use Rattle.csv_recording.specs.Sheet.{sheet_text};
 ghost use Rattle.site_config.specs.Valid.{IsConfig};
 ghost use Rattle.site_config.specs.declared.config.Gauge.{Gauge};
@@ -16,19 +16,20 @@ use std::alloc::{AllocError, Global};
 /// Writes the sheet of these recordings, one for each gauge.
 pub(crate) fn write_sheet<O: Sink>(
     alloc: Global,
-    conf: &Config,
+    bridge: &Config,
     recordings: &[Samples],
     out: &mut O,
 ) -> Status
-    requires conf { IsConfig conf.now }
-    requires pairs { length recordings.now ≡ length conf.now.gauges }
+    requires bridge { IsConfig bridge.now }
+    requires pairs { length recordings.now ≡ length bridge.now.gauges }
     ensures prints { O.tells → Prints result
-        (sheet_text (map (λ gauge. gauge.name) conf.now.gauges) (map (λ s. s.items) recordings.now))
+        (sheet_text (map (λ gauge. gauge.name) bridge.now.gauges)
+        (map (λ s. s.items) recordings.now))
         (O.written out.old) (O.written out.new) }
     ensures kind { IsPrinting result }
-    ensures write { result ≡ WriteFault → Rose (O.faults out.old) (O.faults out.new) }
+    ensures write { result ≡ WriteFault → CountRose (O.faults out.old) (O.faults out.new) }
 {
-    let Ok(names) = names_of(alloc, conf) else {
+    let Ok(names) = names_of(alloc, bridge) else {
         return Status::OutOfMemory;
     };
     let mut text = Vec::new(alloc);
@@ -42,11 +43,11 @@ pub(crate) fn write_sheet<O: Sink>(
 }
 
 // The names of all gauges.
-fn names_of(alloc: Global, conf: &Config) -> Result<Vec<String>, AllocError>
+fn names_of(alloc: Global, bridge: &Config) -> Result<Vec<String>, AllocError>
     ensures { IfOk result (λ names. map string_bytes names.items ≡
-        map (λ gauge. gauge.name) conf.now.gauges) }
+        map (λ gauge. gauge.name) bridge.now.gauges) }
 {
-    let gauges = conf.gauges.as_slice();
+    let gauges = bridge.gauges.as_slice();
     let mut names = Vec::with_capacity(alloc, gauges.len())?;
     for gauge in gauges {
         names.push_reserved(String::from_str(alloc, gauge.name.as_str())?);

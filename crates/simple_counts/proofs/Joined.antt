@@ -10,8 +10,8 @@ use Rattle.level_crossing.specs.Extremes.{extremes_at}
 use Rattle.tables.proofs.Counting.{added_at, length_added}
 use Rattle.simple_counts.proofs.PutLists.{At}
 use Rattle.simple_counts.proofs.MeetsLists.{at_zero, at_one, at_many}
-use Rattle.turning_points.proofs.MeetEnds.{Left, left_zero, left_one, left_two, left_long, left_of, meets_ends, meets_few, meets_histories}
-use Rattle.simple_counts.proofs.Meets.{decide_join_zero, decide_join_one, decide_join_more, mark_join_zero, mark_join_one, mark_join_more, meets_agrees, length_join}
+use Rattle.turning_points.proofs.MeetEnds.{Left, left_zero, left_one, left_two, left_long, left_of, ends_of_both_ends, ends_of_both_few, ends_of_both_histories}
+use Rattle.simple_counts.proofs.Meets.{decide_join_zero, decide_join_one, decide_join_more, mark_join_zero, mark_join_one, mark_join_more, ends_of_both_agrees, length_join}
 use Rattle.simple_counts.proofs.ZeroRange.{zero_join}
 use Rattle.turning_points.specs.declared.ends.TheConstants.{MAX_POINTS}
 
@@ -23,14 +23,15 @@ joined_counted s t i j k p =
     let mt : length t.extremes ≡ s.classes = omega (arith, j.extremes) in
     let f : IsEnds s.classes t.ends = subst (λ n. IsEnds n t.ends) (sym k) j.ends in
     let l = length_join s.classes s.reference s.ends t.ends s.decided s.extremes t.decided t.extremes i.ends f i.decided i.extremes lt mt in
-    let n = meets_few s.classes s.ends t.ends i.ends f in
+    let n = ends_of_both_few s.classes s.ends t.ends i.ends f in
     record {
       classes = i.classes;
       reference = i.reference;
       decided = l.0;
       extremes = l.1;
-      ends = meets_ends s.classes s.ends t.ends i.ends f;
-      agrees = meets_agrees s.classes s.reference s.ends t.ends s.decided s.extremes t.decided t.extremes i.ends f i.decided i.extremes lt
+      ends = ends_of_both_ends s.classes s.ends t.ends i.ends f;
+      agrees = ends_of_both_agrees s.classes s.reference s.ends t.ends s.decided s.extremes t.decided t.extremes i.ends f
+          i.decided i.extremes lt
           mt i.agrees j.agrees;
       few = omega (arith, n);
       none_at_zero =
@@ -98,7 +99,7 @@ joined_counts s t u v i j k o g h =
     i.ends f g.ends h.ends x in
     let w = over_points u v ∙ sym (over_of_points u (points v) (zig_points v)) in
     record {
-      ends = meets_histories u v s.ends t.ends g.ends h.ends;
+      ends = ends_of_both_histories u v s.ends t.ends g.ends h.ends;
       decided = λ n c. omega (arith, y.decided n c, ap (decided_at n) w);
       extremes = λ n c. omega (arith, y.extremes n c, ap (extremes_at s.reference n) w);
     }

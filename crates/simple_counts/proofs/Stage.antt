@@ -1,7 +1,7 @@
 -- After the first of the two levels was put before.
 use Rattle.std.proofs.Common.{◌≡◌, ℕ, ◌+◌, ◌-◌, ◌^◌, ◌<◌, ◌≤◌, cond, leb, ◌&&◌, List, length, get_or, sum, refl, sym, ap, ◌∙◌, subst, arith}
 use Rattle.turning_points.specs.Pairs.{range}
-use Rattle.turning_points.specs.EndPoints.{EndPoints, IsEnds, ends_prepend, meets, ends_push}
+use Rattle.turning_points.specs.EndPoints.{EndPoints, IsEnds, ends_prepend, ends_of_both, ends_push}
 use Rattle.tables.specs.Tables.{sum_of_tables as both, raise}
 use Rattle.simple_counts.proofs.Joined.{joined_counted}
 use Rattle.simple_counts.proofs.Pushed.{pushed_counted}
@@ -86,7 +86,8 @@ value_same K r e e' d d' m m' p q s = cc
 
 -- the value with these parts meets the rules
 pub closed : {s t : SimpleValue} {e : EndPoints} {d m d' m' : List ℕ} → IsSimple s → IsSimple t → s.classes ≡ t.classes →
-    s.ends.points + t.ends.points ≤ MAX_POINTS → d ≡ both s.decided t.decided → m ≡ both s.extremes t.extremes → e ≡ meets s.ends t.ends →
+    s.ends.points + t.ends.points ≤ MAX_POINTS → d ≡ both s.decided t.decided → m ≡ both s.extremes t.extremes → e
+    ≡ ends_of_both s.ends t.ends →
     d' ≡ decide_join s.ends t.ends d → m' ≡ mark_join s.reference s.ends t.ends m →
     IsSimple (record { classes = s.classes; reference = s.reference; ends = e; decided = d'; extremes = m' })
 closed {s} {t} {e} {d} {m} {d'} {m'} i j k p q r x y z =

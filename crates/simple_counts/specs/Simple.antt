@@ -12,7 +12,7 @@
 use Rattle.std.specs.Prelude.{◌≡◌, ℕ, ◌+◌, ◌-◌, ◌<◌, ◌≤◌, Bool, ◌&&◌, ◌||◌, nat_lt, nat_le, ◌==◌, if◌then◌else◌, List, [], ◌∷◌, length, slice_index, sum, take, replicate}
 use Rattle.turning_points.specs.Points.{is_turn, points}
 use Rattle.turning_points.specs.Pairs.{range}
-use Rattle.turning_points.specs.EndPoints.{EndPoints, IsEnds, ends_of, ends_push, meets, no_ends, ends_prepend}
+use Rattle.turning_points.specs.EndPoints.{EndPoints, IsEnds, ends_of, ends_push, ends_of_both, no_ends, ends_prepend}
 use Rattle.level_crossing.specs.Extremes.{extremes_at, is_extreme, triples}
 use Rattle.tables.specs.Tables.{sum_of_tables, is_at, lower, raise}
 use Rattle.calibration.specs.declared.grid.TheConstants.{MIN_CLASSES, MAX_CLASSES}
@@ -115,7 +115,7 @@ abbrev pub join_of : SimpleValue → SimpleValue → SimpleValue
 join_of s t = record {
   classes = s.classes;
   reference = s.reference;
-  ends = meets s.ends t.ends;
+  ends = ends_of_both s.ends t.ends;
   decided = decide_join s.ends t.ends (sum_of_tables s.decided t.decided);
   extremes = mark_join s.reference s.ends t.ends (sum_of_tables s.extremes t.extremes);
 }

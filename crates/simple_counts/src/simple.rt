@@ -1,7 +1,7 @@
 ghost use Rattle.std.specs.Prelude.{All, List, [], ◌∷◌, ◌++◌, ◌+◌, ◌-◌, ◌<◌, ◌≡◌, ◌≤◌, ◌^◌, ◌↔◌, nat_le, length, slice_index, sum, IfOk, IsTrue, ◌&&◌, ℕ, replicate};
 ghost use Rattle.turning_points.specs.Points.{is_turn, points};
 ghost use Rattle.turning_points.specs.Pairs.{range};
-ghost use Rattle.turning_points.specs.EndPoints.{IsEnds, ends_of, ends_push, meets, no_ends, ends_prepend};
+ghost use Rattle.turning_points.specs.EndPoints.{IsEnds, ends_of, ends_push, ends_of_both, no_ends, ends_prepend};
 ghost use Rattle.turning_points.specs.Ends.{end_points};
 ghost use Rattle.level_crossing.specs.Crossings.{Crosses, CrossesPoints, IsCrossings, no_crossings};
 ghost use Rattle.tables.specs.Tables.{table_with_bins, raise};
@@ -264,7 +264,7 @@ impl Simple {
         requires room { self.old.ends.points + right.now.ends.points ≤ MAX_POINTS }
         ensures grid { (self.new.classes ≡ self.old.classes)
             × (self.new.reference ≡ self.old.reference) }
-        ensures ends { self.new.ends ≡ meets self.old.ends right.now.ends }
+        ensures ends { self.new.ends ≡ ends_of_both self.old.ends right.now.ends }
         ensures rules { IsSimple self.new }
         ensures histories { (u v : List ℕ) → Counts self.old u → Counts right.now v →
             Counts self.new (u ++ v) }

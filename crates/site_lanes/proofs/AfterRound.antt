@@ -6,7 +6,7 @@ use Rattle.std.proofs.Common.{◌≡◌, ◌≢◌, ◌≤◌, ◌<◌, ⊎_elim
 use Rattle.std.specs.Prelude.{nat_le, nat_lt, ◌==◌, if◌then◌else◌}
 use Rattle.std.proofs.lemmas.Bool.Decides.{nat_tests}
 use Rattle.std.proofs.lemmas.List.{length-drop, drop-drop}
-use Rattle.outside.specs.Fault.{Rose}
+use Rattle.outside.specs.Fault.{CountRose}
 use Rattle.recording.specs.Samples.{samples, torn_bytes}
 use Rattle.recording.specs.declared.TheConstants.{MAX_SAMPLES}
 use Rattle.recording.proofs.SampleLists.{length-samples, samples-drop, torn_bytes-drop}
@@ -17,7 +17,7 @@ use Rattle.lane_ends.proofs.Giving.{more_or_not}
 use Rattle.lane_loans.specs.declared.lane.Lane.{Lane}
 use Rattle.round_making.specs.Round.{LaneDone}
 use Rattle.recorded.specs.Recorded.{Recorded}
-use Rattle.site_lanes.specs.Lanes.{Stood, IsLane, IsFaulty}
+use Rattle.site_lanes.specs.Lanes.{SourceStands, IsLane, IsFaulty}
 use Rattle.lemmas.proofs.Outcomes.{same_some}
 
 -- the rule of how a lane ends, over plain numbers
@@ -44,7 +44,7 @@ module _ (block : ℕ) (w : List ℤ) (torn : ℕ) (before after : List ℕ) (fr
   there : length (samples before) ≡ length w - from
   there = ap length is ∙ length-drop from w
 
-  stood_after : (end : End) → Gives (16 * block) (MAX_SAMPLES - from) before (to - from) end after → Stood w torn after to end
+  stood_after : (end : End) → Gives (16 * block) (MAX_SAMPLES - from) before (to - from) end after → SourceStands w torn after to end
   stood_after More gives =
       let room = when_more (16 * block) (MAX_SAMPLES - from) (length (samples before)) (torn_bytes before) (gives.ends (λ e. absurd cc)) in
       let to_is : to ≡ from + 16 * block = grind (arith, room, gives.count (λ e. absurd cc), on) in
@@ -84,14 +84,14 @@ module _ (block : ℕ) (w : List ℤ) (torn : ℕ) (before after : List ℕ) (fr
   within_after gives = omega (arith, gives.few.2, there, le, on)
 
 stood_same : (w : List ℤ) (torn : ℕ) {left left2 : List ℕ} {at at2 : ℕ} {end end2 : End} → left2 ≡ left → at2 ≡ at → end2 ≡ end
-    → Stood w torn left at end → Stood w torn left2 at2 end2
+    → SourceStands w torn left at end → SourceStands w torn left2 at2 end2
 stood_same w torn {left} {left2} {at} {at2} {end} {end2} l a e s =
-    subst (λ (x : List ℕ). Stood w torn x at2 end2) (sym l)
-    (subst (λ (x : ℕ). Stood w torn left x end2) (sym a) (subst (λ (x : End). Stood w torn left at x) (sym e) s))
+    subst (λ (x : List ℕ). SourceStands w torn x at2 end2) (sym l)
+    (subst (λ (x : ℕ). SourceStands w torn left x end2) (sym a) (subst (λ (x : End). SourceStands w torn left at x) (sym e) s))
 
-pub stood_more : (w : List ℤ) (torn : ℕ) (left : List ℕ) (at : ℕ) {end : End} → end ≡ More → Stood w torn left at end
-    → Stood w torn left at More
-stood_more w torn left at e s = subst (λ (x : End). Stood w torn left at x) e s
+pub stood_more : (w : List ℤ) (torn : ℕ) (left : List ℕ) (at : ℕ) {end : End} → end ≡ More → SourceStands w torn left at end
+    → SourceStands w torn left at More
+stood_more w torn left at e s = subst (λ (x : End). SourceStands w torn left at x) e s
 
 module _ {C : Type 0} {tells : Type 0} {left : C → List ℕ} {faults : C → ℕ} {block : ℕ} {old new : Lane C}
     (done : LaneDone tells left faults block old new) (limit : old.at ≤ MAX_SAMPLES) where
@@ -118,12 +118,12 @@ module _ {C : Type 0} {tells : Type 0} {left : C → List ℕ} {faults : C → �
   pub faulty_after : IsFaulty faults old → IsFaulty faults new
   faulty_after was = λ src has ends. ⊎_elim
       (λ more. rose_some (faults done.before) (faults src)
-      (subst (λ (x : C). Rose (faults done.before) (faults x)) (same_some done.has has) (done.cause more ends)))
+      (subst (λ (x : C). CountRose (faults done.before) (faults x)) (same_some done.has has) (done.cause more ends)))
       (λ other. let e = done.ended other in
       subst (λ (x : C). 0 < faults x) (sym (same_some has done.has ∙ e.2)) (was done.before done.was (sym e.1 ∙ ends)))
       (more_or_not old.end)
     where
-      rose_some : (a b : ℕ) → Rose a b → 0 < b
+      rose_some : (a b : ℕ) → CountRose a b → 0 < b
       rose_some a b rose = grind (arith, rose)
 
   -- a lane that went on to a sound end, or to the end of the round
@@ -141,7 +141,7 @@ module _ {C : Type 0} {tells : Type 0} {left : C → List ℕ} {faults : C → �
       (more_or_not old.end)
     where
       at_end : (w : List ℤ) (torn : ℕ) (left : List ℕ) (at : ℕ) (end : End) → end ≢ More → end ≢ ReadFault → end ≢ TooLong
-          → Stood w torn left at end → at ≡ length w
+          → SourceStands w torn left at end → at ≡ length w
       at_end w torn left at More other read long s = absurd (other refl)
       at_end w torn left at Ended other read long s = s.0
       at_end w torn left at (Torn b) other read long s = s.0

@@ -1,5 +1,5 @@
 -- How a lane stands to its recording.
---   Stood        where its source stands
+--   SourceStands   where its source stands
 --   IsLane       so it does, and has its gauge's gain; AreLanes: each of a list
 --   AreReady     each lane may be read in a round
 --   AreHeldTo    so it may, and each gauge is held up to where its lane is
@@ -15,19 +15,20 @@ use Rattle.lane_loans.specs.Lent.{CanRound}
 use Rattle.recorded.specs.Recorded.{Recorded}
 
 -- of these samples, and so many bytes behind them, `at` samples were read, and the source has `left`
-abbrev pub Stood : List ℤ → ℕ → List ℕ → ℕ → End → Type 0
-Stood w torn left at More = (samples left ≡ drop at w) × (torn_bytes left ≡ torn)
-Stood w torn left at Ended = (at ≡ length w) × (torn ≡ 0)
-Stood w torn left at (Torn bytes) = (at ≡ length w) × (torn ≡ bytes) × (0 < bytes)
-Stood w torn left at ReadFault = Unit {0}
-Stood w torn left at TooLong = (at ≡ MAX_SAMPLES) × (MAX_SAMPLES < length w)
+abbrev pub SourceStands : List ℤ → ℕ → List ℕ → ℕ → End → Type 0
+SourceStands w torn left at More = (samples left ≡ drop at w) × (torn_bytes left ≡ torn)
+SourceStands w torn left at Ended = (at ≡ length w) × (torn ≡ 0)
+SourceStands w torn left at (Torn bytes) = (at ≡ length w) × (torn ≡ bytes) × (0 < bytes)
+SourceStands w torn left at ReadFault = Unit {0}
+SourceStands w torn left at TooLong = (at ≡ MAX_SAMPLES) × (MAX_SAMPLES < length w)
 
 -- what is said of the recording holds where the source tells
 pub record IsLane {C : Type 0} (tells : Type 0) (left : C → List ℕ) (r : Recorded) (g : ℕ)
     (lane : Lane C) : Type 0 where
   pub gain : (d : GainValue) → lane.gain ≡ slice_index_or r.setup.gains g d
   pub within : tells → lane.at ≤ length (r.samples g)
-  pub stood : tells → (src : C) → lane.src ≡ Some src → Stood (r.samples g) (r.torn g) (left src) lane.at lane.end
+  pub stood : tells → (src : C) → lane.src ≡ Some src →
+      SourceStands (r.samples g) (r.torn g) (left src) lane.at lane.end
 
 abbrev pub AreLanes : {C : Type 0} → Type 0 → (C → List ℕ) → Recorded → List (Lane C) → Type 0
 AreLanes {C} tells left r lanes =

@@ -16,7 +16,7 @@ ghost use Rattle.std.specs.Prelude.{
   ◌∷◌,
 };
 ghost use Rattle.std.specs.List.{All};
-ghost use Rattle.outside.specs.Fault.{Rose};
+ghost use Rattle.outside.specs.Fault.{CountRose};
 ghost use Rattle.outside.specs.Site.{Asks};
 ghost use Rattle.lane_loans.specs.Lent.{CanRound};
 ghost use Rattle.segment_store.specs.Held.{ends_of};
@@ -47,35 +47,35 @@ fn status_of(gauge: u16, fault: OpenFault) -> Status
 
 // Opens the recording of a gauge behind what is held of it. Where it refuses, its source goes back.
 fn open_lane<T: Site>(
-    conf: &Config,
+    bridge: &Config,
     store: &Store,
     gauge: u16,
     site: &mut T,
 ) -> Result<Lane<T::Src>, Status>
-    requires conf { IsConfig conf.now }
-    requires known { gauge < length conf.now.gauges }
-    requires held { length store.now.held ≡ length conf.now.gauges }
-    requires heads { length store.now.head.heads ≡ length conf.now.gauges }
+    requires bridge { IsConfig bridge.now }
+    requires known { gauge < length bridge.now.gauges }
+    requires held { length store.now.held ≡ length bridge.now.gauges }
+    requires heads { length store.now.head.heads ≡ length bridge.now.gauges }
     requires few { T.out site.old < MAX_SOURCES_OUT }
     ensures lane { T.tells → IfOk result (IsLane T.Src.tells T.Src.left
-        (recordings conf.now (T.files site.old)) gauge) }
+        (recordings bridge.now (T.files site.old)) gauge) }
     ensures held { IfOk result (λ l. CanRound gauge l
         × (slice_index (ends_of store.now.held) gauge ≡ l.at)) }
     ensures source { IfOk result HasSource }
     ensures new { IfOk result IsNew }
     ensures source_tells { T.tells → OnOk result T.Src.tells }
-    ensures answer { T.tells → GaugeAnswers conf.now store.now.head.heads
+    ensures answer { T.tells → GaugeAnswers bridge.now store.now.head.heads
         (slice_index (ends_of store.now.held)) (T.files site.old) gauge result }
     ensures opening { IfErr result IsOpening }
     ensures one_more { OnOk result (T.out site.new ≡ T.out site.old + 1) }
     ensures no_more { OnErr result (T.out site.new ≡ T.out site.old) }
     ensures asked { Asks (T.names_asked site.old) (T.names_asked site.new)
-        (file_of conf.now gauge ∷ []) }
+        (file_of bridge.now gauge ∷ []) }
     ensures files { T.tells → T.files site.new ≡ T.files site.old }
-    ensures cause { result ≡ Err ReadFault → Rose (T.faults site.old) (T.faults site.new) }
+    ensures cause { result ≡ Err ReadFault → CountRose (T.faults site.old) (T.faults site.new) }
     ensures later { T.faults site.old ≤ T.faults site.new }
 {
-    let name = conf.gauges.as_slice()[gauge as usize].file.as_str();
+    let name = bridge.gauges.as_slice()[gauge as usize].file.as_str();
     let mut src = match site.fetch(name) {
         Ok(src) => src,
         Err(_) => return Err(Status::ReadFault),
@@ -88,7 +88,7 @@ fn open_lane<T: Site>(
     ) {
         Ok(()) => Ok(Lane {
             gauge,
-            gain: conf.setup.gains.as_slice()[gauge as usize],
+            gain: bridge.setup.gains.as_slice()[gauge as usize],
             at: held,
             end: End::More,
             src: Some(src),
@@ -103,36 +103,36 @@ fn open_lane<T: Site>(
 /// Puts a lane for each gauge into `lanes`, behind what is held of it. Where it refuses, the lanes
 /// that were opened before are left in `lanes`, so that the caller gives them back.
 pub fn open_lanes<T: Site>(
-    conf: &Config,
+    bridge: &Config,
     store: &Store,
     site: &mut T,
     lanes: &mut Vec<Lane<T::Src>>,
 ) -> Result<(), Status>
-    requires conf { IsConfig conf.now }
-    requires held { length store.now.held ≡ length conf.now.gauges }
-    requires heads { length store.now.head.heads ≡ length conf.now.gauges }
+    requires bridge { IsConfig bridge.now }
+    requires held { length store.now.held ≡ length bridge.now.gauges }
+    requires heads { length store.now.head.heads ≡ length bridge.now.gauges }
     requires home { T.out site.old ≡ 0 }
     requires none { vec_len lanes.old ≡ 0 }
-    requires room { length conf.now.gauges ≤ vec_capacity lanes.old }
-    ensures all { OnOk result (vec_len lanes.new ≡ length conf.now.gauges) }
+    requires room { length bridge.now.gauges ≤ vec_capacity lanes.old }
+    ensures all { OnOk result (vec_len lanes.new ≡ length bridge.now.gauges) }
     ensures lanes { T.tells → AreLanes T.Src.tells T.Src.left
-        (recordings conf.now (T.files site.old)) lanes.new.items }
+        (recordings bridge.now (T.files site.old)) lanes.new.items }
     ensures held { AreHeldTo (ends_of store.now.held) lanes.new.items }
     ensures sources { All HasSource lanes.new.items }
     ensures new { All IsNew lanes.new.items }
     ensures source_tells { T.tells → OnOk result T.Src.tells }
-    ensures answer { T.tells → OpenAnswers conf.now store.now.head.heads
+    ensures answer { T.tells → OpenAnswers bridge.now store.now.head.heads
         (slice_index (ends_of store.now.held)) (T.files site.old) result }
     ensures opening { IfErr result IsOpening }
     ensures out { T.out site.new ≡ vec_len lanes.new }
     ensures asked { AsksFirst (T.names_asked site.old) (T.names_asked site.new)
-        (file_names conf.now) }
+        (file_names bridge.now) }
     ensures files { T.tells → T.files site.new ≡ T.files site.old }
-    ensures cause { result ≡ Err ReadFault → Rose (T.faults site.old) (T.faults site.new) }
+    ensures cause { result ≡ Err ReadFault → CountRose (T.faults site.old) (T.faults site.new) }
     ensures later { T.faults site.old ≤ T.faults site.new }
 {
-    for gauge in 0..conf.gauges.as_slice().len() {
-        match open_lane(conf, store, gauge as u16, site) {
+    for gauge in 0..bridge.gauges.as_slice().len() {
+        match open_lane(bridge, store, gauge as u16, site) {
             Ok(lane) => lanes.push_reserved(lane),
             Err(status) => return Err(status),
         }

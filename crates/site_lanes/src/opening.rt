@@ -1,5 +1,5 @@
 ghost use Rattle.std.specs.Prelude.{◌≡◌, ◌≤◌, Some, Err, OnOk};
-ghost use Rattle.outside.specs.Fault.{Rose};
+ghost use Rattle.outside.specs.Fault.{CountRose};
 ghost use Rattle.recorded.specs.Recorded.{body_in};
 ghost use Rattle.site_lanes.specs.Opening.{fault_of, open_fault, IsOpeningAnswer, IsBehind};
 ghost use Rattle.site_lanes.specs.declared.opening.OpenFault.TheVariants.{ReadFault};
@@ -52,7 +52,7 @@ pub fn open_recording<S: Source>(src: &mut S, kept: &Head, held: u64) -> Result<
     ensures ok { S.tells → OnOk result
         (IsBehind held (body_in (Some (S.left src.old))) (S.left src.new)) }
     ensures answer { S.tells → IsOpeningAnswer (fault_of kept.now held (S.left src.old)) result }
-    ensures cause { result ≡ Err ReadFault → Rose (S.faults src.old) (S.faults src.new) }
+    ensures cause { result ≡ Err ReadFault → CountRose (S.faults src.old) (S.faults src.new) }
     ensures later { S.faults src.old ≤ S.faults src.new }
 {
     let head = match read_head(src) {

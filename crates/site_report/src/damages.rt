@@ -29,60 +29,61 @@ use sn_curve::Detail;
 const PLACES: usize = MAX_CLASSES as usize;
 
 /// Sums the damage of each detail by the held segment of its gauge.
-pub fn sum_damages(conf: &Config, store: &Store, damages: &mut Vec<Frac>)
-    requires conf { IsConfig conf.now }
-    requires setup { store.now.head.setup ≡ conf.now.setup }
-    requires gauges { length store.now.held ≡ length conf.now.gauges }
-    requires room { length conf.now.details ≤ vec_capacity damages.old }
-    ensures damages { (figures : ℕ → Figures) → Agrees conf.now store.now.held figures →
-        AreDamages conf.now figures damages.new.items }
-    ensures one_each { length damages.new.items ≡ length conf.now.details }
+pub fn sum_damages(bridge: &Config, store: &Store, damages: &mut Vec<Frac>)
+    requires bridge { IsConfig bridge.now }
+    requires setup { store.now.head.setup ≡ bridge.now.setup }
+    requires gauges { length store.now.held ≡ length bridge.now.gauges }
+    requires room { length bridge.now.details ≤ vec_capacity damages.old }
+    ensures damages { (figures : ℕ → Figures) → Agrees bridge.now store.now.held figures →
+        AreDamages bridge.now figures damages.new.items }
+    ensures one_each { length damages.new.items ≡ length bridge.now.details }
     ensures few { All (λ damage. damage.whole ≤ MAX_HALF_CYCLES) damages.new.items }
     ensures room { vec_capacity damages.new ≡ vec_capacity damages.old }
 {
     damages.clear();
-    for detail in conf.details.as_slice() {
+    for detail in bridge.details.as_slice() {
         let held = store.held(detail.gauge);
         damages.push_reserved(damage_by(&detail.detail, held));
     }
 }
 
 // The damage of a detail by a segment's half units.
-fn damage_by(detail: &Detail, seg: &Segment) -> Frac
-    ensures damage { (figures : Figures) → Agree seg.now.grid (figures_of seg.now) figures →
-        IsDamageOf seg.now.grid detail.now figures.half_units result }
+fn damage_by(detail: &Detail, segment: &Segment) -> Frac
+    ensures damage { (figures : Figures) → Agree segment.now.grid (figures_of segment.now) figures →
+        IsDamageOf segment.now.grid detail.now figures.half_units result }
     ensures few { result.whole ≤ MAX_HALF_CYCLES }
-    ensures rules { IsSegment seg.now }
+    ensures rules { IsSegment segment.now }
 {
-    let grid = seg.grid();
+    let grid = segment.grid();
     let mut places = [0; PLACES];
     damage_over(
         detail,
         &grid,
-        seg,
+        segment,
         &mut places[..usize::from(grid.classes())],
     )
 }
 
 // `halves` is room for the half units at each range.
-fn damage_over(detail: &Detail, grid: &Grid, seg: &Segment, halves: &mut [u64]) -> Frac
-    requires grid { grid.now ≡ seg.now.grid }
-    requires places { length halves.old ≡ seg.now.grid.classes }
-    ensures damage { (figures : Figures) → Agree seg.now.grid (figures_of seg.now) figures →
-        IsDamageOf seg.now.grid detail.now figures.half_units result }
+fn damage_over(detail: &Detail, grid: &Grid, segment: &Segment, halves: &mut [u64]) -> Frac
+    requires grid { grid.now ≡ segment.now.grid }
+    requires places { length halves.old ≡ segment.now.grid.classes }
+    ensures damage { (figures : Figures) → Agree segment.now.grid (figures_of segment.now) figures →
+        IsDamageOf segment.now.grid detail.now figures.half_units result }
     ensures few { result.whole ≤ MAX_HALF_CYCLES }
 {
-    put_halves(seg, halves);
+    put_halves(segment, halves);
     damage(detail, grid, halves)
 }
 
 // The half units at each range, which together are no more than the points.
-fn put_halves(seg: &Segment, halves: &mut [u64])
-    requires places { length halves.old ≡ seg.now.grid.classes }
-    ensures halves { AreHalves (figures_of seg.now).half_units seg.now.grid.classes halves.new }
+fn put_halves(segment: &Segment, halves: &mut [u64])
+    requires places { length halves.old ≡ segment.now.grid.classes }
+    ensures halves { AreHalves (figures_of segment.now).half_units
+        segment.now.grid.classes halves.new }
     ensures few { sum halves.new ≤ MAX_HALF_CYCLES }
 {
     // What a segment keeps: its rules.
-    let _grid = seg.grid();
-    seg.half_units(halves);
+    let _grid = segment.grid();
+    segment.half_units(halves);
 }

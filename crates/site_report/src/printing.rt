@@ -18,25 +18,25 @@ use site_config::Config;
 
 /// Prints the text of each gauge.
 pub fn print_gauges<O: Sink>(
-    conf: &Config,
+    bridge: &Config,
     store: &Store,
     page: &mut Page,
     out: &mut O,
 ) -> Result<(), Failed>
-    requires conf { IsConfig conf.now }
-    requires setup { store.now.head.setup ≡ conf.now.setup }
-    requires gauges { length store.now.held ≡ length conf.now.gauges }
-    requires classes { conf.now.setup.grid.classes ≤ page.old.classes }
-    ensures ok { O.tells → (figures : ℕ → Figures) → Agrees conf.now store.now.held figures →
-        OnOk result (O.written out.new ≡ O.written out.old ++ gauge_lines conf.now figures) }
-    ensures failed { O.tells → (figures : ℕ → Figures) → Agrees conf.now store.now.held figures →
+    requires bridge { IsConfig bridge.now }
+    requires setup { store.now.head.setup ≡ bridge.now.setup }
+    requires gauges { length store.now.held ≡ length bridge.now.gauges }
+    requires classes { bridge.now.setup.grid.classes ≤ page.old.classes }
+    ensures ok { O.tells → (figures : ℕ → Figures) → Agrees bridge.now store.now.held figures →
+        OnOk result (O.written out.new ≡ O.written out.old ++ gauge_lines bridge.now figures) }
+    ensures failed { O.tells → (figures : ℕ → Figures) → Agrees bridge.now store.now.held figures →
         OnErr result (AppendsPrefix (O.written out.old) (O.written out.new)
-        (gauge_lines conf.now figures)) }
+        (gauge_lines bridge.now figures)) }
     ensures cause { HasCause (O.faults out.old) (O.faults out.new) result }
     ensures classes { page.new.classes ≡ page.old.classes }
 {
-    for gauge in 0..conf.gauges.as_slice().len() {
-        let name = conf.gauges.as_slice()[gauge].name.as_str();
+    for gauge in 0..bridge.gauges.as_slice().len() {
+        let name = bridge.gauges.as_slice()[gauge].name.as_str();
         print_gauge(name, store.held(gauge as u16), page, out)?;
     }
     Ok(())
@@ -45,49 +45,50 @@ pub fn print_gauges<O: Sink>(
 // Prints the text of a gauge by its segment.
 fn print_gauge<O: Sink>(
     name: &str,
-    seg: &Segment,
+    segment: &Segment,
     page: &mut Page,
     out: &mut O,
 ) -> Result<(), Failed>
     requires name { length name.now ≤ MAX_NAME_BYTES }
-    requires classes { seg.now.grid.classes ≤ page.old.classes }
-    ensures ok { O.tells → (figures : Figures) → Agree seg.now.grid (figures_of seg.now) figures →
+    requires classes { segment.now.grid.classes ≤ page.old.classes }
+    ensures ok { O.tells → (figures : Figures) →
+        Agree segment.now.grid (figures_of segment.now) figures →
         OnOk result (O.written out.new ≡
-        O.written out.old ++ texts.gauge_text seg.now.grid name.now figures) }
+        O.written out.old ++ texts.gauge_text segment.now.grid name.now figures) }
     ensures failed { O.tells → (figures : Figures) →
-        Agree seg.now.grid (figures_of seg.now) figures →
+        Agree segment.now.grid (figures_of segment.now) figures →
         OnErr result (AppendsPrefix (O.written out.old) (O.written out.new)
-        (texts.gauge_text seg.now.grid name.now figures)) }
+        (texts.gauge_text segment.now.grid name.now figures)) }
     ensures cause { HasCause (O.faults out.old) (O.faults out.new) result }
     ensures classes { page.new.classes ≡ page.old.classes }
-    ensures rules { IsSegment seg.now }
+    ensures rules { IsSegment segment.now }
 {
     // What a segment keeps: its rules.
-    let _grid = seg.grid();
-    gauge_text(page, name, seg);
+    let _grid = segment.grid();
+    gauge_text(page, name, segment);
     out.put(page.bytes())
 }
 
 /// Prints the line of each detail, whose damages are in order.
 pub fn print_details<O: Sink>(
-    conf: &Config,
+    bridge: &Config,
     damages: &[Frac],
     page: &mut Page,
     out: &mut O,
 ) -> Result<(), Failed>
-    requires conf { IsConfig conf.now }
-    requires one_each { length damages.now ≡ length conf.now.details }
+    requires bridge { IsConfig bridge.now }
+    requires one_each { length damages.now ≡ length bridge.now.details }
     requires few { All (λ damage. damage.whole ≤ MAX_HALF_CYCLES) damages.now }
     ensures ok { O.tells → OnOk result (O.written out.new ≡
-        O.written out.old ++ detail_lines conf.now conf.now.details damages.now) }
+        O.written out.old ++ detail_lines bridge.now bridge.now.details damages.now) }
     ensures failed { O.tells → OnErr result (AppendsPrefix (O.written out.old)
-        (O.written out.new) (detail_lines conf.now conf.now.details damages.now)) }
+        (O.written out.new) (detail_lines bridge.now bridge.now.details damages.now)) }
     ensures cause { HasCause (O.faults out.old) (O.faults out.new) result }
     ensures classes { page.new.classes ≡ page.old.classes }
 {
     for i in 0..damages.len() {
-        let detail = &conf.details.as_slice()[i];
-        let gauge = conf.gauges.as_slice()[usize::from(detail.gauge)]
+        let detail = &bridge.details.as_slice()[i];
+        let gauge = bridge.gauges.as_slice()[usize::from(detail.gauge)]
             .name
             .as_str();
         detail_text(page, detail.name.as_str(), gauge, &damages[i]);

@@ -34,13 +34,13 @@ impl Model for Report {
 
 impl Report {
     /// Takes all memory that printing the report of this site takes.
-    pub fn new(alloc: Global, conf: &Config) -> Result<Report, AllocError>
-        requires { IsConfig conf.now }
-        ensures { IfOk result (HasRoom conf.now) }
+    pub fn new(alloc: Global, bridge: &Config) -> Result<Report, AllocError>
+        requires { IsConfig bridge.now }
+        ensures { IfOk result (HasRoom bridge.now) }
     {
         Ok(Report {
-            page: Page::new(alloc, conf.setup.grid.classes())?,
-            damages: Vec::with_capacity(alloc, conf.details.as_slice().len())?,
+            page: Page::new(alloc, bridge.setup.grid.classes())?,
+            damages: Vec::with_capacity(alloc, bridge.details.as_slice().len())?,
         })
     }
 
@@ -48,26 +48,26 @@ impl Report {
     /// Takes no memory. Where a put fails, a front of the report is written.
     pub fn print<O: Sink>(
         &mut self,
-        conf: &Config,
+        bridge: &Config,
         store: &Store,
         out: &mut O,
     ) -> Result<(), Failed>
-        requires conf { IsConfig conf.now }
-        requires setup { store.now.head.setup ≡ conf.now.setup }
-        requires gauges { length store.now.held ≡ length conf.now.gauges }
-        requires room { HasRoom conf.now self.old }
-        ensures ok { O.tells → (figures : ℕ → Figures) → Agrees conf.now store.now.held figures →
-            OnOk result ((text : List ℕ) × IsReport conf.now figures text ×
+        requires bridge { IsConfig bridge.now }
+        requires setup { store.now.head.setup ≡ bridge.now.setup }
+        requires gauges { length store.now.held ≡ length bridge.now.gauges }
+        requires room { HasRoom bridge.now self.old }
+        ensures ok { O.tells → (figures : ℕ → Figures) → Agrees bridge.now store.now.held figures →
+            OnOk result ((text : List ℕ) × IsReport bridge.now figures text ×
             (O.written out.new ≡ O.written out.old ++ text)) }
         ensures failed { O.tells → (figures : ℕ → Figures) →
-            Agrees conf.now store.now.held figures →
-            OnErr result ((text : List ℕ) × IsReport conf.now figures text ×
+            Agrees bridge.now store.now.held figures →
+            OnErr result ((text : List ℕ) × IsReport bridge.now figures text ×
             AppendsPrefix (O.written out.old) (O.written out.new) text) }
         ensures cause { HasCause (O.faults out.old) (O.faults out.new) result }
-        ensures room { HasRoom conf.now self.new }
+        ensures room { HasRoom bridge.now self.new }
     {
-        sum_damages(conf, store, &mut self.damages);
-        print_gauges(conf, store, &mut self.page, out)?;
-        print_details(conf, &self.damages, &mut self.page, out)
+        sum_damages(bridge, store, &mut self.damages);
+        print_gauges(bridge, store, &mut self.page, out)?;
+        print_details(bridge, &self.damages, &mut self.page, out)
     }
 }

@@ -5,7 +5,7 @@ use Rattle.station.specs.declared.call.Call.{Call}
 use Rattle.station.specs.declared.call.Call.TheVariants.{Other, Write, Sync, Tell}
 use Rattle.station.specs.Station.{Image, Lines, IsTornWrite}
 use Rattle.station.specs.Moments.{may_leave-seen}
-use Rattle.station.specs.Calls.{Disk, Past, fresh_disk, disk_after, disk_of, lines_of, bytes_of, have_no_gap, DiskMayLeave, MayLeave, HadMoment, Passes, Pushed}
+use Rattle.station.specs.Calls.{Disk, Past, fresh_disk, disk_after, disk_of, lines_of, bytes_of, have_no_gap, DiskMayLeave, MayLeave, HadMoment, Passes, PushesCall}
 use Rattle.station.proofs.Moments.{same_torn}
 
 abbrev pub past : Image → List Call → Past
@@ -83,22 +83,22 @@ pub goes_to : (image : Image) (calls later : List Call) (call : Call) → later 
 goes_to image calls later call is = subst (λ l. Passes (past image calls) (past image l)) (sym is) (goes image calls call)
 
 -- a call that changes nothing, remembered or not
-pub disk_other : (r : Bool) (image : Image) (calls later : List Call) → Pushed r calls later Other
+pub disk_other : (r : Bool) (image : Image) (calls later : List Call) → PushesCall r calls later Other
     → disk_of (fresh_disk image) later ≡ disk_of (fresh_disk image) calls
 disk_other true image calls later is = ap (λ l. disk_of (fresh_disk image) l) is ∙ disk_push calls (fresh_disk image) Other
 disk_other false image calls later is = ap (λ l. disk_of (fresh_disk image) l) is
 
-pub lines_other : (r : Bool) (calls later : List Call) → Pushed r calls later Other → lines_of later ≡ lines_of calls
+pub lines_other : (r : Bool) (calls later : List Call) → PushesCall r calls later Other → lines_of later ≡ lines_of calls
 lines_other true calls later is = ap lines_of is ∙ lines_push calls Other ∙ append-nil (lines_of calls)
 lines_other false calls later is = ap lines_of is
 
-pub placed_other : (r : Bool) (image : Image) (calls later : List Call) → Pushed r calls later Other
+pub placed_other : (r : Bool) (image : Image) (calls later : List Call) → PushesCall r calls later Other
     → have_no_gap (fresh_disk image) calls ≡ true → have_no_gap (fresh_disk image) later ≡ true
 placed_other true image calls later is placed = ap (λ l. have_no_gap (fresh_disk image) l) is
     ∙ placed_push calls (fresh_disk image) Other placed refl
 placed_other false image calls later is placed = ap (λ l. have_no_gap (fresh_disk image) l) is ∙ placed
 
-pub time_of : (r : Bool) (image : Image) (calls later : List Call) (call : Call) → Pushed r calls later call
+pub time_of : (r : Bool) (image : Image) (calls later : List Call) (call : Call) → PushesCall r calls later call
     → Passes (past image calls) (past image later)
 time_of true image calls later call is = goes_to image calls later call is
 time_of false image calls later call is = subst (λ l. Passes (past image calls) (past image l)) (sym is) (stays image calls)
@@ -121,21 +121,21 @@ module _ (image : Image) (calls later : List Call) where
   images_at call is c has = subst (λ d. DiskMayLeave d c) (disk_at call is) has
 
 -- a sync, remembered or not
-pub seen_sync : (r : Bool) (image : Image) (calls later : List Call) → Pushed r calls later Sync
+pub seen_sync : (r : Bool) (image : Image) (calls later : List Call) → PushesCall r calls later Sync
     → (disk_of (fresh_disk image) later).seen ≡ (disk_of (fresh_disk image) calls).seen
 seen_sync true image calls later is = ap (λ (d : Disk). d.seen) (disk_at image calls later Sync is)
 seen_sync false image calls later is = ap (λ l. (disk_of (fresh_disk image) l).seen) is
 
-pub lines_sync : (r : Bool) (calls later : List Call) → Pushed r calls later Sync → lines_of later ≡ lines_of calls
+pub lines_sync : (r : Bool) (calls later : List Call) → PushesCall r calls later Sync → lines_of later ≡ lines_of calls
 lines_sync true calls later is = lines_at [] calls later Sync is ∙ append-nil (lines_of calls)
 lines_sync false calls later is = ap lines_of is
 
-pub placed_sync : (r : Bool) (image : Image) (calls later : List Call) → Pushed r calls later Sync
+pub placed_sync : (r : Bool) (image : Image) (calls later : List Call) → PushesCall r calls later Sync
     → have_no_gap (fresh_disk image) calls ≡ true → have_no_gap (fresh_disk image) later ≡ true
 placed_sync true image calls later is placed = placed_at image calls later Sync is placed refl
 placed_sync false image calls later is placed = ap (λ l. have_no_gap (fresh_disk image) l) is ∙ placed
 
-pub only_sync : (r : Bool) (image : Image) (calls later : List Call) → Pushed r calls later Sync → IsTrue r → (c : Image)
+pub only_sync : (r : Bool) (image : Image) (calls later : List Call) → PushesCall r calls later Sync → IsTrue r → (c : Image)
     → MayLeave (past image later) c → c ≡ (disk_of (fresh_disk image) calls).seen
 only_sync true image calls later is told c has = images_at image calls later Sync is c has
 only_sync false image calls later is told c has = absurd (false_is_not told)
@@ -144,13 +144,13 @@ only_sync false image calls later is told c has = absurd (false_is_not told)
     false_is_not h = cc
 
 pub none_new_sync : (r : Bool) (image : Image) (calls later : List Call) → have_no_gap (fresh_disk image) calls ≡ true
-    → Pushed r calls later Sync → (c : Image) → MayLeave (past image later) c → MayLeave (past image calls) c
+    → PushesCall r calls later Sync → (c : Image) → MayLeave (past image later) c → MayLeave (past image calls) c
 none_new_sync true image calls later placed is c has =
     subst (λ f. MayLeave (past image calls) f) (sym (images_at image calls later Sync is c has)) (may_leave-seen (past image calls) placed)
 none_new_sync false image calls later placed is c has = subst (λ l. MayLeave (past image l) c) is has
 
 pub follows_write : (r : Bool) (image : Image) (calls later : List Call) (at : ℕ) (copy : Vec ℕ Global)
-    → Pushed r calls later (Write at copy) → (c : Image) → MayLeave (past image later) c → (d : Image) × MayLeave (past image calls) d
+    → PushesCall r calls later (Write at copy) → (c : Image) → MayLeave (past image later) c → (d : Image) × MayLeave (past image calls) d
     × IsTornWrite at (length copy.items) d c
 follows_write true image calls later at copy is c has = images_at image calls later (Write at copy) is c has
 follows_write false image calls later at copy is c has =

@@ -93,9 +93,9 @@ Passes old new =
     Elapses (length old.calls) (length new.calls) (HadMoment old) (HadMoment new) (told_lines new) (MayLeave new)
 
 -- a call was recorded, or there was no memory
-abbrev pub Pushed : Bool → List Call → List Call → Call → Type 0
-Pushed true old new call = new ≡ old ++ call ∷ []
-Pushed false old new call = new ≡ old
+abbrev pub PushesCall : Bool → List Call → List Call → Call → Type 0
+PushesCall true old new call = new ≡ old ++ call ∷ []
+PushesCall false old new call = new ≡ old
 
 -- what a read gives: the first image, until something was written
 abbrev pub current : Bool → Image → Image → Image

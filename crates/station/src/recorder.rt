@@ -1,5 +1,5 @@
 ghost use Rattle.std.specs.Prelude.{◌≡◌, ◌≤◌, ◌+◌, ◌++◌, [], ◌∷◌, true, length, IsTrue, IsFalse, IfOk, OnOk};
-ghost use Rattle.station.specs.Calls.{current, disk_of, fresh_disk, lines_of, bytes_of, have_no_gap, Pushed};
+ghost use Rattle.station.specs.Calls.{current, disk_of, fresh_disk, lines_of, bytes_of, have_no_gap, PushesCall};
 ghost use Rattle.station.specs.Station.{Overwrites, IsTornWrite, Follows, Only, NoNew};
 
 use crate::Call;
@@ -149,7 +149,7 @@ impl Recorder {
 
 // Records a call. False where there is no memory.
 fn push_call(calls: &mut Vec<Call>, call: Call) -> bool
-    ensures { Pushed result calls.old.items calls.new.items call }
+    ensures { PushesCall result calls.old.items calls.new.items call }
 {
     match calls.push(call) {
         Ok(()) => true,

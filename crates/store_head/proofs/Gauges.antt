@@ -10,7 +10,7 @@ use Rattle.recording.specs.declared.head.Head.{Head}
 use Rattle.store_head.specs.declared.fault.HeadFault.{HeadFault}
 use Rattle.recording.specs.Head.{IsRecorded}
 use Rattle.store_head.specs.Head.{HeadValue, front, gauge, gauges, head_of, start_of}
-use Rattle.store_head.specs.Judging.{gauge_fault, gauge_at, gauges_fault}
+use Rattle.store_head.specs.HeadFaults.{gauge_fault, gauge_at, gauges_fault}
 
 -- what stands between two parts
 pub slice_range-middle : (x y z : List ℕ) (i j : ℕ) → i ≡ length x → j ≡ length x + length y → slice_range (x ++ (y ++ z)) i j ≡ y

@@ -1,3 +1,3 @@
-pub mod Judged
+pub mod Faultless
 pub mod Gauges
 pub mod Passing

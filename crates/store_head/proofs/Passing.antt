@@ -10,10 +10,10 @@ use Rattle.segment_bytes.specs.declared.layout.Layout.{Layout}
 use Rattle.segment_bytes.specs.declared.layout.Layout.TheVariants.{One, Two}
 use Rattle.recording.specs.Head.{IsRecorded}
 use Rattle.store_head.specs.Head.{HeadValue, IsHead, version_of, front, numbers, gauge, gauges, head_of, start_of}
-use Rattle.store_head.specs.Judging.{front_fault, gauge_fault, gauge_at, gauges_fault, head_fault, layout_in, recording_in}
+use Rattle.store_head.specs.HeadFaults.{front_fault, gauge_fault, gauge_at, gauges_fault, head_fault, layout_in, recording_in}
 use Rattle.lemmas.proofs.Outcomes.{none_both}
 use Rattle.segment_rules.proofs.Chosen.{kept_none}
-use Rattle.store_head.proofs.Judged.{is_front, is_gauge}
+use Rattle.store_head.proofs.Faultless.{is_front, is_gauge}
 use Rattle.store_head.proofs.Gauges.{slice_range-middle}
 
 gauge_long : (h : Head) (x : GainValue) → IsRecorded h → length (gauge h x) ≡ 40

@@ -1,7 +1,7 @@
 ghost use Rattle.std.specs.Prelude.{◌≡◌, ◌≤◌, ◌+◌, length, pos};
 ghost use Rattle.std.specs.Int.{w16, w32, w64};
 ghost use Rattle.std.specs.Int.RustNames.{FitsSigned};
-ghost use Rattle.store_head.specs.Judging.{number, signed_number};
+ghost use Rattle.store_head.specs.HeadFaults.{number, signed_number};
 
 // The numbers at a place, big-endian.
 pub(crate) fn u16_in(bytes: &[u8], at: usize) -> u16

@@ -3,11 +3,11 @@ use Rattle.std.proofs.Common.{◌≡◌, ◌≢◌, ℕ, suc, ◌+◌, ◌<◌, 
 use Rattle.std.proofs.lemmas.Bool.{cases_eq, cases_lt}
 use Rattle.std.proofs.lemmas.Bool.Decides.{nat_tests}
 use Rattle.turning_points.specs.Points.{IsBetween, IsTurn}
-use Rattle.turning_points.specs.EndPoints.{EndPoints, ends_of, last_point, last_but_one, IsEnds, ends_prepend, meets, ends_push, only_point}
+use Rattle.turning_points.specs.EndPoints.{EndPoints, ends_of, last_point, last_but_one, IsEnds, ends_prepend, ends_of_both, ends_push, only_point}
 use Rattle.turning_points.proofs.Zigzag.{IsZigzag, two, inner, zig_tail, ends_differ}
 use Rattle.turning_points.proofs.Put.{put_equal, put_second, put_turn, put_two, put_first}
 use Rattle.turning_points.proofs.PutEnds.{case_of}
-use Rattle.turning_points.proofs.MeetEnds.{Left as Parted, left_zero, left_one, left_two, left_long, left_of, twice, meets_zero, meets_one, meets_two, meets_long, long}
+use Rattle.turning_points.proofs.MeetEnds.{Left as Parted, left_zero, left_one, left_two, left_long, left_of, twice, ends_of_both_zero, ends_of_both_one, ends_of_both_two, ends_of_both_long, long}
 
 put_one_same : (x p : ℕ) → p ≡ x → ends_prepend p (only_point x) ≡ only_point x
 put_one_same x p e = put_equal p (only_point x) (omega arith) e
@@ -99,68 +99,69 @@ differs_passed : (p l x : ℕ) → IsBetween p l x → l ≢ x
 differs_passed p l x t = grind arith
 
 module _ (K x : ℕ) (e : EndPoints) (i : IsEnds K e) where
-  long_same : 3 ≤ e.points → e.last ≡ x → ends_push x e ≡ meets e (only_point x)
+  long_same : 3 ≤ e.points → e.last ≡ x → ends_push x e ≡ ends_of_both e (only_point x)
   long_same h q = end_same x e (omega arith) q ∙ five_same _ _ _ _ _ _ _ _ _ _ (omega arith) refl refl refl q
-      ∙ sym (meets_long e (only_point x) h ∙ ap (long e) (twice_same x e.before e.last (i.differ (omega arith)).1 q))
+      ∙ sym (ends_of_both_long e (only_point x) h ∙ ap (long e) (twice_same x e.before e.last (i.differ (omega arith)).1 q))
 
-  two_same : e.points ≡ 2 → e.last ≡ x → ends_push x e ≡ meets e (only_point x)
+  two_same : e.points ≡ 2 → e.last ≡ x → ends_push x e ≡ ends_of_both e (only_point x)
   two_same h q = let t = i.two h in end_same x e (omega arith) q ∙ five_same _ _ _ _ _ _ _ _ _ _ h (sym t.0) (sym t.1 ∙ q) refl q
-      ∙ sym (meets_two e (only_point x) h ∙ twice_same x e.before e.last (i.differ (omega arith)).1 q)
+      ∙ sym (ends_of_both_two e (only_point x) h ∙ twice_same x e.before e.last (i.differ (omega arith)).1 q)
 
-  long_turn : 3 ≤ e.points → IsTurn e.before e.last x → ends_push x e ≡ meets e (only_point x)
+  long_turn : 3 ≤ e.points → IsTurn e.before e.last x → ends_push x e ≡ ends_of_both e (only_point x)
   long_turn h t = end_turn x e (omega arith) t ∙ five_same _ _ _ _ _ _ _ _ _ _ (omega arith) refl refl refl refl
-      ∙ sym (meets_long e (only_point x) h ∙ ap (long e) (twice_turn x e.before e.last (differs_turn e.before e.last x t) t))
+      ∙ sym (ends_of_both_long e (only_point x) h ∙ ap (long e) (twice_turn x e.before e.last (differs_turn e.before e.last x t) t))
 
-  two_turn : e.points ≡ 2 → IsTurn e.before e.last x → ends_push x e ≡ meets e (only_point x)
+  two_turn : e.points ≡ 2 → IsTurn e.before e.last x → ends_push x e ≡ ends_of_both e (only_point x)
   two_turn h t = let w = i.two h in end_turn x e (omega arith) t ∙ five_same _ _ _ _ _ _ _ _ _ _ (omega arith) (sym w.0) (sym w.1) refl refl
-      ∙ sym (meets_two e (only_point x) h ∙ twice_turn x e.before e.last (differs_turn e.before e.last x t) t)
+      ∙ sym (ends_of_both_two e (only_point x) h ∙ twice_turn x e.before e.last (differs_turn e.before e.last x t) t)
 
-  long_passed : 3 ≤ e.points → IsBetween e.before e.last x → ends_push x e ≡ meets e (only_point x)
+  long_passed : 3 ≤ e.points → IsBetween e.before e.last x → ends_push x e ≡ ends_of_both e (only_point x)
   long_passed h t = end_passed x e h t ∙ five_same _ _ _ _ _ _ _ _ _ _ (omega arith) refl refl refl refl
-      ∙ sym (meets_long e (only_point x) h ∙ ap (long e) (twice_passed x e.before e.last (differs_passed e.before e.last x t) t))
+      ∙ sym (ends_of_both_long e (only_point x) h ∙ ap (long e) (twice_passed x e.before e.last (differs_passed e.before e.last x t) t))
 
-  two_passed : e.points ≡ 2 → IsBetween e.before e.last x → ends_push x e ≡ meets e (only_point x)
+  two_passed : e.points ≡ 2 → IsBetween e.before e.last x → ends_push x e ≡ ends_of_both e (only_point x)
   two_passed h t = let w = i.two h in end_two x e h t ∙ five_same _ _ _ _ _ _ _ _ _ _ refl (sym w.0) refl refl refl
-      ∙ sym (meets_two e (only_point x) h ∙ twice_passed x e.before e.last (differs_passed e.before e.last x t) t)
+      ∙ sym (ends_of_both_two e (only_point x) h ∙ twice_passed x e.before e.last (differs_passed e.before e.last x t) t)
 
-  push_by : PushCase x e → ends_push x e ≡ meets e (only_point x)
-  push_by (on_none h) = end_none x e h ∙ sym (meets_zero e (only_point x) h)
+  push_by : PushCase x e → ends_push x e ≡ ends_of_both e (only_point x)
+  push_by (on_none h) = end_none x e h ∙ sym (ends_of_both_zero e (only_point x) h)
   push_by (on_one_same h q) = let w = i.one h in end_same x e (omega arith) q ∙ five_same _ _ _ _ _ _ _ _ _ _ h (sym w.2 ∙ q) w.0 w.1 q
-      ∙ sym (meets_one e (only_point x) h ∙ put_one_same x e.last q)
+      ∙ sym (ends_of_both_one e (only_point x) h ∙ put_one_same x e.last q)
   push_by (on_one_other h q) = let w = i.one h in end_one x e h q ∙ five_same _ _ _ _ _ _ _ _ _ _ refl (sym w.2) refl refl refl
-      ∙ sym (meets_one e (only_point x) h ∙ put_one_other x e.last q)
+      ∙ sym (ends_of_both_one e (only_point x) h ∙ put_one_other x e.last q)
   push_by (on_same h q) = by_two (cases_lt e.points 3)
     where
-      by_two : ((e.points < 3) ⊎ (3 ≤ e.points)) → ends_push x e ≡ meets e (only_point x)
+      by_two : ((e.points < 3) ⊎ (3 ≤ e.points)) → ends_push x e ≡ ends_of_both e (only_point x)
       by_two (inl s) = two_same (omega arith) q
       by_two (inr s) = long_same s q
   push_by (on_turn h q) = by_two (cases_lt e.points 3)
     where
-      by_two : ((e.points < 3) ⊎ (3 ≤ e.points)) → ends_push x e ≡ meets e (only_point x)
+      by_two : ((e.points < 3) ⊎ (3 ≤ e.points)) → ends_push x e ≡ ends_of_both e (only_point x)
       by_two (inl s) = two_turn (omega arith) q
       by_two (inr s) = long_turn s q
   push_by (on_passed h q) = by_two (cases_lt e.points 3)
     where
-      by_two : ((e.points < 3) ⊎ (3 ≤ e.points)) → ends_push x e ≡ meets e (only_point x)
+      by_two : ((e.points < 3) ⊎ (3 ≤ e.points)) → ends_push x e ≡ ends_of_both e (only_point x)
       by_two (inl s) = two_passed (omega arith) q
       by_two (inr s) = long_passed s q
 
   -- one level more is a part of that one level
-  pub push_is_meets : ends_push x e ≡ meets e (only_point x)
+  pub push_is_meets : ends_push x e ≡ ends_of_both e (only_point x)
   push_is_meets = push_by (push_case K x e i)
 
-meets_none_by : (K : ℕ) (e f : EndPoints) → IsEnds K e → IsEnds K f → Parted e.points → (meets e f).points ≡ 0 →
+ends_of_both_none_by : (K : ℕ) (e f : EndPoints) → IsEnds K e → IsEnds K f → Parted e.points → (ends_of_both e f).points ≡ 0 →
     (e.points ≡ 0) × (f.points ≡ 0)
-meets_none_by K e f i j (left_zero h) q = let o = ap (λ g. g.points) (meets_zero e f h) in (h, omega arith)
-meets_none_by K e f i j (left_one h) q =
-    let o = ap (λ g. g.points) (meets_one e f h) in let p = put_first e.last f (case_of K e.last f j) in absurd (omega arith)
-meets_none_by K e f i j (left_two h) q =
-    let o = ap (λ g. g.points) (meets_two e f h) in let p = (twice K e f i j (omega arith)).many in absurd (omega arith)
-meets_none_by K e f i j (left_long h) q =
-    let o = ap (λ g. g.points) (meets_long e f h) in let p = (twice K e f i j (omega arith)).many in absurd (omega arith)
+ends_of_both_none_by K e f i j (left_zero h) q = let o = ap (λ g. g.points) (ends_of_both_zero e f h) in (h, omega arith)
+ends_of_both_none_by K e f i j (left_one h) q =
+    let o = ap (λ g. g.points) (ends_of_both_one e f h) in let p = put_first e.last f (case_of K e.last f j) in absurd (omega arith)
+ends_of_both_none_by K e f i j (left_two h) q =
+    let o = ap (λ g. g.points) (ends_of_both_two e f h) in let p = (twice K e f i j (omega arith)).many in absurd (omega arith)
+ends_of_both_none_by K e f i j (left_long h) q =
+    let o = ap (λ g. g.points) (ends_of_both_long e f h) in let p = (twice K e f i j (omega arith)).many in absurd (omega arith)
 
-pub meets_none : (K : ℕ) (e f : EndPoints) → IsEnds K e → IsEnds K f → (meets e f).points ≡ 0 → (e.points ≡ 0) × (f.points ≡ 0)
-meets_none K e f i j q = meets_none_by K e f i j (left_of e.points) q
+pub ends_of_both_none : (K : ℕ) (e f : EndPoints) → IsEnds K e → IsEnds K f → (ends_of_both e f).points ≡ 0 → (e.points ≡ 0)
+    × (f.points ≡ 0)
+ends_of_both_none K e f i j q = ends_of_both_none_by K e f i j (left_of e.points) q
 
 last_below : (k : ℕ) (l : List ℕ) → 1 ≤ k → ((i : ℕ) → i < length l → get_or l i 0 < k) → last_point l < k
 last_below k [] o h = omega arith

@@ -4,7 +4,7 @@
 --   only_point    those of one point
 --   IsEnds        those of some list of points of levels below k
 --   ends_prepend  the ends after a level was put before
---   meets         the ends of two histories, one after the other
+--   ends_of_both   the ends of two histories, one after the other
 --   ends_push     the ends after a level was put behind
 use Rattle.std.specs.Prelude.{◌≡◌, ◌≢◌, ℕ, ◌+◌, ◌-◌, ◌<◌, ◌≤◌, ◌⊎◌, ◌==◌, if◌then◌else◌, List, [], ◌∷◌, length, slice_index}
 use Rattle.turning_points.specs.Points.{is_turn, IsTurn}
@@ -75,8 +75,8 @@ ends_prepend x e =
 
 -- the ends of two histories, one after the other: the last point of the first and then its last but one are put before
 -- those of the second
-abbrev pub meets : EndPoints → EndPoints → EndPoints
-meets e f =
+abbrev pub ends_of_both : EndPoints → EndPoints → EndPoints
+ends_of_both e f =
     let g = ends_prepend e.last f in
     let h = ends_prepend e.before g in
     if e.points == 0 then f

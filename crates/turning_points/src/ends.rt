@@ -1,6 +1,6 @@
 ghost use Rattle.std.specs.Prelude.{◌≡◌, ℕ, List, ◌++◌, ◌+◌, ◌<◌, ◌≤◌, ◌^◌, length};
 ghost use Rattle.turning_points.specs.Points.{points};
-ghost use Rattle.turning_points.specs.EndPoints.{ends_of, ends_push, meets, no_ends, ends_prepend};
+ghost use Rattle.turning_points.specs.EndPoints.{ends_of, ends_push, ends_of_both, no_ends, ends_prepend};
 ghost use Rattle.turning_points.specs.Ends.{end_points};
 ghost use Rattle.turning_points.specs.declared.ends.TheConstants.{MAX_POINTS};
 
@@ -143,7 +143,7 @@ pub fn put_behind(level: u16, ends: &Ends) -> Ends
 // The left's last two points, put before the right one by one.
 fn met(left: &Ends, right: &Ends) -> Ends
     requires few { left.now.points + right.now.points ≤ MAX_POINTS }
-    ensures { end_points result ≡ meets (end_points left.now) (end_points right.now) }
+    ensures { end_points result ≡ ends_of_both (end_points left.now) (end_points right.now) }
 {
     if left.points == 0 {
         return *right;
@@ -168,7 +168,7 @@ fn met(left: &Ends, right: &Ends) -> Ends
 /// The ends of two histories, one after the other.
 pub fn join_ends(left: &Ends, right: &Ends) -> Ends
     requires few { left.now.points + right.now.points ≤ MAX_POINTS }
-    ensures meets { end_points result ≡ meets (end_points left.now) (end_points right.now) }
+    ensures meets { end_points result ≡ ends_of_both (end_points left.now) (end_points right.now) }
     ensures histories { (u v : List ℕ) → end_points left.now ≡ ends_of (points u) →
         end_points right.now ≡ ends_of (points v) → end_points result ≡ ends_of (points (u ++ v)) }
 {

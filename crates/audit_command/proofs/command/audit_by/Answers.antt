@@ -10,7 +10,7 @@ use Rattle.status.specs.declared.status.Status.TheVariants.{Done, OutOfMemory}
 use Rattle.report_command.specs.Printing.{held_of}
 use Rattle.report_command.proofs.Ended.{refused_complete}
 use Rattle.audit_command.specs.Answers.{HeldAnswers}
-use Rattle.audit_command.specs.Audited.{Finds, HasKept, IsItem, IsStanding}
+use Rattle.audit_command.specs.Audited.{FindsDifference, HasKept, IsItem, IsStanding}
 use Rattle.audit_command.proofs.Audits.{finds_by}
 use Rattle.audit_command.proofs.Ended.{answers_by, answers_over, auditing_no_disk, finds_of, held_complete, items_keep, items_stand, read_as}
 use Rattle.audit_command.proofs.AnswerKinds.{audited_named, refused_named}
@@ -20,16 +20,16 @@ use Rattle.audit_command.proofs.command.audit_by.Goals as goal
 pub returns-in-Ok-clause-answer : goal.returns-in-Ok-clause-answer
 returns-in-Ok-clause-answer g c = λ tells shows.
     let k = g.K.Station in
-    let conf = c.args.conf.now in
+    let bridge = c.args.bridge.now in
     let s = c.in-Ok.store in
     let there = c.in-Ok.ensures.on tells in
     let same = (c.resume.ensures.quiet tells).seen_same in
-    let many : length s.held ≡ length conf.gauges = c.in-Ok.ensures.gauges ∙ c.requires.conf.gains in
-    answers_over conf (k.seen c.args.station.now) (g.T.Site.files c.args.site.now)
-    (read_as s there.0 (k.seen c.resume.new.station) (k.leaves c.resume.new.station) there.1 conf.setup (k.seen c.args.station.now)
+    let many : length s.held ≡ length bridge.gauges = c.in-Ok.ensures.gauges ∙ c.requires.bridge.gains in
+    answers_over bridge (k.seen c.args.station.now) (g.T.Site.files c.args.site.now)
+    (read_as s there.0 (k.seen c.resume.new.station) (k.leaves c.resume.new.station) there.1 bridge.setup (k.seen c.args.station.now)
     c.in-Ok.ensures.setup same)
     c.audit_held.result c.audit_held.ensures.kind
-    (answers_by conf s.head.heads (IsItem s.held) (HasKept there.0) (ends_of s.held) (g.T.Site.files c.args.site.now)
+    (answers_by bridge s.head.heads (IsItem s.held) (HasKept there.0) (ends_of s.held) (g.T.Site.files c.args.site.now)
     (λ h v lt is. items_keep s there.0 (k.seen c.resume.new.station) (k.leaves c.resume.new.station) there.1 h v
     (omega (arith, lt, many)) is)
     c.audit_held.result c.audit_held.ensures.kind (c.audit_held.ensures.answer shows))
@@ -37,33 +37,34 @@ returns-in-Ok-clause-answer g c = λ tells shows.
 pub returns-in-Ok-clause-stands : goal.returns-in-Ok-clause-stands
 returns-in-Ok-clause-stands g c = λ tells shows w n h.
     let k = g.K.Station in
-    let conf = c.args.conf.now in
+    let bridge = c.args.bridge.now in
     let s = c.in-Ok.store in
     let files = g.T.Site.files c.args.site.now in
     let found = c.in-Ok.ensures.reads tells h.head h.bodies n h.of_setup h.reads in
-    let many : length s.held ≡ length conf.gauges = c.in-Ok.ensures.gauges ∙ c.requires.conf.gains in
-    subst (λ (e : List ℕ). Finds conf (IsStanding conf (held_of w e)) (held_of (recordings conf files).samples e)
+    let many : length s.held ≡ length bridge.gauges = c.in-Ok.ensures.gauges ∙ c.requires.bridge.gains in
+    subst (λ (e : List ℕ). FindsDifference bridge (IsStanding bridge (held_of w e)) (held_of (recordings bridge files).samples e)
     c.audit_held.result) found.1
-    (finds_by conf (IsItem s.held) (IsStanding conf (held_of w (ends_of s.held)))
-    (held_of (recordings conf files).samples (ends_of s.held))
-    (λ j v lt is. items_stand s h.bodies (k.seen c.resume.new.station) (k.leaves c.resume.new.station) found.2 conf w c.in-Ok.ensures.setup
+    (finds_by bridge (IsItem s.held) (IsStanding bridge (held_of w (ends_of s.held)))
+    (held_of (recordings bridge files).samples (ends_of s.held))
+    (λ j v lt is. items_stand s h.bodies (k.seen c.resume.new.station) (k.leaves c.resume.new.station) found.2 bridge w
+    c.in-Ok.ensures.setup
     h.stand j v (omega (arith, lt, many)) is)
-    c.audit_held.result (finds_of conf s.head.heads (IsItem s.held) (ends_of s.held) files c.audit_held.result c.audit_held.ensures.kind
+    c.audit_held.result (finds_of bridge s.head.heads (IsItem s.held) (ends_of s.held) files c.audit_held.result c.audit_held.ensures.kind
     (c.audit_held.ensures.answer shows)))
 
 pub returns-in-Ok-clause-complete : goal.returns-in-Ok-clause-complete
 returns-in-Ok-clause-complete g c = λ tells shows is site station out.
     let k = g.K.Station in
-    let conf = c.args.conf.now in
+    let bridge = c.args.bridge.now in
     let s = c.in-Ok.store in
     let files = g.T.Site.files c.args.site.now in
     let r = is.0 in
     let found = c.in-Ok.ensures.reads tells r.head r.bodies r.ends r.of_setup r.reads in
-    let many : length s.held ≡ length conf.gauges = c.in-Ok.ensures.gauges ∙ c.requires.conf.gains in
-    held_complete conf r.head.heads r.bodies r.ends files c.audit_held.result
-    (subst (λ (x : HeadValue). HeldAnswers conf x.heads (HasKept r.bodies) r.ends files c.audit_held.result) found.0
-    (subst (λ (e : List ℕ). HeldAnswers conf s.head.heads (HasKept r.bodies) e files c.audit_held.result) found.1
-    (answers_by conf s.head.heads (IsItem s.held) (HasKept r.bodies) (ends_of s.held) files
+    let many : length s.held ≡ length bridge.gauges = c.in-Ok.ensures.gauges ∙ c.requires.bridge.gains in
+    held_complete bridge r.head.heads r.bodies r.ends files c.audit_held.result
+    (subst (λ (x : HeadValue). HeldAnswers bridge x.heads (HasKept r.bodies) r.ends files c.audit_held.result) found.0
+    (subst (λ (e : List ℕ). HeldAnswers bridge s.head.heads (HasKept r.bodies) e files c.audit_held.result) found.1
+    (answers_by bridge s.head.heads (IsItem s.held) (HasKept r.bodies) (ends_of s.held) files
     (λ j v lt item. items_keep s r.bodies (k.seen c.resume.new.station) (k.leaves c.resume.new.station) found.2 j v
     (omega (arith, lt, many)) item)
     c.audit_held.result c.audit_held.ensures.kind (c.audit_held.ensures.answer shows))))
@@ -89,4 +90,4 @@ returns-in-Err-clause-named g c = refused_named c.status_of.result c.in-Err.faul
 
 pub returns-in-Err-clause-asked : goal.returns-in-Err-clause-asked
 returns-in-Err-clause-asked g c = none_is_first (g.T.Site.names_asked c.args.site.now) (g.T.Site.names_asked c.args.site.now)
-    (file_names c.args.conf.now) (λ names has. has)
+    (file_names c.args.bridge.now) (λ names has. has)

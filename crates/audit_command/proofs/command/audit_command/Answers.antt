@@ -1,6 +1,6 @@
 use Rattle.std.proofs.Common.{◌≡◌, ◌⊎◌, inl, ℕ, List, [], ◌∷◌, ◌++◌, length, sym, ◌∙◌, ap, subst, arith}
 use Rattle.std.specs.Prelude.{Result, Err}
-use Rattle.outside.specs.Fault.{Rose}
+use Rattle.outside.specs.Fault.{CountRose}
 use Rattle.outside.proofs.Faults.{rose_more}
 use Rattle.segment_store.specs.Holds.{Holds}
 use Rattle.site_config.specs.Configuration.{config_of_bytes}
@@ -18,7 +18,7 @@ use Rattle.report_command.specs.Printing.{held_of}
 use Rattle.report_command.proofs.Ended.{unread_other}
 use Rattle.report_command.proofs.Told.{last_after}
 use Rattle.audit_command.specs.Answers.{IsAudited}
-use Rattle.audit_command.specs.Audited.{Finds, IsStanding}
+use Rattle.audit_command.specs.Audited.{FindsDifference, IsStanding}
 use Rattle.audit_command.specs.Printing.{Prints}
 use Rattle.audit_command.proofs.Ended.{finds_unread, name_short, not_printed, over_config, unread_answer, unread_complete, unread_unprinted}
 use Rattle.audit_command.proofs.AnswerKinds.{unread_named}
@@ -33,8 +33,8 @@ returns-clause-answer g c = λ tells shows reads.
     c.in-Err.status c.in-Err.ensures.refusal (c.in-Err.ensures.meaning reads)
 
 pub returns-clause-stands : goal.returns-clause-stands
-returns-clause-stands g c = λ tells shows reads conf is w n h.
-    finds_unread conf (IsStanding conf (held_of w n)) (held_of (recordings conf (g.T.Site.files c.args.site.now)).samples n)
+returns-clause-stands g c = λ tells shows reads bridge is w n h.
+    finds_unread bridge (IsStanding bridge (held_of w n)) (held_of (recordings bridge (g.T.Site.files c.args.site.now)).samples n)
     c.in-Err.status
     c.in-Err.ensures.refusal
 
@@ -45,8 +45,8 @@ returns-clause-complete g c = λ tells shows reads sound config site station out
     c.in-Err.status c.in-Err.ensures.refusal (c.in-Err.ensures.meaning reads) sound (λ is. config (c.in-Err.ensures.cause (ap Err is)))
 
 pub returns-clause-prints : goal.returns-clause-prints
-returns-clause-prints g c = λ writes reads conf is.
-    unread_unprinted c.in-Err.status c.in-Err.ensures.refusal conf (g.O.Sink.written c.args.out.now)
+returns-clause-prints g c = λ writes reads bridge is.
+    unread_unprinted c.in-Err.status c.in-Err.ensures.refusal bridge (g.O.Sink.written c.args.out.now)
 
 pub returns-clause-quiet : goal.returns-clause-quiet
 returns-clause-quiet g c = λ tells reads.
@@ -61,7 +61,7 @@ returns-clause-quiet g c = λ tells reads.
 pub returns-clause-last : goal.returns-clause-last
 returns-clause-last g c = λ tells reads not.
     let k = g.K.Station in
-    subst (λ (l : List ℕ). Rose (k.faults c.args.station.now) (k.faults c.tell_fault-in-Err.new.station) ⊎
+    subst (λ (l : List ℕ). CountRose (k.faults c.args.station.now) (k.faults c.tell_fault-in-Err.new.station) ⊎
     (k.told c.tell_fault-in-Err.new.station ≡ k.told c.args.station.now ++ l ∷ []))
     (line_same c.in-Err.status c.in-Err.ensures.refusal _ _) (c.tell_fault-in-Err.ensures.last tells not)
 
@@ -77,20 +77,20 @@ returns-clause-disk g c = λ is. absurd ((unread_other c.in-Err.status c.in-Err.
 -- one that is sound
 pub tell_fault-requires : goal.tell_fault-requires
 tell_fault-requires g c =
-    let short = name_short c.in-Ok-read_config.conf c.in-Ok-read_config.ensures.valid c.audit_by-status.result in
+    let short = name_short c.in-Ok-read_config.bridge c.in-Ok-read_config.ensures.valid c.audit_by-status.result in
     omega (arith, short, ap (λ (l : List ℕ). length l) c.name_in.ensures, ap (λ (l : FaultLineValue). l.name_bytes) c.in-Ok.ensures)
 
 pub returns-in-Ok-read_config-clause-answer : goal.returns-in-Ok-read_config-clause-answer
 returns-in-Ok-read_config-clause-answer g c = λ tells shows reads.
-    over_config (config_of_bytes (g.C.Source.left c.args.config.now)) c.in-Ok-read_config.conf (g.K.Station.seen c.args.station.now)
+    over_config (config_of_bytes (g.C.Source.left c.args.config.now)) c.in-Ok-read_config.bridge (g.K.Station.seen c.args.station.now)
     (g.T.Site.files c.args.site.now) (c.in-Ok-read_config.ensures.meaning reads) c.audit_by-status.result
     (c.audit_by-status.ensures.answer tells shows)
 
 pub returns-in-Ok-read_config-clause-stands : goal.returns-in-Ok-read_config-clause-stands
-returns-in-Ok-read_config-clause-stands g c = λ tells shows reads conf is w n h.
+returns-in-Ok-read_config-clause-stands g c = λ tells shows reads bridge is w n h.
     let same = same_ok
     (c.in-Ok-read_config.ensures.meaning reads) is in
-    subst (λ (x : Config). Holds x.setup w n (g.K.Station.seen c.args.station.now) → Finds x (IsStanding x (held_of w n))
+    subst (λ (x : Config). Holds x.setup w n (g.K.Station.seen c.args.station.now) → FindsDifference x (IsStanding x (held_of w n))
     (held_of (recordings x (g.T.Site.files c.args.site.now)).samples n) c.audit_by-status.result) same
     (λ held. c.audit_by-status.ensures.stands tells shows w n held) h
 
@@ -103,7 +103,7 @@ returns-in-Ok-read_config-clause-complete g c = λ tells shows reads sound confi
     (λ rose. station (rose_more _ _ _ rose c.tell_fault.ensures.later)) out
 
 pub returns-in-Ok-read_config-clause-prints : goal.returns-in-Ok-read_config-clause-prints
-returns-in-Ok-read_config-clause-prints g c = λ writes reads conf is.
+returns-in-Ok-read_config-clause-prints g c = λ writes reads bridge is.
     let written = g.O.Sink.written in
     let same = same_ok
     (c.in-Ok-read_config.ensures.meaning reads) is in
@@ -129,7 +129,7 @@ returns-in-Ok-read_config-clause-last g c = λ tells reads not.
     let k = g.K.Station in
     let name = c.name_in.ensures ∙ ap (λ (r : Result Config ConfigFault). name_by r c.audit_by-status.result)
     (sym (c.in-Ok-read_config.ensures.meaning reads)) in
-    subst (λ (l : List ℕ). Rose (k.faults c.args.station.now) (k.faults c.tell_fault.new.station) ⊎
+    subst (λ (l : List ℕ). CountRose (k.faults c.args.station.now) (k.faults c.tell_fault.new.station) ⊎
     (k.told c.tell_fault.new.station ≡ k.told c.args.station.now ++ fault_line c.audit_by-status.result l ∷ [])) name
     (last_after _ _ _ _ _ _ (fault_line c.audit_by-status.result c.name_in.result.now) c.audit_by-status.ensures.later
     (c.audit_by-status.ensures.quiet tells).told_same (c.tell_fault.ensures.last tells not))
@@ -139,7 +139,7 @@ returns-in-Ok-read_config-clause-disk g c = λ is. rose_more _ _ _ (c.audit_by-s
 
 pub returns-in-Ok-read_config-clause-nothing : goal.returns-in-Ok-read_config-clause-nothing
 returns-in-Ok-read_config-clause-nothing g c = λ writes not.
-    not_printed c.audit_by-status.result c.in-Ok-read_config.conf (g.O.Sink.written c.args.out.now)
+    not_printed c.audit_by-status.result c.in-Ok-read_config.bridge (g.O.Sink.written c.args.out.now)
     (g.O.Sink.written c.audit_by-status.new.out) not
     (c.audit_by-status.ensures.prints writes)
 
@@ -159,5 +159,5 @@ returns-clause-asked g c = λ gives.
 
 pub returns-in-Ok-read_config-clause-asked : goal.returns-in-Ok-read_config-clause-asked
 returns-in-Ok-read_config-clause-asked g c = λ gives.
-    first_read (config_of_bytes (g.C.Source.left c.args.config.now)) c.in-Ok-read_config.conf (g.T.Site.names_asked c.args.site.now)
+    first_read (config_of_bytes (g.C.Source.left c.args.config.now)) c.in-Ok-read_config.bridge (g.T.Site.names_asked c.args.site.now)
     (g.T.Site.names_asked c.audit_by-status.new.site) (c.in-Ok-read_config.ensures.meaning gives) c.audit_by-status.ensures.asked

@@ -8,18 +8,19 @@ use Rattle.board.proofs.rows.copy.Goals as goal
 
 pub returns : goal.returns
 returns c =
-    let seg = c.args.seg.now in
+    let segment = c.args.segment.now in
     let was = c.clear.new.self in
-    let gauge : was.gauge ≡ seg.gauge = ap (λ (z : SegmentValue). z.gauge) c.clear.ensures ∙ ap
+    let gauge : was.gauge ≡ segment.gauge = ap (λ (z : SegmentValue). z.gauge) c.clear.ensures ∙ ap
     (λ (n : Name). n.gauge) c.name-name.ensures.value in
-    let from : was.from ≡ seg.from = ap (λ (z : SegmentValue). z.from) c.clear.ensures ∙ ap
+    let from : was.from ≡ segment.from = ap (λ (z : SegmentValue). z.from) c.clear.ensures ∙ ap
     (λ (n : Name). n.from) c.name-name.ensures.value in
-    let to : was.to ≡ seg.from = ap (λ (z : SegmentValue). z.to) c.clear.ensures ∙ ap (λ (n : Name). n.from) c.name-name.ensures.value in
-    let ok = joined was seg c.join.result (sym gauge, sym to) c.join.ensures.answer in
+    let to : was.to ≡ segment.from = ap (λ (z : SegmentValue). z.to) c.clear.ensures
+    ∙ ap (λ (n : Name). n.from) c.name-name.ensures.value in
+    let ok = joined was segment c.join.result (sym gauge, sym to) c.join.ensures.answer in
     let start : SameStart was c.join.new.self = from_ok c.join.result _ ok c.join.ensures.start in
     record {
-      name = join_name was c.join.new.self seg.to start (from_ok c.join.result _ ok c.join.ensures.end) ∙ ap
-          (λ k. name_of_samples k was.from seg.to) gauge ∙ ap (λ k. name_of_samples seg.gauge k seg.to) from;
+      name = join_name was c.join.new.self segment.to start (from_ok c.join.result _ ok c.join.ensures.end) ∙ ap
+          (λ k. name_of_samples k was.from segment.to) gauge ∙ ap (λ k. name_of_samples segment.gauge k segment.to) from;
       grid = start.0 ∙ ap (λ (z : SegmentValue). z.grid) c.clear.ensures ∙ c.requires.grid;
       longest = start.3 ∙ ap (λ (z : SegmentValue). z.longest) c.clear.ensures;
       stands = λ gain w h. from_ok c.join.result _ ok c.join.ensures.stands gain [] w

@@ -12,5 +12,5 @@ returns c = record {
   now = c.copy.new.slot;
   set = refl;
   copy = subst
-      (λ (z : SegmentValue). IsCopy z.longest c.args.seg.now c.copy.new.slot) (sym c.index-slots-k.is) c.copy.ensures;
+      (λ (z : SegmentValue). IsCopy z.longest c.args.segment.now c.copy.new.slot) (sym c.index-slots-k.is) c.copy.ensures;
 }

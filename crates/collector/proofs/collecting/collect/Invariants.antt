@@ -1,15 +1,15 @@
 use Rattle.std.proofs.Common.{◌≡◌}
-use Rattle.collector.specs.Collecting.{Collecting}
+use Rattle.collector.specs.Collecting.{IsCollectedSoFar}
 use Rattle.collector.proofs.collecting.collect.Given as goal
 
 abbrev pub invariant-loop : goal.invariant-loop
 invariant-loop g l = record {
-  coming : Collecting l.fn.board l.board l.fn.pool l.pool l.fn.returns l.returns;
+  coming : IsCollectedSoFar l.fn.board l.board l.fn.pool l.pool l.fn.returns l.returns;
   grid : l.board.grid ≡ l.pool.grid;
 }
 
 abbrev pub invariant-loop-v : goal.invariant-loop-v
 invariant-loop-v g l = record {
-  coming : Collecting l.fn.board l.board l.fn.pool l.pool l.fn.returns l.returns;
+  coming : IsCollectedSoFar l.fn.board l.board l.fn.pool l.pool l.fn.returns l.returns;
   grid : l.board.grid ≡ l.pool.grid;
 }

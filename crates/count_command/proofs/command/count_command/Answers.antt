@@ -30,28 +30,28 @@ use Rattle.outside.proofs.Faults.{rose_more, rose_before}
 use Rattle.lemmas.proofs.Outcomes.{same_ok}
 
 pub returns-in_default-clause-every_moment : goal.returns-in_default-clause-every_moment
-returns-in_default-clause-every_moment g c = λ tells shows reads conf is a holds lines f was.
+returns-in_default-clause-every_moment g c = λ tells shows reads bridge is a holds lines f was.
     let k = g.K.Station in
-    let r = recordings conf (g.T.Site.files c.args.site.now) in
+    let r = recordings bridge (g.T.Site.files c.args.site.now) in
     let safe = safe_starts r a (k.clock c.args.station.now) (k.moments c.args.station.now) (k.told c.args.station.now)
     (k.seen c.args.station.now) (k.leaves c.args.station.now) holds (g.met.K.Station.only_now tells c.args.station.now) in
     (safe_fault r a _ _ _ _ _ _ _ _ _ _ _ _ _ safe (fault_line OutOfMemory []) (fault_below r OutOfMemory [])
     (c.tell_no_memory.ensures.tells tells)).run.each lines f was
 
 pub returns-in-Err-clause-every_moment : goal.returns-in-Err-clause-every_moment
-returns-in-Err-clause-every_moment g c = λ tells shows reads conf is a holds lines f was.
+returns-in-Err-clause-every_moment g c = λ tells shows reads bridge is a holds lines f was.
     let k = g.K.Station in
-    let r = recordings conf (g.T.Site.files c.args.site.now) in
+    let r = recordings bridge (g.T.Site.files c.args.site.now) in
     let safe = safe_starts r a (k.clock c.args.station.now) (k.moments c.args.station.now) (k.told c.args.station.now)
     (k.seen c.args.station.now) (k.leaves c.args.station.now) holds (g.met.K.Station.only_now tells c.args.station.now) in
     (safe_fault r a _ _ _ _ _ _ _ _ _ _ _ _ _ safe _ (fault_below r _ _) (c.tell_fault.ensures.tells tells)).run.each lines f was
 
 pub returns-clause-every_moment : goal.returns-clause-every_moment
-returns-clause-every_moment g c = λ tells shows reads conf is a holds lines f was.
+returns-clause-every_moment g c = λ tells shows reads bridge is a holds lines f was.
     let k = g.K.Station in
     let files = g.T.Site.files c.args.site.now in
     let same = same_ok (c.in-Ok-read_config.ensures.meaning reads) is in
-    let r = recordings c.in-Ok-read_config.conf files in
+    let r = recordings c.in-Ok-read_config.bridge files in
     let safe = c.count_by-status.ensures.safe tells shows a (subst (λ (x : Config). AllHold (recordings x files) a
     (k.leaves c.args.station.now)) (sym same) holds) in
     subst (λ (x : Config). IsKept (recordings x files) a (k.told c.args.station.now) lines f) same
@@ -59,19 +59,19 @@ returns-clause-every_moment g c = λ tells shows reads conf is a holds lines f w
 
 -- a configuration that is refused
 pub returns-in-Err-clause-ended : goal.returns-in-Err-clause-ended
-returns-in-Err-clause-ended g c = λ tells shows reads conf is a holds. held_read (recordings conf (g.T.Site.files c.args.site.now))
+returns-in-Err-clause-ended g c = λ tells shows reads bridge is a holds. held_read (recordings bridge (g.T.Site.files c.args.site.now))
     (g.K.Station.leaves c.tell_fault.new.station) c.in-Err.status c.in-Err.ensures.refusal
 
 pub returns-in-Err-clause-cut : goal.returns-in-Err-clause-cut
-returns-in-Err-clause-cut g c = λ tells shows reads conf is a holds none. cut_read (recordings conf (g.T.Site.files c.args.site.now))
+returns-in-Err-clause-cut g c = λ tells shows reads bridge is a holds none. cut_read (recordings bridge (g.T.Site.files c.args.site.now))
     (g.K.Station.leaves c.tell_fault.new.station) c.in-Err.status c.in-Err.ensures.refusal
 
 pub returns-in-Err-clause-prints : goal.returns-in-Err-clause-prints
-returns-in-Err-clause-prints g c = λ writes tells shows reads conf is a holds. prints_read _ _ _ c.in-Err.status c.in-Err.ensures.refusal
+returns-in-Err-clause-prints g c = λ writes tells shows reads bridge is a holds. prints_read _ _ _ c.in-Err.status c.in-Err.ensures.refusal
 
 pub returns-in-Err-clause-acknowledged : goal.returns-in-Err-clause-acknowledged
 returns-in-Err-clause-acknowledged g c =
-    λ tells shows reads conf is n h done. absurd (not_done_read c.in-Err.status c.in-Err.ensures.refusal done)
+    λ tells shows reads bridge is n h done. absurd (not_done_read c.in-Err.status c.in-Err.ensures.refusal done)
 
 pub returns-in-Err-clause-answer : goal.returns-in-Err-clause-answer
 returns-in-Err-clause-answer g c = λ tells shows reads. answers_read (config_of_bytes (g.C.Source.left c.args.config.now))
@@ -86,7 +86,7 @@ returns-in-Err-clause-disk g c = λ is. absurd (not_disk_read c.in-Err.status c.
 
 -- a run
 pub returns-clause-ended : goal.returns-clause-ended
-returns-clause-ended g c = λ tells shows reads conf is a holds.
+returns-clause-ended g c = λ tells shows reads bridge is a holds.
     let k = g.K.Station in
     let files = g.T.Site.files c.args.site.now in
     let same = same_ok (c.in-Ok-read_config.ensures.meaning reads) is in
@@ -97,7 +97,7 @@ returns-clause-ended g c = λ tells shows reads conf is a holds.
     (c.count_by-status.ensures.ended tells shows a all)) holds
 
 pub returns-clause-cut : goal.returns-clause-cut
-returns-clause-cut g c = λ tells shows reads conf is a holds none.
+returns-clause-cut g c = λ tells shows reads bridge is a holds none.
     let k = g.K.Station in
     let files = g.T.Site.files c.args.site.now in
     let same = same_ok (c.in-Ok-read_config.ensures.meaning reads) is in
@@ -108,7 +108,7 @@ returns-clause-cut g c = λ tells shows reads conf is a holds none.
     (c.count_by-status.ensures.cut tells shows a all none)) holds
 
 pub returns-clause-prints : goal.returns-clause-prints
-returns-clause-prints g c = λ writes tells shows reads conf is a holds.
+returns-clause-prints g c = λ writes tells shows reads bridge is a holds.
     let k = g.K.Station in
     let files = g.T.Site.files c.args.site.now in
     let written = g.O.Sink.written in
@@ -118,40 +118,40 @@ returns-clause-prints g c = λ writes tells shows reads conf is a holds.
     (λ all. c.count_by-status.ensures.prints writes tells shows a all) holds
 
 pub returns-clause-acknowledged : goal.returns-clause-acknowledged
-returns-clause-acknowledged g c = λ tells shows reads conf is n h done.
+returns-clause-acknowledged g c = λ tells shows reads bridge is n h done.
     let k = g.K.Station in
     let files = g.T.Site.files c.args.site.now in
     let same = same_ok (c.in-Ok-read_config.ensures.meaning reads) is in
     subst (λ (x : Config). Holds x.setup (recordings x files).samples n (k.seen c.args.station.now) →
     Acknowledges x.block (recordings x files)
     n (k.told c.args.station.now) (k.told c.tell_fault-2.new.station)) same
-    (λ held. subst (λ (t : Lines). Acknowledges c.in-Ok-read_config.conf.block (recordings c.in-Ok-read_config.conf files) n
+    (λ held. subst (λ (t : Lines). Acknowledges c.in-Ok-read_config.bridge.block (recordings c.in-Ok-read_config.bridge files) n
     (k.told c.args.station.now) t) (sym (c.tell_fault-2.ensures.nothing tells done))
     (c.count_by-status.ensures.acknowledged tells shows n held done)) h
 
 pub returns-clause-answer : goal.returns-clause-answer
 returns-clause-answer g c = λ tells shows reads.
-    count_answers (config_of_bytes (g.C.Source.left c.args.config.now)) c.in-Ok-read_config.conf (g.K.Station.seen c.args.station.now)
+    count_answers (config_of_bytes (g.C.Source.left c.args.config.now)) c.in-Ok-read_config.bridge (g.K.Station.seen c.args.station.now)
     (g.T.Site.files c.args.site.now) (c.in-Ok-read_config.ensures.meaning reads) c.count_by-status.result c.count_by-status.ensures.kind
     (c.count_by-status.ensures.answer tells shows)
 
 pub returns-in-Err-clause-complete : goal.returns-in-Err-clause-complete
-returns-in-Err-clause-complete g c = λ tells shows reads conf is n h fit sound config site station out.
-    done_or_memory c.in-Err.status (complete_read (config_of_bytes (g.C.Source.left c.args.config.now)) conf is c.in-Err.status
+returns-in-Err-clause-complete g c = λ tells shows reads bridge is n h fit sound config site station out.
+    done_or_memory c.in-Err.status (complete_read (config_of_bytes (g.C.Source.left c.args.config.now)) bridge is c.in-Err.status
     c.in-Err.ensures.refusal (c.in-Err.ensures.meaning reads))
     (λ e. config (c.in-Err.ensures.cause (ap Err e))) (λ e. absurd (not_write_read c.in-Err.status c.in-Err.ensures.refusal e))
     (λ e. absurd (not_disk_read c.in-Err.status c.in-Err.ensures.refusal e))
 
 pub returns-clause-complete : goal.returns-clause-complete
-returns-clause-complete g c = λ tells shows reads conf is n h fit sound config site station out.
+returns-clause-complete g c = λ tells shows reads bridge is n h fit sound config site station out.
     let k = g.K.Station in
     let files = g.T.Site.files c.args.site.now in
     let same = same_ok (c.in-Ok-read_config.ensures.meaning reads) is in
-    let by : (x : Config) → conf ≡ x → (m : Holds x.setup (recordings x files).samples n (k.seen c.args.station.now)) × HeadsFit x
+    let by : (x : Config) → bridge ≡ x → (m : Holds x.setup (recordings x files).samples n (k.seen c.args.station.now)) × HeadsFit x
     m.head.heads files × AllSound x files (length x.gauges) =
     λ x e. subst (λ (y : Config). (m : Holds y.setup (recordings y files).samples n (k.seen c.args.station.now)) × HeadsFit y m.head.heads
     files × AllSound y files (length y.gauges)) e (h, fit, sound) in
-    let here = by c.in-Ok-read_config.conf (sym same) in
+    let here = by c.in-Ok-read_config.bridge (sym same) in
     done_or_memory c.count_by-status.result (c.count_by-status.ensures.complete tells shows n here.0 here.1 here.2)
     (λ e. site (c.count_by-status.ensures.read e)) (λ e. out (c.count_by-status.ensures.write e))
     (λ e. station (rose_more _ _ _ (c.count_by-status.ensures.disk e) c.tell_fault-2.ensures.later))
@@ -212,5 +212,5 @@ returns-in-Err-clause-asked g c = λ gives.
 
 pub returns-clause-asked : goal.returns-clause-asked
 returns-clause-asked g c = λ gives.
-    first_read (config_of_bytes (g.C.Source.left c.args.config.now)) c.in-Ok-read_config.conf (g.T.Site.names_asked c.args.site.now)
+    first_read (config_of_bytes (g.C.Source.left c.args.config.now)) c.in-Ok-read_config.bridge (g.T.Site.names_asked c.args.site.now)
     (g.T.Site.names_asked c.count_by-status.new.site) (c.in-Ok-read_config.ensures.meaning gives) c.count_by-status.ensures.asked

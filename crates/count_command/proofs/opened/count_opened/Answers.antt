@@ -11,19 +11,19 @@ use Rattle.count_command.proofs.opened.count_opened.Goals as goal
 
 pub returns-in_default-clause-going : goal.returns-in_default-clause-going
 returns-in_default-clause-going g c = λ tells reads files lanes stored.
-    going_starts (recordings c.args.conf.now files) _ _ _ _ _ _ stored (g.met.K.Station.only_now tells c.args.station.now)
+    going_starts (recordings c.args.bridge.now files) _ _ _ _ _ _ stored (g.met.K.Station.only_now tells c.args.station.now)
 
 pub returns-in_default-new-clause-going : goal.returns-in_default-new-clause-going
 returns-in_default-new-clause-going g c = λ tells reads files lanes stored.
-    going_starts (recordings c.args.conf.now files) _ _ _ _ _ _ stored (g.met.K.Station.only_now tells c.args.station.now)
+    going_starts (recordings c.args.bridge.now files) _ _ _ _ _ _ stored (g.met.K.Station.only_now tells c.args.station.now)
 
 pub returns-in_default-new-2-clause-going : goal.returns-in_default-new-2-clause-going
 returns-in_default-new-2-clause-going g c = λ tells reads files lanes stored.
-    going_starts (recordings c.args.conf.now files) _ _ _ _ _ _ stored (g.met.K.Station.only_now tells c.args.station.now)
+    going_starts (recordings c.args.bridge.now files) _ _ _ _ _ _ stored (g.met.K.Station.only_now tells c.args.station.now)
 
 pub returns-in_default-new-3-clause-going : goal.returns-in_default-new-3-clause-going
 returns-in_default-new-3-clause-going g c = λ tells reads files lanes stored.
-    going_starts (recordings c.args.conf.now files) _ _ _ _ _ _ stored (g.met.K.Station.only_now tells c.args.station.now)
+    going_starts (recordings c.args.bridge.now files) _ _ _ _ _ _ stored (g.met.K.Station.only_now tells c.args.station.now)
 
 pub first_fault-requires-clause-gauges : goal.first_fault-requires-clause-gauges
 first_fault-requires-clause-gauges g c κs within = λ h d lt. (c.in-Ok-count_rounds.ensures.held h d lt).0.gauge
@@ -32,7 +32,8 @@ first_fault-requires-clause-gauges g c κs within = λ h d lt. (c.in-Ok-count_ro
 pub returns-in-Some-clause-ended : goal.returns-in-Some-clause-ended
 returns-in-Some-clause-ended g c = λ tells reads files lanes stored.
     let f = c.in-Some.ensures in
-    by_fault (λ (s : Status). HeldAt s (recordings c.args.conf.now files) (g.K.Station.leaves c.count_rounds.new.station)) f.0 (λ b. tt) tt
+    by_fault (λ (s : Status). HeldAt s (recordings c.args.bridge.now files) (g.K.Station.leaves c.count_rounds.new.station))
+    f.0 (λ b. tt) tt
     tt
     _ c.in-Some.status (f.2 (any_of c.count_rounds.new.lanes f.0 f.1))
 
@@ -40,7 +41,7 @@ pub returns-in-Some-clause-cut : goal.returns-in-Some-clause-cut
 returns-in-Some-clause-cut g c = λ tells reads files lanes stored none.
     let f = c.in-Some.ensures in
     let now = c.in-Ok-count_rounds.ensures in
-    held_fault c.args.conf.now files c.count_rounds.new.lanes reads (now.read reads files lanes) (ends_of c.count_rounds.new.store.held)
+    held_fault c.args.bridge.now files c.count_rounds.new.lanes reads (now.read reads files lanes) (ends_of c.count_rounds.new.store.held)
     now.held now.ended (c.count_rounds.ensures.gauges.1 ∙ c.requires.gauges.1)
     c.count_rounds.new.store _ _ (now.stored tells reads files lanes stored) refl none c.in-Some.status f.0 _
     (f.2 (any_of c.count_rounds.new.lanes f.0 f.1))
@@ -59,7 +60,7 @@ pub returns-in-Some-clause-answer : goal.returns-in-Some-clause-answer
 returns-in-Some-clause-answer g c = λ reads files lanes.
     let f = c.in-Some.ensures in
     let now = c.in-Ok-count_rounds.ensures in
-    end_fault c.args.conf.now files c.count_rounds.new.lanes reads (now.read reads files lanes) (ends_of c.count_rounds.new.store.held)
+    end_fault c.args.bridge.now files c.count_rounds.new.lanes reads (now.read reads files lanes) (ends_of c.count_rounds.new.store.held)
     now.held now.ended (c.count_rounds.ensures.gauges.1 ∙ c.requires.gauges.1) c.in-Some.status f.0 f.1 f.2 f.3
 
 pub returns-in-Some-clause-kind : goal.returns-in-Some-clause-kind
@@ -92,7 +93,8 @@ returns-in-Some-clause-quiet g c = λ tells leaves.
 pub returns-clause-ended : goal.returns-clause-ended
 returns-clause-ended g c = λ tells reads files lanes stored.
     let now = c.in-Ok-count_rounds.ensures in
-    held_printing c.args.conf.now files c.count_rounds.new.lanes reads (now.read reads files lanes) (ends_of c.count_rounds.new.store.held)
+    held_printing c.args.bridge.now files c.count_rounds.new.lanes reads (now.read reads files lanes)
+    (ends_of c.count_rounds.new.store.held)
     now.held now.ended (c.count_rounds.ensures.gauges.1 ∙ c.requires.gauges.1)
     c.count_rounds.new.store _ _ (now.stored tells reads files lanes stored) refl c.in-None.ensures c.print_held.result
     c.print_held.ensures.kind
@@ -100,24 +102,24 @@ returns-clause-ended g c = λ tells reads files lanes stored.
 pub returns-clause-acknowledged : goal.returns-clause-acknowledged
 returns-clause-acknowledged g c = λ tells reads files lanes done.
     let now = c.in-Ok-count_rounds.ensures in
-    let r = recordings c.args.conf.now files in
+    let r = recordings c.args.bridge.now files in
     let many = c.count_rounds.ensures.gauges.1 ∙ c.requires.gauges.1 in
     let here = now.read reads files lanes in
-    let whole = are_whole c.args.conf.now files c.count_rounds.new.lanes reads here (ends_of c.count_rounds.new.store.held) now.held
+    let whole = are_whole c.args.bridge.now files c.count_rounds.new.lanes reads here (ends_of c.count_rounds.new.store.held) now.held
     now.ended many c.in-None.ensures in
-    acknowledges c.args.conf.now files c.count_rounds.new.lanes reads here (ends_of c.count_rounds.new.store.held) now.held now.ended many
+    acknowledges c.args.bridge.now files c.count_rounds.new.lanes reads here (ends_of c.count_rounds.new.store.held) now.held now.ended many
     c.in-None.ensures
     (now.told tells reads files lanes (ends_of c.args.store.now.held) (g.K.Station.told c.args.station.now)
-    (told_starts c.args.conf.now.block r (ends_of c.args.store.now.held) (g.K.Station.told c.args.station.now) c.args.lanes.now reads
+    (told_starts c.args.bridge.now.block r (ends_of c.args.store.now.held) (g.K.Station.told c.args.station.now) c.args.lanes.now reads
     lanes c.requires.lanes) whole)
 
 pub returns-clause-prints : goal.returns-clause-prints
 returns-clause-prints g c = λ shows tells reads files lanes stored.
     let now = c.in-Ok-count_rounds.ensures in
-    let r = recordings c.args.conf.now files in
+    let r = recordings c.args.bridge.now files in
     let store = c.count_rounds.new.store in
     let many = c.count_rounds.ensures.gauges.0 ∙ c.requires.gauges.0 in
-    let all = all_held c.args.conf.now files c.count_rounds.new.lanes reads (now.read reads files lanes) (ends_of store.held) now.held
+    let all = all_held c.args.bridge.now files c.count_rounds.new.lanes reads (now.read reads files lanes) (ends_of store.held) now.held
     now.ended (c.count_rounds.ensures.gauges.1 ∙ c.requires.gauges.1) c.in-None.ensures in
     c.print_held.ensures.prints shows r.samples
     (stand_for r store _ _ (now.stored tells reads files lanes stored) (λ k lt. all k (omega (arith, lt, many))))
@@ -125,7 +127,7 @@ returns-clause-prints g c = λ shows tells reads files lanes stored.
 pub returns-clause-answer : goal.returns-clause-answer
 returns-clause-answer g c = λ reads files lanes.
     let now = c.in-Ok-count_rounds.ensures in
-    end_printing c.args.conf.now files c.count_rounds.new.lanes reads (now.read reads files lanes) (ends_of c.count_rounds.new.store.held)
+    end_printing c.args.bridge.now files c.count_rounds.new.lanes reads (now.read reads files lanes) (ends_of c.count_rounds.new.store.held)
     now.held now.ended (c.count_rounds.ensures.gauges.1 ∙ c.requires.gauges.1) c.in-None.ensures c.print_held.result
     c.print_held.ensures.kind
 
@@ -134,7 +136,7 @@ returns-clause-quiet g c = λ tells leaves. absurd (printing_stored c.print_held
 
 pub returns-clause-cut : goal.returns-clause-cut
 returns-clause-cut g c =
-    λ tells reads files lanes stored none. cut_printing (recordings c.args.conf.now files) _ c.print_held.result c.print_held.ensures.kind
+    λ tells reads files lanes stored none. cut_printing (recordings c.args.bridge.now files) _ c.print_held.result c.print_held.ensures.kind
 
 pub returns-clause-nothing : goal.returns-clause-nothing
 returns-clause-nothing g c = λ shows other. absurd (other c.print_held.ensures.kind)

@@ -19,12 +19,12 @@ use Rattle.outside.proofs.Faults.{rose_before}
 
 pub returns-in_default-clause-safe : goal.returns-in_default-clause-safe
 returns-in_default-clause-safe g c = λ tells shows a holds.
-    safe_quiet (recordings c.args.conf.now (g.T.Site.files c.args.site.now)) a _ _ _ _ _ _ _ _ _ _ holds (c.resume.ensures.quiet tells)
+    safe_quiet (recordings c.args.bridge.now (g.T.Site.files c.args.site.now)) a _ _ _ _ _ _ _ _ _ _ holds (c.resume.ensures.quiet tells)
 
 pub returns-clause-safe : goal.returns-clause-safe
 returns-clause-safe g c = λ tells shows a holds.
     let k = g.K.Station in
-    let r = recordings c.args.conf.now (g.T.Site.files c.args.site.now) in
+    let r = recordings c.args.bridge.now (g.T.Site.files c.args.site.now) in
     let at = resumed r a _ _ _ _ (holds (k.seen c.args.station.now) (g.met.K.Station.seen_counts tells c.args.station.now))
     (c.in-Ok.ensures.reads tells) in
     safe_going r a _ _ _ _ _ _ _ _ _ _ _ _ _ (safe_quiet r a _ _ _ _ _ _ _ _ _ _ holds (c.resume.ensures.quiet tells))
@@ -32,14 +32,14 @@ returns-clause-safe g c = λ tells shows a holds.
 
 pub returns-clause-ended : goal.returns-clause-ended
 returns-clause-ended g c = λ tells shows a holds.
-    let r = recordings c.args.conf.now (g.T.Site.files c.args.site.now) in
+    let r = recordings c.args.bridge.now (g.T.Site.files c.args.site.now) in
     let at = resumed r a _ _ _ _ (holds (g.K.Station.seen c.args.station.now) (g.met.K.Station.seen_counts tells c.args.station.now))
     (c.in-Ok.ensures.reads tells) in
     c.count_stored-status.ensures.ended tells shows at.stored
 
 pub returns-clause-cut : goal.returns-clause-cut
 returns-clause-cut g c = λ tells shows a holds none.
-    let r = recordings c.args.conf.now (g.T.Site.files c.args.site.now) in
+    let r = recordings c.args.bridge.now (g.T.Site.files c.args.site.now) in
     let at = resumed r a _ _ _ _ (holds (g.K.Station.seen c.args.station.now) (g.met.K.Station.seen_counts tells c.args.station.now))
     (c.in-Ok.ensures.reads tells) in
     c.count_stored-status.ensures.cut tells shows at.stored (c.give_back.ensures.fault
@@ -48,25 +48,26 @@ returns-clause-cut g c = λ tells shows a holds none.
 pub returns-clause-acknowledged : goal.returns-clause-acknowledged
 returns-clause-acknowledged g c = λ tells shows n h done.
     let k = g.K.Station in
-    let r = recordings c.args.conf.now (g.T.Site.files c.args.site.now) in
+    let r = recordings c.args.bridge.now (g.T.Site.files c.args.site.now) in
     let found = c.in-Ok.ensures.reads tells h.head h.bodies n h.of_setup h.reads in
-    subst (λ (t : Lines). Acknowledges c.args.conf.now.block r n t (k.told c.count_stored-status.new.station))
+    subst (λ (t : Lines). Acknowledges c.args.bridge.now.block r n t (k.told c.count_stored-status.new.station))
     (c.resume.ensures.quiet tells).told_same
-    (subst (λ (e : List ℕ). Acknowledges c.args.conf.now.block r e (k.told c.resume.new.station) (k.told c.count_stored-status.new.station))
+    (subst (λ (e : List ℕ). Acknowledges c.args.bridge.now.block r e (k.told c.resume.new.station)
+    (k.told c.count_stored-status.new.station))
     found.1
     (c.count_stored-status.ensures.acknowledged tells shows done))
 
 pub returns-clause-prints : goal.returns-clause-prints
 returns-clause-prints g c = λ writes tells shows a holds.
-    let r = recordings c.args.conf.now (g.T.Site.files c.args.site.now) in
+    let r = recordings c.args.bridge.now (g.T.Site.files c.args.site.now) in
     let at = resumed r a _ _ _ _ (holds (g.K.Station.seen c.args.station.now) (g.met.K.Station.seen_counts tells c.args.station.now))
     (c.in-Ok.ensures.reads tells) in
     c.count_stored-status.ensures.prints writes tells shows at.stored
 
 pub returns-clause-answer : goal.returns-clause-answer
 returns-clause-answer g c = λ tells shows.
-    answers_over c.args.conf.now (g.K.Station.seen c.args.station.now) (g.T.Site.files c.args.site.now) c.in-Ok.store.head
-    (ends_of c.in-Ok.store.held) (reads_as c.args.conf.now.setup c.in-Ok.store _ _ _ c.in-Ok.ensures.setup (c.in-Ok.ensures.on tells)
+    answers_over c.args.bridge.now (g.K.Station.seen c.args.station.now) (g.T.Site.files c.args.site.now) c.in-Ok.store.head
+    (ends_of c.in-Ok.store.held) (reads_as c.args.bridge.now.setup c.in-Ok.store _ _ _ c.in-Ok.ensures.setup (c.in-Ok.ensures.on tells)
     (c.resume.ensures.quiet tells).seen_same) c.count_stored-status.result c.count_stored-status.ensures.kind
     (c.count_stored-status.ensures.answer shows)
 
@@ -74,8 +75,8 @@ pub returns-in-Err-clause-answer : goal.returns-in-Err-clause-answer
 returns-in-Err-clause-answer g c = λ tells shows.
     let image = g.K.Station.seen c.args.station.now in
     let files = g.T.Site.files c.args.site.now in
-    subst (MayAnswerOver c.args.conf.now image files) (sym c.status_of.ensures)
-    (over_refused c.args.conf.now image files c.in-Err.fault (refused {X = StoreValue} c.args.conf.now.setup image
+    subst (MayAnswerOver c.args.bridge.now image files) (sym c.status_of.ensures)
+    (over_refused c.args.bridge.now image files c.in-Err.fault (refused {X = StoreValue} c.args.bridge.now.setup image
     (λ (s : StoreValue). (s.place, ends_of s.held)) c.in-Err.fault (c.in-Err.ensures.answer tells)))
 
 pub returns-in-Err-clause-complete : goal.returns-in-Err-clause-complete
@@ -87,11 +88,12 @@ pub returns-clause-complete : goal.returns-clause-complete
 returns-clause-complete g c = λ tells shows n h fit sound.
     let files = g.T.Site.files c.args.site.now in
     let found = c.in-Ok.ensures.reads tells h.head h.bodies n h.of_setup h.reads in
-    run_complete c.args.conf.now h.head.heads (slice_index n) files
-    (all_opened c.args.conf.now files n h.head.heads (held_within c.args.conf.now.setup (recordings c.args.conf.now files).samples n
+    run_complete c.args.bridge.now h.head.heads (slice_index n) files
+    (all_opened c.args.bridge.now files n h.head.heads (held_within c.args.bridge.now.setup (recordings c.args.bridge.now files).samples n
     (g.K.Station.seen c.args.station.now) h) fit) sound c.count_stored-status.result c.count_stored-status.ensures.kind
-    (subst (λ (x : HeadValue). RunAnswers c.args.conf.now x.heads (slice_index n) files c.count_stored-status.result) found.0
-    (subst (λ (e : List ℕ). RunAnswers c.args.conf.now c.in-Ok.store.head.heads (slice_index e) files c.count_stored-status.result) found.1
+    (subst (λ (x : HeadValue). RunAnswers c.args.bridge.now x.heads (slice_index n) files c.count_stored-status.result) found.0
+    (subst (λ (e : List ℕ). RunAnswers c.args.bridge.now c.in-Ok.store.head.heads (slice_index e) files
+    c.count_stored-status.result) found.1
     (c.count_stored-status.ensures.answer shows)))
 
 pub returns-clause-quiet : goal.returns-clause-quiet
@@ -99,13 +101,13 @@ returns-clause-quiet g c = λ tells leaves. quiet_then (c.resume.ensures.quiet t
 
 pub returns-in-Err-clause-asked : goal.returns-in-Err-clause-asked
 returns-in-Err-clause-asked g c = none_is_first (g.T.Site.names_asked c.args.site.now) (g.T.Site.names_asked c.args.site.now)
-    (file_names c.args.conf.now) (λ names has. has)
+    (file_names c.args.bridge.now) (λ names has. has)
 
 pub returns-in_default-clause-asked : goal.returns-in_default-clause-asked
 returns-in_default-clause-asked g c = none_is_first (g.T.Site.names_asked c.args.site.now) (g.T.Site.names_asked c.args.site.now)
-    (file_names c.args.conf.now) (λ names has. has)
+    (file_names c.args.bridge.now) (λ names has. has)
 
 pub returns-clause-asked : goal.returns-clause-asked
 returns-clause-asked g c =
     first_then_none (g.T.Site.names_asked c.args.site.now) (g.T.Site.names_asked c.count_stored-status.new.site)
-    (g.T.Site.names_asked c.give_back.new.site) (file_names c.args.conf.now) c.count_stored-status.ensures.asked c.give_back.ensures.asked
+    (g.T.Site.names_asked c.give_back.new.site) (file_names c.args.bridge.now) c.count_stored-status.ensures.asked c.give_back.ensures.asked

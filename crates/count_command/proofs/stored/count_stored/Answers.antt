@@ -11,7 +11,7 @@ use Rattle.count_command.proofs.stored.count_stored.Goals as goal
 
 pub returns-in-Err-clause-going : goal.returns-in-Err-clause-going
 returns-in-Err-clause-going g c = λ tells shows stored.
-    going_starts (recordings c.args.conf.now (g.T.Site.files c.args.site.now)) _ _ _ _ _ _ stored
+    going_starts (recordings c.args.bridge.now (g.T.Site.files c.args.site.now)) _ _ _ _ _ _ stored
     (g.met.K.Station.only_now tells c.args.station.now)
 
 pub returns-in-Err-clause-quiet : goal.returns-in-Err-clause-quiet
@@ -25,21 +25,21 @@ pub returns-clause-going : goal.returns-clause-going
 returns-clause-going g c = λ tells shows stored.
     let files = g.T.Site.files c.args.site.now in
     let lanes = subst (λ (l : List (Lane g.row.T-Src.Denot)). AreLanes g.T.Src.Source.tells g.T.Src.Source.left
-    (recordings c.args.conf.now files) l) (sym c.as_mut_slice.ensures.value) (c.open_lanes.ensures.lanes shows) in
+    (recordings c.args.bridge.now files) l) (sym c.as_mut_slice.ensures.value) (c.open_lanes.ensures.lanes shows) in
     c.count_opened.ensures.going tells (c.in-Ok.ensures.source_tells shows) files lanes stored
 
 pub returns-clause-ended : goal.returns-clause-ended
 returns-clause-ended g c = λ tells shows stored.
     let files = g.T.Site.files c.args.site.now in
     let lanes = subst (λ (l : List (Lane g.row.T-Src.Denot)). AreLanes g.T.Src.Source.tells g.T.Src.Source.left
-    (recordings c.args.conf.now files) l) (sym c.as_mut_slice.ensures.value) (c.open_lanes.ensures.lanes shows) in
+    (recordings c.args.bridge.now files) l) (sym c.as_mut_slice.ensures.value) (c.open_lanes.ensures.lanes shows) in
     c.count_opened.ensures.ended tells (c.in-Ok.ensures.source_tells shows) files lanes stored
 
 pub returns-clause-cut : goal.returns-clause-cut
 returns-clause-cut g c = λ tells shows stored none.
     let files = g.T.Site.files c.args.site.now in
     let lanes = subst (λ (l : List (Lane g.row.T-Src.Denot)). AreLanes g.T.Src.Source.tells g.T.Src.Source.left
-    (recordings c.args.conf.now files) l) (sym c.as_mut_slice.ensures.value) (c.open_lanes.ensures.lanes shows) in
+    (recordings c.args.bridge.now files) l) (sym c.as_mut_slice.ensures.value) (c.open_lanes.ensures.lanes shows) in
     let back = written_back c.open_lanes.new.lanes.items c.count_opened.new.lanes c.open_lanes.new.lanes.len
     (omega (arith, c.open_lanes.new.lanes.ok.0)) (omega (
       arith,
@@ -54,22 +54,22 @@ pub returns-clause-acknowledged : goal.returns-clause-acknowledged
 returns-clause-acknowledged g c = λ tells shows done.
     let files = g.T.Site.files c.args.site.now in
     let lanes = subst (λ (l : List (Lane g.row.T-Src.Denot)). AreLanes g.T.Src.Source.tells g.T.Src.Source.left
-    (recordings c.args.conf.now files) l) (sym c.as_mut_slice.ensures.value) (c.open_lanes.ensures.lanes shows) in
+    (recordings c.args.bridge.now files) l) (sym c.as_mut_slice.ensures.value) (c.open_lanes.ensures.lanes shows) in
     c.count_opened.ensures.acknowledged tells (c.in-Ok.ensures.source_tells shows) files lanes done
 
 pub returns-clause-prints : goal.returns-clause-prints
 returns-clause-prints g c = λ writes tells shows stored.
     let files = g.T.Site.files c.args.site.now in
     let lanes = subst (λ (l : List (Lane g.row.T-Src.Denot)). AreLanes g.T.Src.Source.tells g.T.Src.Source.left
-    (recordings c.args.conf.now files) l) (sym c.as_mut_slice.ensures.value) (c.open_lanes.ensures.lanes shows) in
+    (recordings c.args.bridge.now files) l) (sym c.as_mut_slice.ensures.value) (c.open_lanes.ensures.lanes shows) in
     c.count_opened.ensures.prints writes tells (c.in-Ok.ensures.source_tells shows) files lanes stored
 
 pub returns-clause-answer : goal.returns-clause-answer
 returns-clause-answer g c = λ shows.
     let files = g.T.Site.files c.args.site.now in
     let lanes = subst (λ (l : List (Lane g.row.T-Src.Denot)). AreLanes g.T.Src.Source.tells g.T.Src.Source.left
-    (recordings c.args.conf.now files) l) (sym c.as_mut_slice.ensures.value) (c.open_lanes.ensures.lanes shows) in
-    run_answers c.args.conf.now c.args.store.now.head.heads (slice_index (ends_of c.args.store.now.held)) files
+    (recordings c.args.bridge.now files) l) (sym c.as_mut_slice.ensures.value) (c.open_lanes.ensures.lanes shows) in
+    run_answers c.args.bridge.now c.args.store.now.head.heads (slice_index (ends_of c.args.store.now.held)) files
     (c.in-Ok.ensures.answer shows) c.count_opened.result c.count_opened.ensures.kind
     (c.count_opened.ensures.answer (c.in-Ok.ensures.source_tells shows) files lanes)
 

@@ -1,7 +1,7 @@
 use Rattle.std.proofs.Common.{◌≡◌, ◌∷◌, ℤ, Err, FitsSigned, w32, Global, Ok, Vec, rules, subst, sym, vec_len}
 use Rattle.std.proofs.lemmas.Int.{to_z-of_z}
 use Rattle.csv.specs.Records.{fields_of}
-use Rattle.csv_recording.specs.Column.{Gives, column_of, sample_of_row}
+use Rattle.csv_recording.specs.Column.{GivesColumn, column_of, sample_of_row}
 use Rattle.csv_recording.specs.Rows.{rows_left}
 use Rattle.csv_recording.proofs.ColumnFacts.{asks-end, asks-fault, asks-sample, gives-fault}
 use Rattle.csv_recording.proofs.columns.column.Goals as goal
@@ -17,7 +17,7 @@ returns-in_err-sample c =
     let given : asked ≡ Err fault = asks-fault asked c.rows.samples.items c.in-Some.place row (rows_left c.rows.reader)
     (rows_left c.next_row-in-rows.new.reader) fields c.in_ok-next_row-2.field-0 fault c.if-branch.true c.in_ok-next_row-2.ensures.rows
     c.rows.invariant.asks faulty in
-    subst (λ r. Gives (λ (samples : Vec ℤ Global). samples.items) r asked) (sym is)
+    subst (λ r. GivesColumn (λ (samples : Vec ℤ Global). samples.items) r asked) (sym is)
     (gives-fault (λ (samples : Vec ℤ Global). samples.items) fault asked given)
 
 pub rows-preserved : goal.rows-preserved

@@ -1,7 +1,7 @@
 use Rattle.std.proofs.Common.{ℕ, List, [], map, take, string_bytes}
-use Rattle.csv_recording.specs.Writers.{Wrote}
+use Rattle.csv_recording.specs.Writers.{HasWrittenText}
 use Rattle.csv_recording.proofs.sheets.write_names.Given as goal
 
 abbrev pub invariant-loop-name : goal.invariant-loop-name
 invariant-loop-name l =
-    (text : List ℕ) → Wrote text [] l.fn.writer → Wrote text (map string_bytes (take l.name-index l.names)) l.writer
+    (text : List ℕ) → HasWrittenText text [] l.fn.writer → HasWrittenText text (map string_bytes (take l.name-index l.names)) l.writer

@@ -36,16 +36,16 @@ loop-init g c =
       faulty = all_faulty_after done count can c.requires.faulty;
       there = c.requires.on;
       read = λ reads files lanes.
-          let both = stands_first done count ends c.requires.lanes (recordings c.args.conf.now files) (sym c.requires.gauges.2) reads
+          let both = stands_first done count ends c.requires.lanes (recordings c.args.bridge.now files) (sym c.requires.gauges.2) reads
           lanes in
-          (both.0, subst (λ (b : BoardValue). FrontsStand (recordings c.args.conf.now files) b) (sym out) both.1);
+          (both.0, subst (λ (b : BoardValue). FrontsStand (recordings c.args.bridge.now files) b) (sym out) both.1);
       going = λ tells reads files lanes stored. (
-        going_starts (recordings c.args.conf.now files) _ _ _ _ _ _ stored
+        going_starts (recordings c.args.bridge.now files) _ _ _ _ _ _ stored
             (g.met.K.Station.only_now tells c.args.station.now),
         stored,
       );
       told = λ tells reads files lanes n told was whole.
-          let r = recordings c.args.conf.now files in
+          let r = recordings c.args.bridge.now files in
           let first = g.K.Station.told c.args.station.now in
           subst (λ (b : ℕ). IsAhead b r n told first ends c.round.new.lanes) c.requires.block
           (ahead_first done count r (sym c.requires.gauges.2) reads lanes n told first ends c.requires.lanes whole
@@ -75,16 +75,16 @@ returns-then-have_ended-clause-read g c = λ reads files lanes. on_any c.store_b
 pub returns-then-have_ended-clause-held : goal.returns-then-have_ended-clause-held
 returns-then-have_ended-clause-held g c =
     let was = c.loop.invariant in
-    held_last (length c.args.conf.now.gauges) c.loop.lanes (was.gauges.2 ∙ c.requires.gauges.2) was.can c.loop.store.head.setup
+    held_last (length c.args.bridge.now.gauges) c.loop.lanes (was.gauges.2 ∙ c.requires.gauges.2) was.can c.loop.store.head.setup
     (ends_of c.loop.store.held) c.loop.board was.leads c.store_board.result _ c.store_board.ensures.ends
 
 pub returns-then-have_ended-clause-told : goal.returns-then-have_ended-clause-told
 returns-then-have_ended-clause-told g c = λ tells reads files lanes n told had.
     let was = c.loop.invariant in
-    let r = recordings c.args.conf.now files in
-    let held = held_last (length c.args.conf.now.gauges) c.loop.lanes (was.gauges.2 ∙ c.requires.gauges.2) was.can c.loop.store.head.setup
+    let r = recordings c.args.bridge.now files in
+    let held = held_last (length c.args.bridge.now.gauges) c.loop.lanes (was.gauges.2 ∙ c.requires.gauges.2) was.can c.loop.store.head.setup
     (ends_of c.loop.store.held) c.loop.board was.leads c.store_board.result _ c.store_board.ensures.ends in
-    on_both c.store_board.result (λ to lines whole. ahead_last c.args.conf.now.block r n told (g.K.Station.told c.loop.station)
+    on_both c.store_board.result (λ to lines whole. ahead_last c.args.bridge.now.block r n told (g.K.Station.told c.loop.station)
     (g.K.Station.told c.store_board.new.station) (ends_of c.loop.store.held) (ends_of c.store_board.new.store.held) c.loop.lanes
     (sym (was.gauges.2 ∙ c.requires.gauges.2)) to lines (was.told tells reads files lanes n told had whole)) held
     (c.store_board.ensures.lines tells)
@@ -127,13 +127,13 @@ loop-preserved g c =
       there = now.there;
       read = λ reads files lanes.
           let both = now.stand reads files (was.read reads files lanes).0 in
-          (both.0, subst (λ (b : BoardValue). FrontsStand (recordings c.args.conf.now files) b) (sym out) both.1);
+          (both.0, subst (λ (b : BoardValue). FrontsStand (recordings c.args.bridge.now files) b) (sym out) both.1);
       going = λ tells reads files lanes stored.
           let so_far = was.going tells reads files lanes stored in
           let stand = (was.read reads files lanes).1 in
           (going_then so_far.0 (c.round_beside.ensures.going tells files so_far.1 stand), now.stored tells files so_far.1 stand);
       told = λ tells reads files lanes n told had whole.
-          let r = recordings c.args.conf.now files in
+          let r = recordings c.args.bridge.now files in
           let before = g.K.Station.told c.loop.station in
           let after = g.K.Station.told c.round_beside.new.station in
           let many = sym (was.gauges.2 ∙ c.requires.gauges.2) in

@@ -5,7 +5,7 @@ use Rattle.station.specs.Station.{Lines}
 use Rattle.segment_store.specs.Held.{ends_of}
 use Rattle.segment_store.specs.Moments.{IsThere}
 use Rattle.recorded.specs.Recorded.{recordings}
-use Rattle.held_samples.specs.Going.{Going, IsStored}
+use Rattle.held_samples.specs.Going.{HoldsSinceEntry, IsStored}
 use Rattle.held_samples.specs.Fronts.{FrontsStand}
 use Rattle.site_lanes.specs.Lanes.{AreLanes, AreReady, HasSource, IsFaulty, IsWhole}
 use Rattle.held_rounds.specs.Beside.{IsBoardFor, Leads}
@@ -21,25 +21,26 @@ invariant-loop g l =
     record {
       usable : l.store.shut ≡ false;
       head : l.store.head ≡ l.fn.store.head;
-      gauges : (length l.store.held ≡ length l.fn.store.held) × (l.prepared.gauges ≡ length l.conf.gauges)
+      gauges : (length l.store.held ≡ length l.fn.store.held) × (l.prepared.gauges ≡ length l.bridge.gauges)
           × (length l.lanes ≡ length l.fn.lanes);
-      grid : l.prepared.grid ≡ l.conf.setup.grid;
-      block : l.prepared.block ≡ l.conf.block;
+      grid : l.prepared.grid ≡ l.bridge.setup.grid;
+      block : l.prepared.block ≡ l.bridge.block;
       board : IsBoardFor l.prepared l.board;
       leads : Leads l.store.head.setup (ends_of l.store.held) l.board l.lanes;
       can : AreReady l.lanes;
       sources : All HasSource l.lanes;
       faulty : All (IsFaulty s.faults) l.lanes;
       there : k.tells → IsThere l.store (k.seen l.station) (k.leaves l.station);
-      read : s.tells → (files : Files) → AreLanes s.tells s.left (recordings l.conf files) l.fn.lanes →
-          AreLanes s.tells s.left (recordings l.conf files) l.lanes × FrontsStand (recordings l.conf files) l.board;
-      going : k.tells → s.tells → (files : Files) → AreLanes s.tells s.left (recordings l.conf files) l.fn.lanes →
-          IsStored (recordings l.conf files) l.fn.store (k.seen l.fn.station) (k.leaves l.fn.station) →
-          Going (recordings l.conf files) (ends_of l.fn.store.held) (k.clock l.fn.station) (k.moments l.fn.station) (k.told l.fn.station)
+      read : s.tells → (files : Files) → AreLanes s.tells s.left (recordings l.bridge files) l.fn.lanes →
+          AreLanes s.tells s.left (recordings l.bridge files) l.lanes × FrontsStand (recordings l.bridge files) l.board;
+      going : k.tells → s.tells → (files : Files) → AreLanes s.tells s.left (recordings l.bridge files) l.fn.lanes →
+          IsStored (recordings l.bridge files) l.fn.store (k.seen l.fn.station) (k.leaves l.fn.station) →
+          HoldsSinceEntry (recordings l.bridge files) (ends_of l.fn.store.held) (k.clock l.fn.station) (k.moments l.fn.station)
+          (k.told l.fn.station)
           (k.clock l.station) (k.moments l.station) (k.told l.station) (k.leaves l.station) (ends_of l.store.held)
-          × IsStored (recordings l.conf files) l.store (k.seen l.station) (k.leaves l.station);
-      told : k.tells → s.tells → (files : Files) → AreLanes s.tells s.left (recordings l.conf files) l.fn.lanes →
-          (n : List ℕ) (told : Lines) → HasTold l.conf.block (recordings l.conf files) n told (k.told l.fn.station) l.fn.lanes →
-          All IsWhole l.lanes → IsAhead l.conf.block (recordings l.conf files) n told (k.told l.station) (ends_of l.store.held) l.lanes;
+          × IsStored (recordings l.bridge files) l.store (k.seen l.station) (k.leaves l.station);
+      told : k.tells → s.tells → (files : Files) → AreLanes s.tells s.left (recordings l.bridge files) l.fn.lanes →
+          (n : List ℕ) (told : Lines) → HasTold l.bridge.block (recordings l.bridge files) n told (k.told l.fn.station) l.fn.lanes →
+          All IsWhole l.lanes → IsAhead l.bridge.block (recordings l.bridge files) n told (k.told l.station) (ends_of l.store.held) l.lanes;
       later : k.faults l.fn.station ≤ k.faults l.station;
     }

@@ -17,7 +17,7 @@ loop-gauge-init g c = record {
   gauges = refl;
   there = c.requires.on;
   going = λ tells files stored stand. (
-    going_starts (recordings c.args.conf.now files) _ _ _ _ _ _ stored
+    going_starts (recordings c.args.bridge.now files) _ _ _ _ _ _ stored
         (g.met.K.Station.only_now tells c.args.station.now),
     stored,
   );
@@ -36,38 +36,38 @@ store_gauge-requires-clause-next g c =
 
 pub store_gauge-requires-clause-gauge : goal.store_gauge-requires-clause-gauge
 store_gauge-requires-clause-gauge g c =
-    let known : c.loop-gauge.gauge < length c.args.conf.now.gauges = omega (arith, ap length c.as_slice-gauge-end.ensures) in
+    let known : c.loop-gauge.gauge < length c.args.bridge.now.gauges = omega (arith, ap length c.as_slice-gauge-end.ensures) in
     let front = c.requires.fronts c.loop-gauge.gauge c.front.result.now known c.front.ensures in
-    let many : length c.loop-gauge.store.held ≡ length c.args.conf.now.gauges = c.loop-gauge.invariant.gauges ∙ c.requires.gauges.0 in (
+    let many : length c.loop-gauge.store.held ≡ length c.args.bridge.now.gauges = c.loop-gauge.invariant.gauges ∙ c.requires.gauges.0 in (
       omega (arith, known, many, front.gauge),
-      many ∙ sym c.requires.conf.gains ∙ ap (λ (s : Setup). length s.gains) (sym c.requires.setup)
+      many ∙ sym c.requires.bridge.gains ∙ ap (λ (s : Setup). length s.gains) (sym c.requires.setup)
           ∙ ap (λ (h : HeadValue). length h.setup.gains) (sym c.loop-gauge.invariant.head),
     )
 
 pub store_gauge-requires-clause-short : goal.store_gauge-requires-clause-short
 store_gauge-requires-clause-short g c =
-    let known : c.loop-gauge.gauge < length c.args.conf.now.gauges = omega (arith, ap length c.as_slice-gauge-end.ensures) in
-    let name = name_is c.args.conf.now c.loop-gauge.gauge _ _ _ known c.as_slice.ensures c.as_str-name.ensures in
-    subst (λ (l : List ℕ). length l ≤ MAX_NAME_BYTES) name (short_name (name_of c.args.conf.now c.loop-gauge.gauge)
-    (c.requires.conf.names c.loop-gauge.gauge known))
+    let known : c.loop-gauge.gauge < length c.args.bridge.now.gauges = omega (arith, ap length c.as_slice-gauge-end.ensures) in
+    let name = name_is c.args.bridge.now c.loop-gauge.gauge _ _ _ known c.as_slice.ensures c.as_str-name.ensures in
+    subst (λ (l : List ℕ). length l ≤ MAX_NAME_BYTES) name (short_name (name_of c.args.bridge.now c.loop-gauge.gauge)
+    (c.requires.bridge.names c.loop-gauge.gauge known))
 
 pub returns-in_err-store_gauge-clause-going : goal.returns-in_err-store_gauge-clause-going
 returns-in_err-store_gauge-clause-going g c = λ tells files stored stand.
     let got = c.loop-gauge.invariant.going tells files stored stand in
     let front = c.requires.fronts c.loop-gauge.gauge c.front.result.now (omega (arith, ap length c.as_slice-gauge-end.ensures))
     c.front.ensures in
-    let known : c.loop-gauge.gauge < length c.args.conf.now.gauges = omega (arith, ap length c.as_slice-gauge-end.ensures) in
-    let name = ap (name_of c.args.conf.now) front.gauge ∙ name_is c.args.conf.now c.loop-gauge.gauge _ _ _ known c.as_slice.ensures
+    let known : c.loop-gauge.gauge < length c.args.bridge.now.gauges = omega (arith, ap length c.as_slice-gauge-end.ensures) in
+    let name = ap (name_of c.args.bridge.now) front.gauge ∙ name_is c.args.bridge.now c.loop-gauge.gauge _ _ _ known c.as_slice.ensures
     c.as_str-name.ensures in
-    going_then got.0 (c.store_gauge.ensures.going tells (recordings c.args.conf.now files) (are_names c.args.conf.now c.requires.conf)
-    (subst (λ (n : ℕ). n < length c.args.conf.now.gauges) (sym front.gauge) known) name got.1
+    going_then got.0 (c.store_gauge.ensures.going tells (recordings c.args.bridge.now files) (are_names c.args.bridge.now c.requires.bridge)
+    (subst (λ (n : ℕ). n < length c.args.bridge.now.gauges) (sym front.gauge) known) name got.1
     (stand c.loop-gauge.gauge c.front.result.now known c.front.ensures))
 
 pub loop-gauge-preserved : goal.loop-gauge-preserved
 loop-gauge-preserved g c =
-    let known : c.loop-gauge.gauge < length c.args.conf.now.gauges = omega (arith, ap length c.as_slice-gauge-end.ensures) in
+    let known : c.loop-gauge.gauge < length c.args.bridge.now.gauges = omega (arith, ap length c.as_slice-gauge-end.ensures) in
     let front = c.requires.fronts c.loop-gauge.gauge c.front.result.now known c.front.ensures in
-    let name = name_is c.args.conf.now c.loop-gauge.gauge _ _ _ known c.as_slice.ensures c.as_str-name.ensures in
+    let name = name_is c.args.bridge.now c.loop-gauge.gauge _ _ _ known c.as_slice.ensures c.as_str-name.ensures in
     let held = c.in_ok-store_gauge.ensures.held in
     record {
       usable = c.in_ok-store_gauge.ensures.usable;
@@ -77,17 +77,17 @@ loop-gauge-preserved g c =
       going = λ tells files stored stand.
           let got = c.loop-gauge.invariant.going tells files stored stand in
           let stands = stand c.loop-gauge.gauge c.front.result.now known c.front.ensures in (
-            going_then got.0 (c.store_gauge.ensures.going tells (recordings c.args.conf.now files)
-                (are_names c.args.conf.now c.requires.conf)
-                (subst (λ (n : ℕ). n < length c.args.conf.now.gauges) (sym front.gauge) known)
-                (ap (name_of c.args.conf.now) front.gauge ∙ name) got.1 stands),
-            c.in_ok-store_gauge.ensures.stored tells (recordings c.args.conf.now files) got.1 stands,
+            going_then got.0 (c.store_gauge.ensures.going tells (recordings c.args.bridge.now files)
+                (are_names c.args.bridge.now c.requires.bridge)
+                (subst (λ (n : ℕ). n < length c.args.bridge.now.gauges) (sym front.gauge) known)
+                (ap (name_of c.args.bridge.now) front.gauge ∙ name) got.1 stands),
+            c.in_ok-store_gauge.ensures.stored tells (recordings c.args.bridge.now files) got.1 stands,
           );
-      told = λ tells. round_more (name_of c.args.conf.now) (slice_index (ends_of c.args.store.now.held))
+      told = λ tells. round_more (name_of c.args.bridge.now) (slice_index (ends_of c.args.store.now.held))
           (slice_index (ends_of c.loop-gauge.store.held)) (slice_index (ends_of c.store_gauge.new.store.held)) c.loop-gauge.gauge
           c.front.result.now.from c.front.result.now.to _ _ _ (c.loop-gauge.invariant.told tells)
           (told_named (g.K.Station.told c.loop-gauge.station) (g.K.Station.told c.store_gauge.new.station)
-          (name_of c.args.conf.now c.loop-gauge.gauge) c.as_str-name.result.now c.front.result.now.from c.front.result.now.to
+          (name_of c.args.bridge.now c.loop-gauge.gauge) c.as_str-name.result.now c.front.result.now.from c.front.result.now.to
           (c.in_ok-store_gauge.ensures.told tells) name)
           (sym front.next) (ap (slice_index (ends_of c.store_gauge.new.store.held)) (sym front.gauge) ∙ held.here)
           (λ h lt. sym (held.others h (not_same h c.loop-gauge.gauge _ lt front.gauge)));

@@ -5,7 +5,7 @@ use Rattle.segment_store.specs.Moments.{IsThere}
 use Rattle.site_config.specs.Valid.{name_of}
 use Rattle.recorded.specs.Recorded.{recordings}
 use Rattle.held_samples.specs.Told.{round_lines}
-use Rattle.held_samples.specs.Going.{Going, IsStored}
+use Rattle.held_samples.specs.Going.{HoldsSinceEntry, IsStored}
 use Rattle.held_samples.specs.Fronts.{FrontsStand, FrontsEnd}
 use Rattle.held_samples.proofs.storing.store_fronts.Given as goal
 
@@ -18,14 +18,15 @@ invariant-loop-gauge g l =
       head : l.store.head ≡ l.fn.store.head;
       gauges : length l.store.held ≡ length l.fn.store.held;
       there : k.tells → IsThere l.store (k.seen l.station) (k.leaves l.station);
-      going : k.tells → (files : Files) → IsStored (recordings l.conf files) l.fn.store (k.seen l.fn.station) (k.leaves l.fn.station) →
-          FrontsStand (recordings l.conf files) l.board →
-          Going (recordings l.conf files) (ends_of l.fn.store.held) (k.clock l.fn.station) (k.moments l.fn.station) (k.told l.fn.station)
+      going : k.tells → (files : Files) → IsStored (recordings l.bridge files) l.fn.store (k.seen l.fn.station) (k.leaves l.fn.station) →
+          FrontsStand (recordings l.bridge files) l.board →
+          HoldsSinceEntry (recordings l.bridge files) (ends_of l.fn.store.held) (k.clock l.fn.station) (k.moments l.fn.station)
+          (k.told l.fn.station)
           (k.clock l.station) (k.moments l.station) (k.told l.station) (k.leaves l.station) (ends_of l.store.held)
-          × IsStored (recordings l.conf files) l.store (k.seen l.station) (k.leaves l.station);
-      told : k.tells → k.told l.station ≡ k.told l.fn.station ++ round_lines (name_of l.conf) (slice_index (ends_of l.fn.store.held))
+          × IsStored (recordings l.bridge files) l.store (k.seen l.station) (k.leaves l.station);
+      told : k.tells → k.told l.station ≡ k.told l.fn.station ++ round_lines (name_of l.bridge) (slice_index (ends_of l.fn.store.held))
           (slice_index (ends_of l.store.held)) l.gauge;
-      before : (to : ℕ → ℕ) → FrontsEnd to l.board (length l.conf.gauges) → (h : ℕ) → h < l.gauge →
+      before : (to : ℕ → ℕ) → FrontsEnd to l.board (length l.bridge.gauges) → (h : ℕ) → h < l.gauge →
           slice_index (ends_of l.store.held) h ≡ to h;
       after : (h : ℕ) → l.gauge ≤ h → slice_index (ends_of l.store.held) h ≡ slice_index (ends_of l.fn.store.held) h;
       later : k.faults l.fn.station ≤ k.faults l.station;

@@ -7,8 +7,8 @@ use Rattle.init_command.proofs.StoreMade.{init_complete, answers_read}
 use Rattle.init_command.proofs.command.init_command.Goals as goal
 
 pub returns-in-Ok-read_config-clause-complete : goal.returns-in-Ok-read_config-clause-complete
-returns-in-Ok-read_config-clause-complete g c = λ tells shows gives conf is sound none no_config no_read no_disk.
-    init_complete (config_of_bytes (g.C.Source.left c.args.config.now)) c.in-Ok-read_config.conf conf (g.T.Site.files c.args.site.now)
+returns-in-Ok-read_config-clause-complete g c = λ tells shows gives bridge is sound none no_config no_read no_disk.
+    init_complete (config_of_bytes (g.C.Source.left c.args.config.now)) c.in-Ok-read_config.bridge bridge (g.T.Site.files c.args.site.now)
     (g.K.Station.seen c.args.station.now) (g.T.Site.faults c.args.site.now) (g.T.Site.faults c.init_by.new.site)
     (g.K.Station.faults c.args.station.now) (g.K.Station.faults c.init_by.new.station) c.init_by.result
     (c.in-Ok-read_config.ensures.meaning gives) is (c.init_by.ensures.answer tells shows) c.init_by.ensures.read c.init_by.ensures.disk
@@ -23,7 +23,7 @@ returns-clause-last g c = λ tells gives some.
 
 pub returns-in-Ok-read_config-clause-answer : goal.returns-in-Ok-read_config-clause-answer
 returns-in-Ok-read_config-clause-answer g c = λ tells shows gives.
-    answers_read (config_of_bytes (g.C.Source.left c.args.config.now)) c.in-Ok-read_config.conf (g.T.Site.files c.args.site.now)
+    answers_read (config_of_bytes (g.C.Source.left c.args.config.now)) c.in-Ok-read_config.bridge (g.T.Site.files c.args.site.now)
     (g.K.Station.seen c.args.station.now) c.init_by.result (c.in-Ok-read_config.ensures.meaning gives)
     (c.init_by.ensures.answer tells shows)
 
@@ -40,5 +40,5 @@ returns-clause-asked g c = λ gives.
 
 pub returns-in-Ok-read_config-clause-asked : goal.returns-in-Ok-read_config-clause-asked
 returns-in-Ok-read_config-clause-asked g c = λ gives.
-    first_read (config_of_bytes (g.C.Source.left c.args.config.now)) c.in-Ok-read_config.conf (g.T.Site.names_asked c.args.site.now)
+    first_read (config_of_bytes (g.C.Source.left c.args.config.now)) c.in-Ok-read_config.bridge (g.T.Site.names_asked c.args.site.now)
     (g.T.Site.names_asked c.init_by.new.site) (c.in-Ok-read_config.ensures.meaning gives) c.init_by.ensures.asked

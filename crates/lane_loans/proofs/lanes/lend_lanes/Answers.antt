@@ -3,7 +3,7 @@ use Rattle.std.proofs.Common.{arith, ◌<◌, length, get_or, set, sym, subst, �
 use Rattle.std.proofs.lemmas.List.{get_or-set_same, get_or-set_other, get_or_default}
 use Rattle.std.proofs.Math.ListN.{length-set}
 use Rattle.block_workers.specs.Jobs.{CanRead}
-use Rattle.lane_loans.specs.Lent.{Lent}
+use Rattle.lane_loans.specs.Lent.{LendsSource}
 use Rattle.lane_loans.proofs.Walking.{set_two}
 use Rattle.lane_loans.proofs.lanes.lend_lanes.Goals as goal
 use Rattle.deposits.proofs.Going.{same_pool}
@@ -18,9 +18,9 @@ loop-g-preserved h c =
     record {
       long = length-set rs k a ∙ c.loop-g.invariant.long;
       wide = length-set ls k b ∙ c.loop-g.invariant.wide;
-      lent = λ u d e m. set_two Lent rs0 rs ls0 ls k a b d e lr ll (λ i n. c.loop-g.invariant.lent i d e n)
-          (subst (λ r. Lent r a (get_or ls0 k e) b) (get_or_default rs k x d lr ∙ c.loop-g.invariant.rest_readers k d (omega arith))
-          (subst (λ l. Lent (get_or rs k x) a l b) (get_or_default ls k y e ll
+      lent = λ u d e m. set_two LendsSource rs0 rs ls0 ls k a b d e lr ll (λ i n. c.loop-g.invariant.lent i d e n)
+          (subst (λ r. LendsSource r a (get_or ls0 k e) b) (get_or_default rs k x d lr ∙ c.loop-g.invariant.rest_readers k d (omega arith))
+          (subst (λ l. LendsSource (get_or rs k x) a l b) (get_or_default ls k y e ll
           ∙ c.loop-g.invariant.rest_lanes k e (omega arith)) c.lend_lane.ensures.lent)) u m;
       ready = λ u d m. below_more (λ i. CanRead (get_or (set rs k a) i d)) k
           (λ i n. subst CanRead (sym (get_or-set_other rs k i a d (λ e. omega arith))) (c.loop-g.invariant.ready i d n))

@@ -3,7 +3,7 @@ use Rattle.std.proofs.lemmas.List.{get_or-set_other, get_or_default}
 use Rattle.std.proofs.Math.ListN.{length-set}
 use Rattle.flow.specs.Kept.{over}
 use Rattle.block_workers.specs.declared.jobs.Reader.{Reader}
-use Rattle.lane_loans.specs.Lent.{Returned, blanks_at}
+use Rattle.lane_loans.specs.Lent.{ReturnsSource, blanks_at}
 use Rattle.lane_loans.proofs.Walking.{set_two, map_at, over_next}
 use Rattle.lane_loans.proofs.lanes.return_lanes.Goals as goal
 use Rattle.deposits.proofs.Going.{same_pool}
@@ -36,9 +36,10 @@ loop-g-preserved h c =
     record {
       long = length-set rs k a ∙ c.loop-g.invariant.long;
       wide = length-set ls k b ∙ c.loop-g.invariant.wide;
-      returned = λ u d e m. set_two Returned rs0 rs ls0 ls k a b d e lr ll (λ i n. c.loop-g.invariant.returned i d e n)
-          (subst (λ r. Returned r a (get_or ls0 k e) b) (get_or_default rs k x d lr ∙ c.loop-g.invariant.rest_readers k d (omega arith))
-          (subst (λ l. Returned (get_or rs k x) a l b) (get_or_default ls k y e ll
+      returned = λ u d e m. set_two ReturnsSource rs0 rs ls0 ls k a b d e lr ll (λ i n. c.loop-g.invariant.returned i d e n)
+          (subst (λ r. ReturnsSource r a (get_or ls0 k e) b)
+          (get_or_default rs k x d lr ∙ c.loop-g.invariant.rest_readers k d (omega arith))
+          (subst (λ l. ReturnsSource (get_or rs k x) a l b) (get_or_default ls k y e ll
           ∙ c.loop-g.invariant.rest_lanes k e (omega arith)) c.return_lane.ensures.returned)) u m;
       rest_readers = λ u d m. get_or-set_other rs k u a d (λ e. omega arith) ∙ c.loop-g.invariant.rest_readers u d (omega arith);
       rest_lanes = λ u d m. get_or-set_other ls k u b d (λ e. omega arith) ∙ c.loop-g.invariant.rest_lanes u d (omega arith);

@@ -1,7 +1,7 @@
 use Rattle.std.proofs.Common.{◌≡◌, ◌<◌, ◌≤◌, ◌+◌, ℕ, length, slice_index_or}
 use Rattle.flow.specs.Kept.{over}
 use Rattle.deposits.specs.Deposited.{SamePool}
-use Rattle.lane_loans.specs.Lent.{Returned, blanks_at}
+use Rattle.lane_loans.specs.Lent.{ReturnsSource, blanks_at}
 use Rattle.lane_loans.proofs.lanes.return_lanes.Given as goal
 
 abbrev pub invariant-loop-g : goal.invariant-loop-g
@@ -9,7 +9,7 @@ invariant-loop-g h l = record {
   long : length l.readers ≡ length l.fn.readers;
   wide : length l.lanes ≡ length l.fn.lanes;
   returned : (u : ℕ) (d : _) (e : _) → u < l.g
-      → Returned (slice_index_or l.fn.readers u d) (slice_index_or l.readers u d) (slice_index_or l.fn.lanes u e)
+      → ReturnsSource (slice_index_or l.fn.readers u d) (slice_index_or l.readers u d) (slice_index_or l.fn.lanes u e)
       (slice_index_or l.lanes u e);
   rest_readers : (u : ℕ) (d : _) → l.g ≤ u → slice_index_or l.readers u d ≡ slice_index_or l.fn.readers u d;
   rest_lanes : (u : ℕ) (d : _) → l.g ≤ u → slice_index_or l.lanes u d ≡ slice_index_or l.fn.lanes u d;

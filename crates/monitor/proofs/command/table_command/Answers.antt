@@ -1,6 +1,6 @@
 use Rattle.std.proofs.Common.{ℤ, ◌≡◌, ℕ, ◌<◌, List, [], ◌∷◌, ◌++◌, Option, Err, refl, sym, ◌∙◌, ap, subst, arith}
 use Rattle.outside.specs.Sink.{AppendsPrefix}
-use Rattle.outside.specs.Fault.{Rose}
+use Rattle.outside.specs.Fault.{CountRose}
 use Rattle.file_tasks.specs.Answer.{MayAnswer}
 use Rattle.file_tasks.specs.FileState.{state_of, file_state}
 use Rattle.status.specs.declared.status.Status.{Status}
@@ -55,7 +55,7 @@ returns-in-Err-clause-run g c =
     let rose = λ (is : answer ≡ ReadFault).
     let fault = read.fault (ap Err (refusal_read 0 c.in-Err.refusal (sym c.status.ensures ∙ is))) in
     let some : 0 < g.T.Src.Source.faults c.read_recording-read.new.src = omega (arith, fault, fetched.fresh) in
-    let rises : Rose (g.T.Site.faults c.args.site.now) (g.T.Site.faults c.give_back.new.self) = omega
+    let rises : CountRose (g.T.Site.faults c.args.site.now) (g.T.Site.faults c.give_back.new.self) = omega
     (arith, c.give_back.ensures.cause some, fetched.cause.later) in
     rises in
     let may = λ (tells : g.T.Site.tells). subst (λ (h : Option (List ℕ)). MayAnswer 0 answer (file_state h)) (sym (fetched.file tells))

@@ -9,8 +9,8 @@ use Rattle.recording.specs.declared.head.TheConstants.{HEAD_LENGTH}
 -- the readings are those of some samples, and the body has these and then those that are left
 abbrev pub invariant-loop : goal.invariant-loop
 invariant-loop g l = record {
-  read : (w : List ℤ) × AreFigures table_grid table_gain l.figures w × (g.S.Source.tells → Splits (drop HEAD_LENGTH (g.S.Source.left l.fn.src)) w
-      (g.S.Source.left l.src));
+  read : (w : List ℤ) × AreFigures table_grid table_gain l.figures w
+      × (g.S.Source.tells → Splits (drop HEAD_LENGTH (g.S.Source.left l.fn.src)) w (g.S.Source.left l.src));
   turns : l.counter ≤ l.figures.counts.samples;
   few : l.figures.counts.samples ≤ MAX_SAMPLES;
   later : g.S.Source.faults l.fn.src ≤ g.S.Source.faults l.src;

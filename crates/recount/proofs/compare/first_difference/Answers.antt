@@ -22,5 +22,5 @@ returns-then-refused-found c = λ gain w is.
 
 pub returns : goal.returns
 returns c = λ gain w is.
-    cells_compared c.args.seg.now c.args.recount.now gain w is (search rules) (search rules) (search rules) c.first_other_cell.result
-    (subst (λ (t : Counts). CellsAnswer c.args.seg.now t c.first_other_cell.result) c.tally.ensures c.first_other_cell.ensures)
+    cells_compared c.args.segment.now c.args.recount.now gain w is (search rules) (search rules) (search rules) c.first_other_cell.result
+    (subst (λ (t : Counts). CellsAnswer c.args.segment.now t c.first_other_cell.result) c.tally.ensures c.first_other_cell.ensures)

@@ -7,6 +7,6 @@ use Rattle.recount.proofs.compare.first_other_cell.Given as goal
 -- the rows before this one were the same
 abbrev pub invariant-loop-lo : goal.invariant-loop-lo
 invariant-loop-lo l = record {
-  same : AreSameBelow l.lo l.classes (halves_of l.seg) (count_of l.found.cells);
+  same : AreSameBelow l.lo l.classes (halves_of l.segment) (count_of l.found.cells);
   places : length l.held ≡ l.classes;
 }

@@ -27,7 +27,8 @@ returns-in-Ok-resume-clause-prints g c = λ writes tells w n h.
     let k = g.K.Station in
     let found = c.in-Ok-resume.ensures.reads tells h.head h.bodies n h.of_setup h.reads in
     c.print_held.ensures.prints writes (held_of w n)
-    (all_held_stand c.in-Ok-resume.store h.bodies (k.seen c.resume.new.station) (k.leaves c.resume.new.station) found.2 c.args.conf.now w n
+    (all_held_stand c.in-Ok-resume.store h.bodies (k.seen c.resume.new.station) (k.leaves c.resume.new.station) found.2
+    c.args.bridge.now w n
     c.in-Ok-resume.ensures.setup found.1 h.stand)
 
 pub returns-in-Ok-resume-clause-nothing : goal.returns-in-Ok-resume-clause-nothing
@@ -36,8 +37,8 @@ returns-in-Ok-resume-clause-nothing g c = λ writes not. absurd (not c.print_hel
 pub returns-in-Ok-resume-clause-answer : goal.returns-in-Ok-resume-clause-answer
 returns-in-Ok-resume-clause-answer g c = λ tells.
     let k = g.K.Station in
-    printed_answer c.args.conf.now (k.seen c.args.station.now) c.print_held.result c.print_held.ensures.kind
-    (reads_as c.args.conf.now.setup c.in-Ok-resume.store (k.seen c.resume.new.station) (k.seen c.args.station.now)
+    printed_answer c.args.bridge.now (k.seen c.args.station.now) c.print_held.result c.print_held.ensures.kind
+    (reads_as c.args.bridge.now.setup c.in-Ok-resume.store (k.seen c.resume.new.station) (k.seen c.args.station.now)
     (k.leaves c.resume.new.station)
     c.in-Ok-resume.ensures.setup (c.in-Ok-resume.ensures.on tells) (c.resume.ensures.quiet tells).seen_same)
 

@@ -16,7 +16,7 @@ use Rattle.lemmas.proofs.Outcomes.{same_ok}
 
 -- one that is sound
 pub returns-in-Ok-read_config-clause-prints : goal.returns-in-Ok-read_config-clause-prints
-returns-in-Ok-read_config-clause-prints g c = λ writes tells reads conf is w n h.
+returns-in-Ok-read_config-clause-prints g c = λ writes tells reads bridge is w n h.
     let written = g.O.Sink.written in
     let same = same_ok
     (c.in-Ok-read_config.ensures.meaning reads) is in
@@ -40,7 +40,7 @@ returns-in-Ok-read_config-clause-last g c = λ tells not.
 
 pub returns-in-Ok-read_config-clause-answer : goal.returns-in-Ok-read_config-clause-answer
 returns-in-Ok-read_config-clause-answer g c = λ tells reads.
-    over_config (config_of_bytes (g.C.Source.left c.args.config.now)) c.in-Ok-read_config.conf (g.K.Station.seen c.args.station.now)
+    over_config (config_of_bytes (g.C.Source.left c.args.config.now)) c.in-Ok-read_config.bridge (g.K.Station.seen c.args.station.now)
     (c.in-Ok-read_config.ensures.meaning reads) c.repeat_by-status.result (c.repeat_by-status.ensures.answer tells)
 
 pub returns-in-Ok-read_config-clause-complete : goal.returns-in-Ok-read_config-clause-complete

@@ -9,7 +9,7 @@ use Rattle.repeat_command.proofs.printing.print_repeat.Goals as goal
 
 pub returns-clause-ok : goal.returns-clause-ok
 returns-clause-ok g c = λ tells gain w s.
-    let grid = c.args.seg.now.grid in
+    let grid = c.args.segment.now.grid in
     let text = c.bytes.ensures ∙ (ap (λ (p : PageValue). p.bytes) c.repeat_text.ensures
     ∙ count_is c.of.new.self grid c.args.name.now (repeating_cycles (history grid gain w)) (c.of.ensures.grid ∙ c.requires.grid)
     (omega (arith, c.of.ensures.rules.limits.classes_from)) (c.of.ensures.stands gain w s)) in
@@ -18,7 +18,7 @@ returns-clause-ok g c = λ tells gain w s.
 
 pub returns-clause-failed : goal.returns-clause-failed
 returns-clause-failed g c = λ tells gain w s.
-    let grid = c.args.seg.now.grid in
+    let grid = c.args.segment.now.grid in
     let text = c.bytes.ensures ∙ (ap (λ (p : PageValue). p.bytes) c.repeat_text.ensures
     ∙ count_is c.of.new.self grid c.args.name.now (repeating_cycles (history grid gain w)) (c.of.ensures.grid ∙ c.requires.grid)
     (omega (arith, c.of.ensures.rules.limits.classes_from)) (c.of.ensures.stands gain w s)) in

@@ -9,17 +9,18 @@ use Rattle.report.proofs.gauge.gauge_text.Goals as goal
 
 pub push_gauge-requires : goal.push_gauge-requires
 push_gauge-requires c =
-    let fewer : c.args.seg.now.grid.classes ≤ c.clear.new.self.classes = search rules in
+    let fewer : c.args.segment.now.grid.classes ≤ c.clear.new.self.classes = search rules in
     let is = c.grid-grid.ensures.rules in
     record {
-      room = gauge_text-fits c.clear.new.self c.args.seg.now.grid c.args.name.now (figures_of c.args.seg.now)
-          (ap (λ (p : PageValue). p.bytes) c.clear.ensures.value) c.clear.ensures.room fewer is.over.limits (few_figures c.args.seg.now is)
+      room = gauge_text-fits c.clear.new.self c.args.segment.now.grid c.args.name.now (figures_of c.args.segment.now)
+          (ap (λ (p : PageValue). p.bytes) c.clear.ensures.value) c.clear.ensures.room fewer is.over.limits
+          (few_figures c.args.segment.now is)
           c.requires.name;
     }
 
 pub returns-clause-stands : goal.returns-clause-stands
 returns-clause-stands c = λ gain w s.
-    let v = c.args.seg.now in
+    let v = c.args.segment.now in
     let page = c.args.page.now in
     let is = c.grid-grid.ensures.rules in
     let own : c.push_gauge.new.page ≡ record page { bytes = gauge_text v.grid c.args.name.now (figures_of v) } = search rules in

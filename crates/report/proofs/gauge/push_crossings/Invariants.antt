@@ -6,5 +6,5 @@ use Rattle.report.proofs.Written.{Leaves}
 use Rattle.report.proofs.gauge.push_crossings.Given as goal
 
 abbrev pub invariant-loop-boundary : goal.invariant-loop-boundary
-invariant-loop-boundary l = Leaves l.fn.page l.page (lines_from (λ (b : ℕ). count_line b ((figures_of l.seg).crossings b)) l.boundary
-    (l.seg.grid.classes - l.boundary)) (spec.crossings l.seg.grid (figures_of l.seg))
+invariant-loop-boundary l = Leaves l.fn.page l.page (lines_from (λ (b : ℕ). count_line b ((figures_of l.segment).crossings b)) l.boundary
+    (l.segment.grid.classes - l.boundary)) (spec.crossings l.segment.grid (figures_of l.segment))

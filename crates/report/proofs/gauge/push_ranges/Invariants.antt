@@ -7,4 +7,5 @@ use Rattle.report.proofs.gauge.push_ranges.Given as goal
 
 abbrev pub invariant-loop-k : goal.invariant-loop-k
 invariant-loop-k l =
-    Leaves l.fn.page l.page (range_lines l.seg.grid.w2 (figures_of l.seg).ranges (l.k - 1)) (spec.ranges l.seg.grid (figures_of l.seg))
+    Leaves l.fn.page l.page (range_lines l.segment.grid.w2 (figures_of l.segment).ranges (l.k - 1))
+    (spec.ranges l.segment.grid (figures_of l.segment))

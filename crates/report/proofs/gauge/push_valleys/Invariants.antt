@@ -6,5 +6,5 @@ use Rattle.report.proofs.Written.{Leaves}
 use Rattle.report.proofs.gauge.push_valleys.Given as goal
 
 abbrev pub invariant-loop-level : goal.invariant-loop-level
-invariant-loop-level l = Leaves l.fn.page l.page (lines_from (λ (b : ℕ). count_line b ((figures_of l.seg).valleys b)) l.level
-    (l.seg.grid.classes - l.level)) (spec.valleys l.seg.grid (figures_of l.seg))
+invariant-loop-level l = Leaves l.fn.page l.page (lines_from (λ (b : ℕ). count_line b ((figures_of l.segment).valleys b)) l.level
+    (l.segment.grid.classes - l.level)) (spec.valleys l.segment.grid (figures_of l.segment))

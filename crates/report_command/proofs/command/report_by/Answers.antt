@@ -13,7 +13,7 @@ use Rattle.report_command.proofs.command.report_by.Goals as goal
 
 pub returns-in_default-clause-kept : goal.returns-in_default-clause-kept
 returns-in_default-clause-kept g c = λ writes tells head bodies ends of reads.
-    kept_unprinted OutOfMemory c.args.conf.now bodies (g.O.Sink.written c.args.out.now) refl
+    kept_unprinted OutOfMemory c.args.bridge.now bodies (g.O.Sink.written c.args.out.now) refl
 
 pub returns-in_default-clause-quiet : goal.returns-in_default-clause-quiet
 returns-in_default-clause-quiet g c = λ tells.
@@ -26,19 +26,19 @@ pub returns-in-Ok-resume-clause-prints : goal.returns-in-Ok-resume-clause-prints
 returns-in-Ok-resume-clause-prints g c = λ writes tells w n h.
     let k = g.K.Station in
     let found = c.in-Ok-resume.ensures.reads tells h.head h.bodies n h.of_setup h.reads in
-    c.print_held.ensures.prints writes (figures_by c.args.conf.now (held_of w n))
-    (agrees_held c.in-Ok-resume.store h.bodies (k.seen c.resume.new.station) (k.leaves c.resume.new.station) found.2 c.args.conf.now w n
+    c.print_held.ensures.prints writes (figures_by c.args.bridge.now (held_of w n))
+    (agrees_held c.in-Ok-resume.store h.bodies (k.seen c.resume.new.station) (k.leaves c.resume.new.station) found.2 c.args.bridge.now w n
     c.in-Ok-resume.ensures.setup found.1 h.stand)
 
 pub returns-in-Ok-resume-clause-kept : goal.returns-in-Ok-resume-clause-kept
 returns-in-Ok-resume-clause-kept g c = λ writes tells head bodies ends of reads.
     let k = g.K.Station in
     let found = c.in-Ok-resume.ensures.reads tells head bodies ends of reads in
-    let figures = kept_figures c.args.conf.now c.in-Ok-resume.store.held bodies in (
+    let figures = kept_figures c.args.bridge.now c.in-Ok-resume.store.held bodies in (
       figures,
-      (λ gauge lt. are_kept c.args.conf.now c.in-Ok-resume.store.held bodies gauge),
+      (λ gauge lt. are_kept c.args.bridge.now c.in-Ok-resume.store.held bodies gauge),
       c.print_held.ensures.prints writes figures
-          (agrees_kept c.in-Ok-resume.store bodies (k.seen c.resume.new.station) (k.leaves c.resume.new.station) found.2 c.args.conf.now
+          (agrees_kept c.in-Ok-resume.store bodies (k.seen c.resume.new.station) (k.leaves c.resume.new.station) found.2 c.args.bridge.now
           c.in-Ok-resume.ensures.setup),
     )
 
@@ -48,8 +48,8 @@ returns-in-Ok-resume-clause-nothing g c = λ writes not. absurd (not c.print_hel
 pub returns-in-Ok-resume-clause-answer : goal.returns-in-Ok-resume-clause-answer
 returns-in-Ok-resume-clause-answer g c = λ tells.
     let k = g.K.Station in
-    printed_answer c.args.conf.now (k.seen c.args.station.now) c.print_held.result c.print_held.ensures.kind
-    (reads_as c.args.conf.now.setup c.in-Ok-resume.store (k.seen c.resume.new.station) (k.seen c.args.station.now)
+    printed_answer c.args.bridge.now (k.seen c.args.station.now) c.print_held.result c.print_held.ensures.kind
+    (reads_as c.args.bridge.now.setup c.in-Ok-resume.store (k.seen c.resume.new.station) (k.seen c.args.station.now)
     (k.leaves c.resume.new.station)
     c.in-Ok-resume.ensures.setup (c.in-Ok-resume.ensures.on tells) (c.resume.ensures.quiet tells).seen_same)
 
@@ -67,9 +67,9 @@ returns-in-Ok-resume-clause-disk g c = λ is. absurd ((printing_other c.print_he
 pub returns-clause-kept : goal.returns-clause-kept
 returns-clause-kept g c = λ writes tells head bodies ends of reads.
     let old = g.O.Sink.written c.args.out.now in
-    subst (λ (s : Status). PrintsKept s c.args.conf.now bodies old old) (sym c.status_of.ensures)
-    (kept_unprinted (store_status c.in-Err.fault) c.args.conf.now bodies old
-    (refused_prints c.in-Err.fault c.args.conf.now (kept_figures c.args.conf.now [] bodies) old))
+    subst (λ (s : Status). PrintsKept s c.args.bridge.now bodies old old) (sym c.status_of.ensures)
+    (kept_unprinted (store_status c.in-Err.fault) c.args.bridge.now bodies old
+    (refused_prints c.in-Err.fault c.args.bridge.now (kept_figures c.args.bridge.now [] bodies) old))
 
 pub returns-clause-complete : goal.returns-clause-complete
 returns-clause-complete g c = λ tells r station out.

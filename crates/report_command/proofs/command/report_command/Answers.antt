@@ -19,20 +19,20 @@ use Rattle.lemmas.proofs.Outcomes.{same_ok}
 
 -- no room for a line
 pub returns-in_default-clause-kept : goal.returns-in_default-clause-kept
-returns-in_default-clause-kept g c = λ writes tells reads conf is head bodies ends of read.
-    kept_unprinted OutOfMemory conf bodies (g.O.Sink.written c.args.out.now) refl
+returns-in_default-clause-kept g c = λ writes tells reads bridge is head bodies ends of read.
+    kept_unprinted OutOfMemory bridge bodies (g.O.Sink.written c.args.out.now) refl
 
 -- a configuration that is refused
 
 pub returns-clause-kept : goal.returns-clause-kept
-returns-clause-kept g c = λ writes tells reads conf is head bodies ends of read.
+returns-clause-kept g c = λ writes tells reads bridge is head bodies ends of read.
     let old = g.O.Sink.written c.args.out.now in
-    kept_unprinted c.in-Err.status conf bodies old (unread_prints c.in-Err.status c.in-Err.ensures.refusal conf
-    (kept_figures conf [] bodies) old)
+    kept_unprinted c.in-Err.status bridge bodies old (unread_prints c.in-Err.status c.in-Err.ensures.refusal bridge
+    (kept_figures bridge [] bodies) old)
 
 -- one that is sound
 pub returns-in-Ok-read_config-clause-prints : goal.returns-in-Ok-read_config-clause-prints
-returns-in-Ok-read_config-clause-prints g c = λ writes tells reads conf is w n h.
+returns-in-Ok-read_config-clause-prints g c = λ writes tells reads bridge is w n h.
     let written = g.O.Sink.written in
     let same = same_ok
     (c.in-Ok-read_config.ensures.meaning reads) is in
@@ -42,7 +42,7 @@ returns-in-Ok-read_config-clause-prints g c = λ writes tells reads conf is w n 
     (λ held. c.report_by-status.ensures.prints writes tells w n held) h
 
 pub returns-in-Ok-read_config-clause-kept : goal.returns-in-Ok-read_config-clause-kept
-returns-in-Ok-read_config-clause-kept g c = λ writes tells reads conf is head bodies ends of read.
+returns-in-Ok-read_config-clause-kept g c = λ writes tells reads bridge is head bodies ends of read.
     let written = g.O.Sink.written in
     let same = same_ok
     (c.in-Ok-read_config.ensures.meaning reads) is in
@@ -66,7 +66,7 @@ returns-in-Ok-read_config-clause-last g c = λ tells not.
 
 pub returns-in-Ok-read_config-clause-answer : goal.returns-in-Ok-read_config-clause-answer
 returns-in-Ok-read_config-clause-answer g c = λ tells reads.
-    over_config (config_of_bytes (g.C.Source.left c.args.config.now)) c.in-Ok-read_config.conf (g.K.Station.seen c.args.station.now)
+    over_config (config_of_bytes (g.C.Source.left c.args.config.now)) c.in-Ok-read_config.bridge (g.K.Station.seen c.args.station.now)
     (c.in-Ok-read_config.ensures.meaning reads) c.report_by-status.result (c.report_by-status.ensures.answer tells)
 
 pub returns-in-Ok-read_config-clause-complete : goal.returns-in-Ok-read_config-clause-complete

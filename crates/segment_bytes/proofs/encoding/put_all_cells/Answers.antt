@@ -13,8 +13,8 @@ use Rattle.segment_bytes.proofs.encoding.put_all_cells.Goals as goal
 
 pub loop-lo-init : goal.loop-lo-init
 loop-lo-init c =
-    let k = c.args.seg.now.grid.classes in
-    let cells = c.args.seg.now.tally.cells in
+    let k = c.args.segment.now.grid.classes in
+    let cells = c.args.segment.now.tally.cells in
     let start = after_start k cells (cells_in_order k cells c.grid-grid.ensures.parts.ordered.cells) in
     record {
       front = ap (λ l. take c.args.at c.args.buf.now ++ flat_map cell l) start;
@@ -26,10 +26,10 @@ loop-lo-init c =
 pub put_cells_at-at-requires-clause-room : goal.put_cells_at-at-requires-clause-room
 put_cells_at-at-requires-clause-room c =
     let v = c.loop-lo.invariant in
-    let k = c.args.seg.now.grid.classes in
-    let cells = c.args.seg.now.tally.cells in
+    let k = c.args.segment.now.grid.classes in
+    let cells = c.args.segment.now.tally.cells in
     let lo = c.loop-lo.lo in
-    let bins = row_bins c.args.seg.now lo in
+    let bins = row_bins c.args.segment.now lo in
     let rest = cells_after (lo + 1) 0 cells in
     let same = ap (λ (g : GridValue). g.classes) c.grid-grid.ensures.value in
     let split = cells_row k lo cells (cells_in_order k cells c.grid-grid.ensures.parts.ordered.cells)
@@ -47,10 +47,10 @@ put_cells_at-at-requires-clause-room c =
 pub loop-lo-preserved : goal.loop-lo-preserved
 loop-lo-preserved c =
     let v = c.loop-lo.invariant in
-    let k = c.args.seg.now.grid.classes in
-    let cells = c.args.seg.now.tally.cells in
+    let k = c.args.segment.now.grid.classes in
+    let cells = c.args.segment.now.tally.cells in
     let lo = c.loop-lo.lo in
-    let bins = row_bins c.args.seg.now lo in
+    let bins = row_bins c.args.segment.now lo in
     let rest = cells_after (lo + 1) 0 cells in
     let same = ap (λ (g : GridValue). g.classes) c.grid-grid.ensures.value in
     let split = cells_row k lo cells (cells_in_order k cells c.grid-grid.ensures.parts.ordered.cells)
@@ -74,8 +74,8 @@ loop-lo-preserved c =
 pub returns : goal.returns
 returns c =
     let v = c.loop-lo.invariant in
-    let k = c.args.seg.now.grid.classes in
-    let cells = c.args.seg.now.tally.cells in
+    let k = c.args.segment.now.grid.classes in
+    let cells = c.args.segment.now.tally.cells in
     let same = ap (λ (g : GridValue). g.classes) c.grid-grid.ensures.value in
     let none = after_end 0 0 k c.loop-lo.lo cells (cells_in_order k cells c.grid-grid.ensures.parts.ordered.cells)
     (omega (arith, c.loop-lo-test.false, c.classes-lo-end.ensures.value, same)) in

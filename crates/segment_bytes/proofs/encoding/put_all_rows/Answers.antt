@@ -14,8 +14,8 @@ use Rattle.segment_bytes.proofs.encoding.put_all_rows.Goals as goal
 
 pub loop-lo-init : goal.loop-lo-init
 loop-lo-init c =
-    let k = c.args.seg.now.grid.classes in
-    let cells = c.args.seg.now.tally.cells in
+    let k = c.args.segment.now.grid.classes in
+    let cells = c.args.segment.now.tally.cells in
     let start = ap rows_of (after_start k cells (cells_in_order k cells c.grid-grid.ensures.parts.ordered.cells)) in
     record {
       front = ap (λ l. take c.args.at c.args.buf.now ++ flat_map row l) start;
@@ -28,10 +28,10 @@ loop-lo-init c =
 pub put_row_at-next-requires-clause-room : goal.put_row_at-next-requires-clause-room
 put_row_at-next-requires-clause-room c =
     let v = c.loop-lo.invariant in
-    let k = c.args.seg.now.grid.classes in
-    let cells = c.args.seg.now.tally.cells in
+    let k = c.args.segment.now.grid.classes in
+    let cells = c.args.segment.now.tally.cells in
     let lo = c.loop-lo.lo in
-    let one = row_of lo (row_bins c.args.seg.now lo) in
+    let one = row_of lo (row_bins c.args.segment.now lo) in
     let rest = rows_of (cells_after (lo + 1) 0 cells) in
     let same = ap (λ (g : GridValue). g.classes) c.grid-grid.ensures.value in
     let split = rows_row k lo cells (cells_in_order k cells c.grid-grid.ensures.parts.ordered.cells)
@@ -49,15 +49,15 @@ put_row_at-next-requires-clause-room c =
 pub overflow_add-rows : goal.overflow_add-rows
 overflow_add-rows c =
     let v = c.loop-lo.invariant in
-    let k = c.args.seg.now.grid.classes in
-    let cells = c.args.seg.now.tally.cells in
+    let k = c.args.segment.now.grid.classes in
+    let cells = c.args.segment.now.tally.cells in
     let lo = c.loop-lo.lo in
-    let one = row_of lo (row_bins c.args.seg.now lo) in
+    let one = row_of lo (row_bins c.args.segment.now lo) in
     let rest = rows_of (cells_after (lo + 1) 0 cells) in
     let same = ap (λ (g : GridValue). g.classes) c.grid-grid.ensures.value in
     let split = rows_row k lo cells (cells_in_order k cells c.grid-grid.ensures.parts.ordered.cells)
     (omega (arith, c.loop-lo-test.true, c.classes-lo-end.ensures.value, same)) in
-    let most = rows_within c.args.seg.now.grid (parts_of c.args.seg.now) c.grid-grid.ensures.parts in
+    let most = rows_within c.args.segment.now.grid (parts_of c.args.segment.now) c.grid-grid.ensures.parts in
     omega (
       arith,
       v.rows,
@@ -73,10 +73,10 @@ overflow_add-rows c =
 pub loop-lo-preserved : goal.loop-lo-preserved
 loop-lo-preserved c =
     let v = c.loop-lo.invariant in
-    let k = c.args.seg.now.grid.classes in
-    let cells = c.args.seg.now.tally.cells in
+    let k = c.args.segment.now.grid.classes in
+    let cells = c.args.segment.now.tally.cells in
     let lo = c.loop-lo.lo in
-    let one = row_of lo (row_bins c.args.seg.now lo) in
+    let one = row_of lo (row_bins c.args.segment.now lo) in
     let rest = rows_of (cells_after (lo + 1) 0 cells) in
     let same = ap (λ (g : GridValue). g.classes) c.grid-grid.ensures.value in
     let split = rows_row k lo cells (cells_in_order k cells c.grid-grid.ensures.parts.ordered.cells)
@@ -101,8 +101,8 @@ loop-lo-preserved c =
 pub returns-clause-puts : goal.returns-clause-puts
 returns-clause-puts c =
     let v = c.loop-lo.invariant in
-    let k = c.args.seg.now.grid.classes in
-    let cells = c.args.seg.now.tally.cells in
+    let k = c.args.segment.now.grid.classes in
+    let cells = c.args.segment.now.tally.cells in
     let same = ap (λ (g : GridValue). g.classes) c.grid-grid.ensures.value in
     let none = ap rows_of (after_end 0 0 k c.loop-lo.lo cells (cells_in_order k cells c.grid-grid.ensures.parts.ordered.cells)
     (omega (arith, c.loop-lo-test.false, c.classes-lo-end.ensures.value, same))) in
@@ -115,8 +115,8 @@ returns-clause-puts c =
 pub returns-clause-rows : goal.returns-clause-rows
 returns-clause-rows c =
     let v = c.loop-lo.invariant in
-    let k = c.args.seg.now.grid.classes in
-    let cells = c.args.seg.now.tally.cells in
+    let k = c.args.segment.now.grid.classes in
+    let cells = c.args.segment.now.tally.cells in
     let same = ap (λ (g : GridValue). g.classes) c.grid-grid.ensures.value in
     let none = ap rows_of (after_end 0 0 k c.loop-lo.lo cells (cells_in_order k cells c.grid-grid.ensures.parts.ordered.cells)
     (omega (arith, c.loop-lo-test.false, c.classes-lo-end.ensures.value, same))) in

@@ -12,10 +12,11 @@ use Rattle.segment_bytes.proofs.encoding.put_cells.Goals as goal
 
 pub overflow_cast-end : goal.overflow_cast-end
 overflow_cast-end c =
-    let s = is_small c.args.seg.now.grid (parts_of c.args.seg.now) (omega (arith, c.grid-grid.ensures.rules.over.limits.classes_from))
+    let s = is_small c.args.segment.now.grid (parts_of c.args.segment.now)
+    (omega (arith, c.grid-grid.ensures.rules.over.limits.classes_from))
     (omega (arith, c.grid-grid.ensures.rules.over.limits.reference_to)) c.grid-grid.ensures.parts in
-    let e : (c.put_all_cells-end.result - c.args.at - 4) / 12 ≡ length c.args.seg.now.tally.cells =
-    omega (arith, c.put_all_cells-end.ensures.next_is, cells_long c.args.seg.now.tally.cells) in
+    let e : (c.put_all_cells-end.result - c.args.at - 4) / 12 ≡ length c.args.segment.now.tally.cells =
+    omega (arith, c.put_all_cells-end.ensures.next_is, cells_long c.args.segment.now.tally.cells) in
     let n : (c.put_all_cells-end.result - c.args.at - 4) / 12 < 2 ^ 32 =
     omega (
       arith,
@@ -23,14 +24,14 @@ overflow_cast-end c =
       s.points,
       c.grid-grid.ensures.rules.span,
       s.cells,
-      mul-le c.args.seg.now.grid.classes c.args.seg.now.grid.classes MAX_CLASSES MAX_CLASSES
+      mul-le c.args.segment.now.grid.classes c.args.segment.now.grid.classes MAX_CLASSES MAX_CLASSES
           c.grid-grid.ensures.rules.over.limits.classes_to c.grid-grid.ensures.rules.over.limits.classes_to,
     ) in
     record { fits = n }
 
 pub returns-clause-puts : goal.returns-clause-puts
 returns-clause-puts c =
-    let cells = c.args.seg.now.tally.cells in
+    let cells = c.args.segment.now.tally.cells in
     let all = c.put_all_cells-end.ensures in
     let e : (c.put_all_cells-end.result - c.args.at - 4) / 12 ≡ length cells = omega (arith, all.next_is, cells_long cells) in
     let mid = c.put_all_cells-end.new.buf in
@@ -41,4 +42,4 @@ returns-clause-puts c =
     (c.set_u32.ensures ∙ ap (λ n. take c.args.at mid ++ to_be_bytes w32 n ++ drop (c.args.at + 4) mid) e)
 
 pub returns-clause-next : goal.returns-clause-next
-returns-clause-next c = omega (arith, c.put_all_cells-end.ensures.next_is, cells_long c.args.seg.now.tally.cells)
+returns-clause-next c = omega (arith, c.put_all_cells-end.ensures.next_is, cells_long c.args.segment.now.tally.cells)

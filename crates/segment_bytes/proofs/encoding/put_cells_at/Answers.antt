@@ -12,7 +12,7 @@ put_cells_of_row-requires-clause-room c =
     omega (
       arith,
       c.requires.room,
-      ap length (row_is c.args.seg.now c.args.lo c.write_cycles.new.out
+      ap length (row_is c.args.segment.now c.args.lo c.write_cycles.new.out
           (omega (
             arith,
             c.write_cycles.auto.out,
@@ -34,7 +34,7 @@ pub returns : goal.returns
 returns c =
     subst (λ l. Puts c.args.at (flat_map cell (map (cell_in c.args.lo) l)) c.args.buf.now c.put_cells_of_row.new.buf
     c.put_cells_of_row.result)
-    (row_is c.args.seg.now c.args.lo c.write_cycles.new.out
+    (row_is c.args.segment.now c.args.lo c.write_cycles.new.out
     (omega (
       arith,
       c.write_cycles.auto.out,

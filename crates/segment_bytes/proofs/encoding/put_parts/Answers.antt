@@ -16,29 +16,31 @@ put_levels-at-requires-clause-few c =
     omega (
       arith,
       ap length c.residue.ensures.residue,
-      residue_bound c.args.seg.now.grid.classes
-          (parts_of c.args.seg.now).residue c.grid-grid.ensures.parts.residue,
+      residue_bound c.args.segment.now.grid.classes
+          (parts_of c.args.segment.now).residue c.grid-grid.ensures.parts.residue,
       ap (λ (g : GridValue). g.classes) c.grid-grid.ensures.value,
       c.classes-classes.ensures.limits.classes_to,
     )
 
 pub returns-clause-body : goal.returns-clause-body
 returns-clause-body c =
-    let e = subst (λ x. Puts c.put_six-at.result (ends x) c.put_six-at.new.buf c.put_ends-at.new.buf c.put_ends-at.result)
+    let e = subst (λ x. Puts c.put_name_and_counts-at.result (ends x) c.put_name_and_counts-at.new.buf c.put_ends-at.new.buf
+    c.put_ends-at.result)
     c.ends-ends.ensures c.put_ends-at.ensures.puts in
     let r = subst (λ x. Puts c.put_ends-at.result (list_bytes w16 (to_be_bytes w16) x) c.put_ends-at.new.buf c.put_levels-at.new.buf
     c.put_levels-at.result) c.residue.ensures.residue c.put_levels-at.ensures.puts in
-    let all = puts_then _ _ (puts_then _ _ c.put_six-at.ensures.puts e) (puts_then _ _ r (puts_then _ _ c.put_list0-at.ensures.puts
+    let all = puts_then _ _ (puts_then _ _ c.put_name_and_counts-at.ensures.puts e)
+    (puts_then _ _ r (puts_then _ _ c.put_list0-at.ensures.puts
     (puts_then _ _ c.put_table-at.ensures.puts (puts_then _ _ c.put_table-at-2.ensures.puts
     (puts_then _ _ c.put_table-at-3.ensures.puts c.put_table.ensures.puts))))) in
-    all.front ∙ sym (body_is c.args.layout (parts_of c.args.seg.now))
+    all.front ∙ sym (body_is c.args.layout (parts_of c.args.segment.now))
 
 pub returns-clause-next : goal.returns-clause-next
 returns-clause-next c =
     omega (
       arith,
-      body_parts c.args.layout (parts_of c.args.seg.now),
-      c.put_six-at.ensures.next,
+      body_parts c.args.layout (parts_of c.args.segment.now),
+      c.put_name_and_counts-at.ensures.next,
       c.put_ends-at.ensures.next,
       c.put_levels-at.ensures.next,
       ap length c.residue.ensures.residue,

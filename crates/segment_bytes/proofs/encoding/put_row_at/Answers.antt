@@ -12,7 +12,7 @@ put_row-requires-clause-room c =
       arith,
       c.requires.room,
       ap (λ l. length (flat_map row (row_of c.args.lo l)))
-          (row_is c.args.seg.now c.args.lo c.write_cycles.new.out
+          (row_is c.args.segment.now c.args.lo c.write_cycles.new.out
           (omega (
             arith,
             c.write_cycles.auto.out,
@@ -33,7 +33,7 @@ put_row-requires-clause-room c =
 pub returns-clause-puts : goal.returns-clause-puts
 returns-clause-puts c =
     subst (λ l. Puts c.args.at (flat_map row (row_of c.args.lo l)) c.args.buf.now c.put_row.new.buf c.put_row.result.0)
-    (row_is c.args.seg.now c.args.lo c.write_cycles.new.out
+    (row_is c.args.segment.now c.args.lo c.write_cycles.new.out
     (omega (
       arith,
       c.write_cycles.auto.out,
@@ -56,7 +56,7 @@ returns-clause-rows c =
     omega (
       arith,
       c.put_row.ensures.rows,
-      ap (λ l. length (row_of c.args.lo l)) (row_is c.args.seg.now c.args.lo c.write_cycles.new.out
+      ap (λ l. length (row_of c.args.lo l)) (row_is c.args.segment.now c.args.lo c.write_cycles.new.out
           (omega (
             arith,
             c.write_cycles.auto.out,

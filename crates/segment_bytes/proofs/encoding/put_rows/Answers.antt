@@ -10,11 +10,17 @@ use Rattle.segment_bytes.proofs.encoding.put_rows.Goals as goal
 
 pub put_all_rows-end-requires-clause-room : goal.put_all_rows-end-requires-clause-room
 put_all_rows-end-requires-clause-room c =
-    omega (arith, c.requires.room, rows_long (rows_of c.args.seg.now.tally.cells), ap length (cells_again c.args.seg.now.tally.cells))
+    omega (
+      arith,
+      c.requires.room,
+      rows_long (rows_of c.args.segment.now.tally.cells),
+      ap length
+          (cells_again c.args.segment.now.tally.cells),
+    )
 
 pub returns-clause-puts : goal.returns-clause-puts
 returns-clause-puts c =
-    let rows = rows_of c.args.seg.now.tally.cells in
+    let rows = rows_of c.args.segment.now.tally.cells in
     let all = c.put_all_rows-end.ensures in
     let mid = c.put_all_rows-end.new.buf in
     number_before 2 (to_be_bytes w16 (length rows)) (flat_map row rows) c.args.buf.now mid c.set_u16.new.buf c.args.at
@@ -23,7 +29,7 @@ returns-clause-puts c =
       arith,
       all.puts.next_is,
       rows_long rows,
-      ap length (cells_again c.args.seg.now.tally.cells),
+      ap length (cells_again c.args.segment.now.tally.cells),
       c.requires.room,
       c.put_all_rows-end.auto.buf,
     ))
@@ -35,6 +41,6 @@ returns-clause-next c =
     omega (
       arith,
       c.put_all_rows-end.ensures.puts.next_is,
-      rows_long (rows_of c.args.seg.now.tally.cells),
-      ap length (cells_again c.args.seg.now.tally.cells),
+      rows_long (rows_of c.args.segment.now.tally.cells),
+      ap length (cells_again c.args.segment.now.tally.cells),
     )

@@ -12,7 +12,7 @@ put_list-requires-clause-room c =
     omega (
       arith,
       c.requires.room,
-      ap length (table_bins c.args.seg.now c.args.table k.result.0 k.result.1 c.fill.new.out k.ensures.first k.ensures.keys
+      ap length (table_bins c.args.segment.now c.args.table k.result.0 k.result.1 c.fill.new.out k.ensures.first k.ensures.keys
           (omega (
             arith,
             c.fill.auto.out,
@@ -26,7 +26,7 @@ pub returns-clause-puts : goal.returns-clause-puts
 returns-clause-puts c =
     let k = c.keys_of-first in
     subst (λ l. Puts c.args.at (list_bytes w16 bin l) c.args.buf.now c.put_list.new.buf c.put_list.result)
-    (table_bins c.args.seg.now c.args.table k.result.0 k.result.1 c.fill.new.out k.ensures.first k.ensures.keys
+    (table_bins c.args.segment.now c.args.table k.result.0 k.result.1 c.fill.new.out k.ensures.first k.ensures.keys
     (omega (
       arith,
       c.fill.auto.out,
@@ -41,7 +41,7 @@ returns-clause-next c =
     omega (
       arith,
       c.put_list.ensures.next,
-      ap length (table_bins c.args.seg.now c.args.table k.result.0 k.result.1 c.fill.new.out k.ensures.first k.ensures.keys
+      ap length (table_bins c.args.segment.now c.args.table k.result.0 k.result.1 c.fill.new.out k.ensures.first k.ensures.keys
           (omega (
             arith,
             c.fill.auto.out,

@@ -1,5 +1,5 @@
 use Rattle.std.proofs.Common.{◌≡◌, ◌≤◌, ◌+◌, ◌-◌, ◌++◌, length, map}
-use Rattle.segment_bytes.specs.Fields.{times}
+use Rattle.segment_bytes.specs.Fields.{entry_list}
 use Rattle.segment_bytes.specs.Grammar.{bin_at}
 use Rattle.segment_bytes.specs.Rows.{cell_in}
 use Rattle.segment_bytes.proofs.Loops.{seen}
@@ -7,8 +7,8 @@ use Rattle.segment_bytes.proofs.row_reading.push_cells.Given as goal
 
 abbrev pub invariant-loop : goal.invariant-loop
 invariant-loop l = record {
-  so_far : seen (λ bins. l.cells.items ++ map (cell_in l.lo) bins) (times bin_at (l.count - l.counter) l.have l.rest) ≡ seen
-      (λ bins. l.fn.cells.items ++ map (cell_in l.lo) bins) (times bin_at l.count l.have l.bytes);
+  so_far : seen (λ bins. l.cells.items ++ map (cell_in l.lo) bins) (entry_list bin_at (l.count - l.counter) l.have l.rest) ≡ seen
+      (λ bins. l.fn.cells.items ++ map (cell_in l.lo) bins) (entry_list bin_at l.count l.have l.bytes);
   within : length l.rest ≤ length l.bytes;
   few : length l.cells.items ≤ length l.fn.cells.items + l.counter;
 }

@@ -1,5 +1,5 @@
 use Rattle.std.proofs.Common.{◌≡◌, ◌≤◌, ◌*◌, ◌-◌, ◌^◌, length}
-use Rattle.segment_bytes.specs.Fields.{times}
+use Rattle.segment_bytes.specs.Fields.{entry_list}
 use Rattle.segment_bytes.specs.Grammar.{row_at}
 use Rattle.segment_bytes.specs.RowReading.{no_rows, with_rows}
 use Rattle.segment_bytes.specs.Views.{see_rows}
@@ -8,8 +8,8 @@ use Rattle.segment_bytes.proofs.row_reading.rows_of.Given as goal
 
 abbrev pub invariant-loop : goal.invariant-loop
 invariant-loop l = record {
-  so_far : seen (with_rows l.classes (see_rows l.rows)) (times row_at (l.count - l.counter) l.have l.rest) ≡ seen
-      (with_rows l.classes no_rows) (times row_at l.count l.have l.bytes);
+  so_far : seen (with_rows l.classes (see_rows l.rows)) (entry_list row_at (l.count - l.counter) l.have l.rest) ≡ seen
+      (with_rows l.classes no_rows) (entry_list row_at l.count l.have l.bytes);
   within : length l.rest ≤ length l.bytes;
   few : length l.rows.cells.items ≤ l.counter * 2 ^ 16;
 }

@@ -6,30 +6,30 @@ use Rattle.segment.specs.Parts.{parts_of}
 use Rattle.segment_bytes.specs.declared.fault.BytesFault.{BytesFault}
 use Rattle.segment_bytes.specs.declared.fault.BytesFault.TheVariants as faults
 use Rattle.segment_bytes.specs.declared.layout.Layout.{Layout}
-use Rattle.segment_bytes.specs.Fields.{Fails}
+use Rattle.segment_bytes.specs.Fields.{FailsWith}
 use Rattle.segment_bytes.specs.Decoding.{segment_in}
 use Rattle.segment_rules.specs.declared.name.Name.{Name}
 use Rattle.segment.specs.declared.segment.join.JoinRefusal.TheVariants as refusals
 use Rattle.segment_store.specs.declared.damage.Damage.TheVariants as damages
 use Rattle.segment_store.specs.declared.damage.Stop.{Stop}
 use Rattle.segment_store.specs.Held.{ends_of}
-use Rattle.segment_store.specs.Resuming.{Checks, Told, StopsAs, digest, no_body, stranger, empty, apart, sound}
+use Rattle.segment_store.specs.Resuming.{Checks, TellsAs, StopsAs, digest, no_body, stranger, empty, apart, sound}
 use Rattle.segment_store.proofs.checking.check.Goals as goal
 
 module _ (lay : Layout) (setup : Setup) (ends bytes kept found : List ℕ) (same : found ≡ kept) where
-  no_body_of : (e : BytesFault) (stop : Stop) → Fails e (segment_in lay setup.grid bytes) → StopsAs e stop
-      → Told parts_of (Checks lay setup ends bytes kept found) (Err stop)
-  no_body_of faults.OutOfMemory stop f is = subst (λ s. Told parts_of (Checks lay setup ends bytes kept found) (Err s)) (sym is) tt
+  no_body_of : (e : BytesFault) (stop : Stop) → FailsWith e (segment_in lay setup.grid bytes) → StopsAs e stop
+      → TellsAs parts_of (Checks lay setup ends bytes kept found) (Err stop)
+  no_body_of faults.OutOfMemory stop f is = subst (λ s. TellsAs parts_of (Checks lay setup ends bytes kept found) (Err s)) (sym is) tt
   no_body_of (faults.Short need have) stop f is =
-      subst (λ s. Told parts_of (Checks lay setup ends bytes kept found) (Err s)) (sym is) (no_body same f)
+      subst (λ s. TellsAs parts_of (Checks lay setup ends bytes kept found) (Err s)) (sym is) (no_body same f)
   no_body_of (faults.Trailing rest) stop f is =
-      subst (λ s. Told parts_of (Checks lay setup ends bytes kept found) (Err s)) (sym is) (no_body same f)
+      subst (λ s. TellsAs parts_of (Checks lay setup ends bytes kept found) (Err s)) (sym is) (no_body same f)
   no_body_of (faults.Order list index) stop f is =
-      subst (λ s. Told parts_of (Checks lay setup ends bytes kept found) (Err s)) (sym is) (no_body same f)
-  no_body_of (faults.Sum rule) stop f is = subst (λ s. Told parts_of (Checks lay setup ends bytes kept found) (Err s)) (sym is)
+      subst (λ s. TellsAs parts_of (Checks lay setup ends bytes kept found) (Err s)) (sym is) (no_body same f)
+  no_body_of (faults.Sum rule) stop f is = subst (λ s. TellsAs parts_of (Checks lay setup ends bytes kept found) (Err s)) (sym is)
       (no_body same f)
   no_body_of (faults.Residue rule) stop f is =
-      subst (λ s. Told parts_of (Checks lay setup ends bytes kept found) (Err s)) (sym is) (no_body same f)
+      subst (λ s. TellsAs parts_of (Checks lay setup ends bytes kept found) (Err s)) (sym is) (no_body same f)
 
 pub returns-then-not-are_same-clause-checks : goal.returns-then-not-are_same-clause-checks
 returns-then-not-are_same-clause-checks c = digest (λ e. absurd (false≢true (sym c.if-not-are_same.true ∙ c.are_same.ensures.1 e)))

@@ -1,8 +1,8 @@
 use Rattle.std.proofs.Common.{List, ℕ, get_or, ap, ◌∙◌, sym, arith}
 use Rattle.std.proofs.lemmas.List.{get_or-take}
 use Rattle.store_head.specs.Head.{front}
-use Rattle.store_head.specs.Judging.{layout_of}
-use Rattle.store_head.proofs.Judged.{front_is}
+use Rattle.store_head.specs.HeadFaults.{layout_of}
+use Rattle.store_head.proofs.Faultless.{front_is}
 use Rattle.segment_store.proofs.Quiet.{quiet_starts, quiet_on}
 use Rattle.segment_store.proofs.heads.check_front.Goals as goal
 

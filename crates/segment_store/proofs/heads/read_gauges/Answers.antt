@@ -5,7 +5,7 @@ use Rattle.std.proofs.lemmas.List.Elements.{All-push}
 use Rattle.calibration.specs.Gain.{IsGain}
 use Rattle.recording.specs.Head.{IsRecorded}
 use Rattle.store_head.specs.Head.{gauge, gauges}
-use Rattle.store_head.specs.Judging.{gauge_fault, gauge_at}
+use Rattle.store_head.specs.HeadFaults.{gauge_fault, gauge_at}
 use Rattle.store_head.proofs.Gauges.{fault_next, bytes_more}
 use Rattle.segment_store.proofs.Quiet.{quiet_then}
 use Rattle.segment_store.proofs.heads.read_gauges.Goals as goal

@@ -3,7 +3,7 @@ use Rattle.std.specs.Prelude.{All}
 use Rattle.calibration.specs.Gain.{IsGain}
 use Rattle.recording.specs.Head.{IsRecorded}
 use Rattle.store_head.specs.Head.{gauges}
-use Rattle.store_head.specs.Judging.{gauges_fault}
+use Rattle.store_head.specs.HeadFaults.{gauges_fault}
 use Rattle.segment_store.specs.Quiet.{IsQuiet}
 use Rattle.segment_store.proofs.heads.read_gauges.Given as goal
 

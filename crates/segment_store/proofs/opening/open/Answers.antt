@@ -7,7 +7,7 @@ use Rattle.segment_bytes.specs.Sizes.{max_body}
 use Rattle.segment_rules.specs.Parts.{PartsValue}
 use Rattle.store_head.specs.declared.setup.StoreHead.{StoreHead}
 use Rattle.store_head.specs.Head.{see_head, head_of, start_of}
-use Rattle.store_head.specs.Judging.{head_fault, layout_in}
+use Rattle.store_head.specs.HeadFaults.{head_fault, layout_in}
 use Rattle.segment_store.specs.declared.putting.State.{State}
 use Rattle.segment_store.specs.Held.{ends_of}
 use Rattle.segment_store.specs.Image.{nothing_held}

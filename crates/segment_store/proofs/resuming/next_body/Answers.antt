@@ -11,7 +11,7 @@ use Rattle.segment_store.specs.declared.damage.Damage.TheVariants as damages
 use Rattle.segment_store.specs.declared.damage.Stop.{Stop}
 use Rattle.segment_store.specs.declared.damage.Stop.TheVariants as stops
 use Rattle.calibration.specs.declared.setup.Setup.{Setup}
-use Rattle.segment_store.specs.Resuming.{field_at, length_at, bytes_at, kept_at, found_at, Checks, Finds, Told, IsWhole, no_length, too_long, no_gate, whole}
+use Rattle.segment_store.specs.Resuming.{field_at, length_at, bytes_at, kept_at, found_at, Checks, Finds, TellsAs, IsWhole, no_length, too_long, no_gate, whole}
 use Rattle.segment_store.proofs.Nearness.{step_is}
 use Rattle.segment_store.proofs.Quiet.{quiet_starts, quiet_on}
 use Rattle.segment_store.proofs.resuming.next_body.Goals as goal
@@ -29,12 +29,12 @@ range_is image image2 buf from len from2 len2 same a b is = is ∙ ap (λ i. sli
     ∙ ap (λ n. slice_range image from (from + n)) b ∙ ap (λ n. slice_range image n (n + len2)) a
 
 module _ (lay : Layout) (setup : Setup) (limit : ℕ) (image : Image) (ends : List ℕ) (at next : ℕ) (w : IsWhole limit image at) where
-  told_ok : (p : SegmentValue) → Told parts_of (Checks lay setup ends (bytes_at image at) (kept_at image at) (found_at image at)) (Ok p)
+  told_ok : (p : SegmentValue) → TellsAs parts_of (Checks lay setup ends (bytes_at image at) (kept_at image at) (found_at image at)) (Ok p)
       → Finds lay setup limit image ends at (Ok (parts_of p))
   told_ok p t = whole w t
 
-  told_err : (e : Stop) → Told parts_of (Checks lay setup ends (bytes_at image at) (kept_at image at) (found_at image at)) (Err e)
-      → Told (λ (x : SegmentValue × ℕ). parts_of x.0) (Finds lay setup limit image ends at) (Err e)
+  told_err : (e : Stop) → TellsAs parts_of (Checks lay setup ends (bytes_at image at) (kept_at image at) (found_at image at)) (Err e)
+      → TellsAs (λ (x : SegmentValue × ℕ). parts_of x.0) (Finds lay setup limit image ends at) (Err e)
   told_err stops.Memory t = tt
   told_err stops.Disk t = tt
   told_err (stops.Damaged d) t = whole w t
@@ -80,13 +80,13 @@ returns-in-Ok-clause-finds g c tells =
     ∙ ap (λ (l : List ℕ). sha256 (l ++ c.read_at-2.new.buf)) (field_is image at _ field)
     ∙ ap (λ (l : List ℕ). sha256 (field_at image at ++ l)) body in
     let setup : Setup = c.args.setup.now in
-    let checked : Told parts_of (Checks c.args.layout setup (ends_of c.args.held.now) (bytes_at image at) (kept_at image at)
+    let checked : TellsAs parts_of (Checks c.args.layout setup (ends_of c.args.held.now) (bytes_at image at) (kept_at image at)
     (found_at image at)) (Ok c.in-Ok.segment) =
-    subst (λ f. Told parts_of (Checks c.args.layout setup (ends_of c.args.held.now) (bytes_at image at) (kept_at image at) f)
+    subst (λ f. TellsAs parts_of (Checks c.args.layout setup (ends_of c.args.held.now) (bytes_at image at) (kept_at image at) f)
     (Ok c.in-Ok.segment)) found
-    (subst (λ k. Told parts_of (Checks c.args.layout setup (ends_of c.args.held.now) (bytes_at image at) k c.digest_of-found.result)
+    (subst (λ k. TellsAs parts_of (Checks c.args.layout setup (ends_of c.args.held.now) (bytes_at image at) k c.digest_of-found.result)
     (Ok c.in-Ok.segment)) kept
-    (subst (λ b. Told parts_of (Checks c.args.layout setup (ends_of c.args.held.now) b c.read_at-3.new.buf c.digest_of-found.result)
+    (subst (λ b. TellsAs parts_of (Checks c.args.layout setup (ends_of c.args.held.now) b c.read_at-3.new.buf c.digest_of-found.result)
     (Ok c.in-Ok.segment)) body c.in-Ok.ensures.checks)) in
     let is_whole : IsWhole c.args.limit image at = record {
       field = omega (arith, size);
@@ -115,13 +115,13 @@ returns-in-Err-clause-finds g c tells =
     ∙ ap (λ (l : List ℕ). sha256 (l ++ c.read_at-2.new.buf)) (field_is image at _ field)
     ∙ ap (λ (l : List ℕ). sha256 (field_at image at ++ l)) body in
     let setup : Setup = c.args.setup.now in
-    let checked : Told parts_of (Checks c.args.layout setup (ends_of c.args.held.now) (bytes_at image at) (kept_at image at)
+    let checked : TellsAs parts_of (Checks c.args.layout setup (ends_of c.args.held.now) (bytes_at image at) (kept_at image at)
     (found_at image at)) (Err c.in-Err.stop) =
-    subst (λ f. Told parts_of (Checks c.args.layout setup (ends_of c.args.held.now) (bytes_at image at) (kept_at image at) f)
+    subst (λ f. TellsAs parts_of (Checks c.args.layout setup (ends_of c.args.held.now) (bytes_at image at) (kept_at image at) f)
     (Err c.in-Err.stop)) found
-    (subst (λ k. Told parts_of (Checks c.args.layout setup (ends_of c.args.held.now) (bytes_at image at) k c.digest_of-found.result)
+    (subst (λ k. TellsAs parts_of (Checks c.args.layout setup (ends_of c.args.held.now) (bytes_at image at) k c.digest_of-found.result)
     (Err c.in-Err.stop)) kept
-    (subst (λ b. Told parts_of (Checks c.args.layout setup (ends_of c.args.held.now) b c.read_at-3.new.buf c.digest_of-found.result)
+    (subst (λ b. TellsAs parts_of (Checks c.args.layout setup (ends_of c.args.held.now) b c.read_at-3.new.buf c.digest_of-found.result)
     (Err c.in-Err.stop)) body c.in-Err.ensures.checks)) in
     let is_whole : IsWhole c.args.limit image at = record {
       field = omega (arith, size);

@@ -6,7 +6,7 @@ use Rattle.sheet_command.proofs.command.sheet_command.Goals as goal
 
 pub returns-in-Ok-read_config-clause-last : goal.returns-in-Ok-read_config-clause-last
 returns-in-Ok-read_config-clause-last g c = λ tells gives some.
-    line_told (config_of_bytes (g.C.Source.left c.args.config.now)) c.in-Ok-read_config.conf c.sheet_by-status.result c.name_in.result.now
+    line_told (config_of_bytes (g.C.Source.left c.args.config.now)) c.in-Ok-read_config.bridge c.sheet_by-status.result c.name_in.result.now
     (g.K.Station.told c.args.station.now) (g.K.Station.told c.tell_fault.new.station) (c.in-Ok-read_config.ensures.meaning gives)
     c.name_in.ensures
     (c.tell_fault.ensures.last tells some)
@@ -29,5 +29,5 @@ returns-clause-asked g c = λ gives.
 
 pub returns-in-Ok-read_config-clause-asked : goal.returns-in-Ok-read_config-clause-asked
 returns-in-Ok-read_config-clause-asked g c = λ gives.
-    first_read (config_of_bytes (g.C.Source.left c.args.config.now)) c.in-Ok-read_config.conf (g.T.Site.names_asked c.args.site.now)
+    first_read (config_of_bytes (g.C.Source.left c.args.config.now)) c.in-Ok-read_config.bridge (g.T.Site.names_asked c.args.site.now)
     (g.T.Site.names_asked c.sheet_by-status.new.site) (c.in-Ok-read_config.ensures.meaning gives) c.sheet_by-status.ensures.asked

@@ -1,6 +1,6 @@
 use Rattle.std.specs.List.{All}
 use Rattle.std.proofs.Common.{◌≡◌, ◌≤◌, ◌+◌, vec_len}
-use Rattle.outside.specs.Fault.{Rose}
+use Rattle.outside.specs.Fault.{CountRose}
 use Rattle.outside.specs.Site.{AsksNothing}
 use Rattle.site_lanes.specs.Lanes.{HasSource, IsFaulty, HasNotFailed}
 use Rattle.site_lanes.proofs.ending.give_back.Given as goal
@@ -15,6 +15,6 @@ invariant-loop g l =
       asked : AsksNothing (t.names_asked l.fn.site) (t.names_asked l.site);
       files : t.tells → t.files l.site ≡ t.files l.fn.site;
       left : l.counter + vec_len l.lanes ≡ vec_len l.fn.lanes;
-      fault : (Rose (t.faults l.fn.site) (t.faults l.site) → ⊥) → All HasNotFailed l.lanes.items → All HasNotFailed l.fn.lanes.items;
+      fault : (CountRose (t.faults l.fn.site) (t.faults l.site) → ⊥) → All HasNotFailed l.lanes.items → All HasNotFailed l.fn.lanes.items;
       later : t.faults l.fn.site ≤ t.faults l.site;
     }

@@ -1,9 +1,9 @@
 use Rattle.std.proofs.Common.{◌≡◌, ◌≤◌, ◌<◌, ◌+◌, ◌*◌, ◌++◌, ◌∷◌, [], length, get_or, set, refl, sym, ap, ◌∙◌, subst, arith, Some}
 use Rattle.segment_rules.specs.declared.name.Name.{Name}
 use Rattle.segment.specs.Name.{name_of}
-use Rattle.board.specs.Board.{BoardValue, Row, IsBoard, Carries}
-use Rattle.board.specs.Rows.{Placed, Doubled}
-use Rattle.board.specs.Deposits.{IsDepositAnswer, Numbered}
+use Rattle.board.specs.Board.{BoardValue, Row, IsBoard, CarriesSamples}
+use Rattle.board.specs.Rows.{PlacesSegment, FindsDouble}
+use Rattle.board.specs.Deposits.{IsDepositAnswer, IsBlockNumber}
 use Rattle.board.specs.declared.windows.Deposit.TheVariants.{Double}
 use Rattle.board.proofs.Depositing.{placed_board, placed_room, placed_carries, row_same, doubled, can_place, number_fits, number_there}
 use Rattle.flow.specs.declared.TheConstants.{BLOCKS_PER_WINDOW}
@@ -18,22 +18,22 @@ invariant_of-self c =
       arrivals =
           c.self.inside.arrivals.items;
     } in
-    let seg = c.args.seg.now in
+    let segment = c.args.segment.now in
     let n = c.name-name.result in
-    let is : n ≡ name_of seg = c.name-name.ensures.value in
+    let is : n ≡ name_of segment = c.name-name.ensures.value in
     let there : n.gauge < length b.rows = omega (arith, c.if-gauge-len.false, c.len.ensures, c.self.inside.rows.ok.0) in
-    let known : seg.gauge < length b.rows = subst (λ (m : Name). m.gauge < length b.rows) is there in
+    let known : segment.gauge < length b.rows = subst (λ (m : Name). m.gauge < length b.rows) is there in
     let row : Row = c.index_mut.result.now in
-    let at : row ≡ get_or b.rows seg.gauge row = subst (λ (m : Name). row ≡ get_or b.rows m.gauge row) is c.index_mut.ensures.value in
-    let start : c.place.new.self.start ≡ (get_or b.rows seg.gauge row).start = c.place.ensures.start ∙ ap (λ (r : Row). r.start) at in
-    let number : Numbered b.block (length b.rows) (get_or b.rows seg.gauge row).start (name_of seg) (Some c.in-Some.number) =
-    subst (λ (m : Name). Numbered b.block (length b.rows) (get_or b.rows m.gauge row).start m (Some c.in-Some.number)) is
+    let at : row ≡ get_or b.rows segment.gauge row = subst (λ (m : Name). row ≡ get_or b.rows m.gauge row) is c.index_mut.ensures.value in
+    let start : c.place.new.self.start ≡ (get_or b.rows segment.gauge row).start = c.place.ensures.start ∙ ap (λ (r : Row). r.start) at in
+    let number : IsBlockNumber b.block (length b.rows) (get_or b.rows segment.gauge row).start (name_of segment) (Some c.in-Some.number) =
+    subst (λ (m : Name). IsBlockNumber b.block (length b.rows) (get_or b.rows m.gauge row).start m (Some c.in-Some.number)) is
     (number_there b n c.index.result.now row _ _ b.block c.in-Some.number there c.start-start.ensures
     (c.len-2.ensures ∙ c.self.inside.rows.ok.0) c.index.ensures c.in-Some.ensures) in
-    let double : Doubled (get_or b.rows seg.gauge row).slots c.place.new.self.slots seg c.in-Some-place.interval = subst
-    (λ (r : Row). Doubled r.slots c.place.new.self.slots seg c.in-Some-place.interval) at c.in-Some-place.ensures.placing in
+    let double : FindsDouble (get_or b.rows segment.gauge row).slots c.place.new.self.slots segment c.in-Some-place.interval = subst
+    (λ (r : Row). FindsDouble r.slots c.place.new.self.slots segment c.in-Some-place.interval) at c.in-Some-place.ensures.placing in
     let same : set b.rows n.gauge c.place.new.self ≡ b.rows = ap (λ (m : Name). set b.rows m.gauge c.place.new.self) is
-    ∙ row_same b.rows seg.gauge c.place.new.self row start double.same in (
+    ∙ row_same b.rows segment.gauge c.place.new.self row start double.same in (
       c.self.invariant.0,
       subst (λ r. IsBoard (record { grid = b.grid; block = b.block; rows = r; arrivals = b.arrivals }))
           (sym same) c.self.invariant.1,
@@ -48,24 +48,25 @@ push_reserved-requires c =
       arrivals =
           c.self.inside.arrivals.items;
     } in
-    let seg = c.args.seg.now in
+    let segment = c.args.segment.now in
     let n = c.name-name.result in
-    let is : n ≡ name_of seg = c.name-name.ensures.value in
+    let is : n ≡ name_of segment = c.name-name.ensures.value in
     let there : n.gauge < length b.rows = omega (arith, c.if-gauge-len.false, c.len.ensures, c.self.inside.rows.ok.0) in
-    let known : seg.gauge < length b.rows = subst (λ (m : Name). m.gauge < length b.rows) is there in
+    let known : segment.gauge < length b.rows = subst (λ (m : Name). m.gauge < length b.rows) is there in
     let row : Row = c.index_mut.result.now in
-    let at : row ≡ get_or b.rows seg.gauge row = subst (λ (m : Name). row ≡ get_or b.rows m.gauge row) is c.index_mut.ensures.value in
-    let start : c.place.new.self.start ≡ (get_or b.rows seg.gauge row).start = c.place.ensures.start ∙ ap (λ (r : Row). r.start) at in
-    let number : Numbered b.block (length b.rows) (get_or b.rows seg.gauge row).start (name_of seg) (Some c.in-Some.number) =
-    subst (λ (m : Name). Numbered b.block (length b.rows) (get_or b.rows m.gauge row).start m (Some c.in-Some.number)) is
+    let at : row ≡ get_or b.rows segment.gauge row = subst (λ (m : Name). row ≡ get_or b.rows m.gauge row) is c.index_mut.ensures.value in
+    let start : c.place.new.self.start ≡ (get_or b.rows segment.gauge row).start = c.place.ensures.start ∙ ap (λ (r : Row). r.start) at in
+    let number : IsBlockNumber b.block (length b.rows) (get_or b.rows segment.gauge row).start (name_of segment) (Some c.in-Some.number) =
+    subst (λ (m : Name). IsBlockNumber b.block (length b.rows) (get_or b.rows m.gauge row).start m (Some c.in-Some.number)) is
     (number_there b n c.index.result.now row _ _ b.block c.in-Some.number there c.start-start.ensures
     (c.len-2.ensures ∙ c.self.inside.rows.ok.0) c.index.ensures c.in-Some.ensures) in
-    let kind : seg.grid ≡ b.grid = c.requires.grid ∙ sym (ap (λ (v : BoardValue). v.grid) c.self.view_is) in
-    let fits = can_place b seg row c.in-Some.number c.self.invariant.1 known number in
-    let put : Placed (get_or b.rows seg.gauge row).start b.block (get_or b.rows seg.gauge row).slots c.place.new.self.slots seg = subst
-    (λ (r : Row). Placed r.start b.block r.slots c.place.new.self.slots seg) at c.in-None.ensures.placing in
-    let room : length b.arrivals + 1 ≤ BLOCKS_PER_WINDOW * length b.rows = placed_room b c.in-Some.number seg c.place.new.self row
-    (b.arrivals ++ name_of seg ∷ []) known start c.self.invariant.1 kind fits put refl in
+    let kind : segment.grid ≡ b.grid = c.requires.grid ∙ sym (ap (λ (v : BoardValue). v.grid) c.self.view_is) in
+    let fits = can_place b segment row c.in-Some.number c.self.invariant.1 known number in
+    let put : PlacesSegment (get_or b.rows segment.gauge row).start b.block (get_or b.rows segment.gauge row).slots c.place.new.self.slots
+    segment = subst
+    (λ (r : Row). PlacesSegment r.start b.block r.slots c.place.new.self.slots segment) at c.in-None.ensures.placing in
+    let room : length b.arrivals + 1 ≤ BLOCKS_PER_WINDOW * length b.rows = placed_room b c.in-Some.number segment c.place.new.self row
+    (b.arrivals ++ name_of segment ∷ []) known start c.self.invariant.1 kind fits put refl in
     omega (arith, room, c.self.invariant.0, c.self.inside.rows.ok.0, c.self.inside.arrivals.ok.0)
 
 pub invariant_of-self-in-None : goal.invariant_of-self-in-None
@@ -77,23 +78,24 @@ invariant_of-self-in-None c =
       arrivals =
           c.self.inside.arrivals.items;
     } in
-    let seg = c.args.seg.now in
+    let segment = c.args.segment.now in
     let n = c.name-name.result in
-    let is : n ≡ name_of seg = c.name-name.ensures.value in
+    let is : n ≡ name_of segment = c.name-name.ensures.value in
     let there : n.gauge < length b.rows = omega (arith, c.if-gauge-len.false, c.len.ensures, c.self.inside.rows.ok.0) in
-    let known : seg.gauge < length b.rows = subst (λ (m : Name). m.gauge < length b.rows) is there in
+    let known : segment.gauge < length b.rows = subst (λ (m : Name). m.gauge < length b.rows) is there in
     let row : Row = c.index_mut.result.now in
-    let at : row ≡ get_or b.rows seg.gauge row = subst (λ (m : Name). row ≡ get_or b.rows m.gauge row) is c.index_mut.ensures.value in
-    let start : c.place.new.self.start ≡ (get_or b.rows seg.gauge row).start = c.place.ensures.start ∙ ap (λ (r : Row). r.start) at in
-    let number : Numbered b.block (length b.rows) (get_or b.rows seg.gauge row).start (name_of seg) (Some c.in-Some.number) =
-    subst (λ (m : Name). Numbered b.block (length b.rows) (get_or b.rows m.gauge row).start m (Some c.in-Some.number)) is
+    let at : row ≡ get_or b.rows segment.gauge row = subst (λ (m : Name). row ≡ get_or b.rows m.gauge row) is c.index_mut.ensures.value in
+    let start : c.place.new.self.start ≡ (get_or b.rows segment.gauge row).start = c.place.ensures.start ∙ ap (λ (r : Row). r.start) at in
+    let number : IsBlockNumber b.block (length b.rows) (get_or b.rows segment.gauge row).start (name_of segment) (Some c.in-Some.number) =
+    subst (λ (m : Name). IsBlockNumber b.block (length b.rows) (get_or b.rows m.gauge row).start m (Some c.in-Some.number)) is
     (number_there b n c.index.result.now row _ _ b.block c.in-Some.number there c.start-start.ensures
     (c.len-2.ensures ∙ c.self.inside.rows.ok.0) c.index.ensures c.in-Some.ensures) in
-    let kind : seg.grid ≡ b.grid = c.requires.grid ∙ sym (ap (λ (v : BoardValue). v.grid) c.self.view_is) in
-    let fits = can_place b seg row c.in-Some.number c.self.invariant.1 known number in
-    let put : Placed (get_or b.rows seg.gauge row).start b.block (get_or b.rows seg.gauge row).slots c.place.new.self.slots seg = subst
-    (λ (r : Row). Placed r.start b.block r.slots c.place.new.self.slots seg) at c.in-None.ensures.placing in
-    let grown : c.push_reserved.new.self.items ≡ b.arrivals ++ name_of seg ∷ [] = c.push_reserved.ensures.items ∙ ap
+    let kind : segment.grid ≡ b.grid = c.requires.grid ∙ sym (ap (λ (v : BoardValue). v.grid) c.self.view_is) in
+    let fits = can_place b segment row c.in-Some.number c.self.invariant.1 known number in
+    let put : PlacesSegment (get_or b.rows segment.gauge row).start b.block (get_or b.rows segment.gauge row).slots c.place.new.self.slots
+    segment = subst
+    (λ (r : Row). PlacesSegment r.start b.block r.slots c.place.new.self.slots segment) at c.in-None.ensures.placing in
+    let grown : c.push_reserved.new.self.items ≡ b.arrivals ++ name_of segment ∷ [] = c.push_reserved.ensures.items ∙ ap
     (λ (m : Name). b.arrivals ++ m ∷ []) is in (
       omega (arith, c.self.invariant.0, c.push_reserved.ensures.capacity),
       subst (λ (m : Name). IsBoard (record {
@@ -103,7 +105,7 @@ invariant_of-self-in-None c =
         arrivals =
             c.push_reserved.new.self.items;
       })) (sym is)
-          (placed_board b c.in-Some.number seg c.place.new.self row c.push_reserved.new.self.items known start c.self.invariant.1 kind
+          (placed_board b c.in-Some.number segment c.place.new.self row c.push_reserved.new.self.items known start c.self.invariant.1 kind
           fits put grown),
     )
 
@@ -116,31 +118,31 @@ returns-in-Some-place-clause-answer c =
       arrivals =
           c.self.inside.arrivals.items;
     } in
-    let seg = c.args.seg.now in
+    let segment = c.args.segment.now in
     let n = c.name-name.result in
-    let is : n ≡ name_of seg = c.name-name.ensures.value in
+    let is : n ≡ name_of segment = c.name-name.ensures.value in
     let there : n.gauge < length b.rows = omega (arith, c.if-gauge-len.false, c.len.ensures, c.self.inside.rows.ok.0) in
-    let known : seg.gauge < length b.rows = subst (λ (m : Name). m.gauge < length b.rows) is there in
+    let known : segment.gauge < length b.rows = subst (λ (m : Name). m.gauge < length b.rows) is there in
     let row : Row = c.index_mut.result.now in
-    let at : row ≡ get_or b.rows seg.gauge row = subst (λ (m : Name). row ≡ get_or b.rows m.gauge row) is c.index_mut.ensures.value in
-    let start : c.place.new.self.start ≡ (get_or b.rows seg.gauge row).start = c.place.ensures.start ∙ ap (λ (r : Row). r.start) at in
-    let number : Numbered b.block (length b.rows) (get_or b.rows seg.gauge row).start (name_of seg) (Some c.in-Some.number) =
-    subst (λ (m : Name). Numbered b.block (length b.rows) (get_or b.rows m.gauge row).start m (Some c.in-Some.number)) is
+    let at : row ≡ get_or b.rows segment.gauge row = subst (λ (m : Name). row ≡ get_or b.rows m.gauge row) is c.index_mut.ensures.value in
+    let start : c.place.new.self.start ≡ (get_or b.rows segment.gauge row).start = c.place.ensures.start ∙ ap (λ (r : Row). r.start) at in
+    let number : IsBlockNumber b.block (length b.rows) (get_or b.rows segment.gauge row).start (name_of segment) (Some c.in-Some.number) =
+    subst (λ (m : Name). IsBlockNumber b.block (length b.rows) (get_or b.rows m.gauge row).start m (Some c.in-Some.number)) is
     (number_there b n c.index.result.now row _ _ b.block c.in-Some.number there c.start-start.ensures
     (c.len-2.ensures ∙ c.self.inside.rows.ok.0) c.index.ensures c.in-Some.ensures) in
-    let double : Doubled (get_or b.rows seg.gauge row).slots c.place.new.self.slots seg c.in-Some-place.interval = subst
-    (λ (r : Row). Doubled r.slots c.place.new.self.slots seg c.in-Some-place.interval) at c.in-Some-place.ensures.placing in
+    let double : FindsDouble (get_or b.rows segment.gauge row).slots c.place.new.self.slots segment c.in-Some-place.interval = subst
+    (λ (r : Row). FindsDouble r.slots c.place.new.self.slots segment c.in-Some-place.interval) at c.in-Some-place.ensures.placing in
     let same : set b.rows n.gauge c.place.new.self ≡ b.rows = ap (λ (m : Name). set b.rows m.gauge c.place.new.self) is
-    ∙ row_same b.rows seg.gauge c.place.new.self row start double.same in
-    let found = doubled b seg c.place.new.self.slots c.in-Some-place.interval row c.self.invariant.1 known double in
+    ∙ row_same b.rows segment.gauge c.place.new.self row start double.same in
+    let found = doubled b segment c.place.new.self.slots c.in-Some-place.interval row c.self.invariant.1 known double in
     let whole : IsDepositAnswer b (record {
       grid = b.grid;
       block = b.block;
       rows = set b.rows n.gauge c.place.new.self;
       arrivals =
           b.arrivals;
-    }) seg (Double c.in-Some-place.interval) = (
-      number_fits b (name_of seg) row c.in-Some.number known number,
+    }) segment (Double c.in-Some-place.interval) = (
+      number_fits b (name_of segment) row c.in-Some.number known number,
       found.0,
       found.1,
       ap
@@ -152,7 +154,7 @@ returns-in-Some-place-clause-answer c =
       rows = set b.rows n.gauge c.place.new.self;
       arrivals =
           b.arrivals;
-    }) seg (Double c.in-Some-place.interval)) c.self.view_is whole
+    }) segment (Double c.in-Some-place.interval)) c.self.view_is whole
 
 pub returns-in-Some-place-clause-carries : goal.returns-in-Some-place-clause-carries
 returns-in-Some-place-clause-carries c =
@@ -163,24 +165,25 @@ returns-in-Some-place-clause-carries c =
       arrivals =
           c.self.inside.arrivals.items;
     } in
-    let seg = c.args.seg.now in
+    let segment = c.args.segment.now in
     let n = c.name-name.result in
-    let is : n ≡ name_of seg = c.name-name.ensures.value in
+    let is : n ≡ name_of segment = c.name-name.ensures.value in
     let there : n.gauge < length b.rows = omega (arith, c.if-gauge-len.false, c.len.ensures, c.self.inside.rows.ok.0) in
-    let known : seg.gauge < length b.rows = subst (λ (m : Name). m.gauge < length b.rows) is there in
+    let known : segment.gauge < length b.rows = subst (λ (m : Name). m.gauge < length b.rows) is there in
     let row : Row = c.index_mut.result.now in
-    let at : row ≡ get_or b.rows seg.gauge row = subst (λ (m : Name). row ≡ get_or b.rows m.gauge row) is c.index_mut.ensures.value in
-    let start : c.place.new.self.start ≡ (get_or b.rows seg.gauge row).start = c.place.ensures.start ∙ ap (λ (r : Row). r.start) at in
-    let number : Numbered b.block (length b.rows) (get_or b.rows seg.gauge row).start (name_of seg) (Some c.in-Some.number) =
-    subst (λ (m : Name). Numbered b.block (length b.rows) (get_or b.rows m.gauge row).start m (Some c.in-Some.number)) is
+    let at : row ≡ get_or b.rows segment.gauge row = subst (λ (m : Name). row ≡ get_or b.rows m.gauge row) is c.index_mut.ensures.value in
+    let start : c.place.new.self.start ≡ (get_or b.rows segment.gauge row).start = c.place.ensures.start ∙ ap (λ (r : Row). r.start) at in
+    let number : IsBlockNumber b.block (length b.rows) (get_or b.rows segment.gauge row).start (name_of segment) (Some c.in-Some.number) =
+    subst (λ (m : Name). IsBlockNumber b.block (length b.rows) (get_or b.rows m.gauge row).start m (Some c.in-Some.number)) is
     (number_there b n c.index.result.now row _ _ b.block c.in-Some.number there c.start-start.ensures
     (c.len-2.ensures ∙ c.self.inside.rows.ok.0) c.index.ensures c.in-Some.ensures) in
-    let double : Doubled (get_or b.rows seg.gauge row).slots c.place.new.self.slots seg c.in-Some-place.interval = subst
-    (λ (r : Row). Doubled r.slots c.place.new.self.slots seg c.in-Some-place.interval) at c.in-Some-place.ensures.placing in
+    let double : FindsDouble (get_or b.rows segment.gauge row).slots c.place.new.self.slots segment c.in-Some-place.interval = subst
+    (λ (r : Row). FindsDouble r.slots c.place.new.self.slots segment c.in-Some-place.interval) at c.in-Some-place.ensures.placing in
     let same : set b.rows n.gauge c.place.new.self ≡ b.rows = ap (λ (m : Name). set b.rows m.gauge c.place.new.self) is
-    ∙ row_same b.rows seg.gauge c.place.new.self row start double.same in
-    λ gain w all one. subst (λ r. Carries (record { grid = b.grid; block = b.block; rows = r; arrivals = b.arrivals }) gain w) (sym same)
-    (subst (λ v. Carries v gain w) (sym c.self.view_is) all)
+    ∙ row_same b.rows segment.gauge c.place.new.self row start double.same in
+    λ gain w all one. subst (λ r. CarriesSamples (record { grid = b.grid; block = b.block; rows = r; arrivals = b.arrivals })
+    gain w) (sym same)
+    (subst (λ v. CarriesSamples v gain w) (sym c.self.view_is) all)
 
 pub returns-in-Some-place-clause-board : goal.returns-in-Some-place-clause-board
 returns-in-Some-place-clause-board c = (invariant_of-self c).1
@@ -194,34 +197,36 @@ returns-in-None-clause-carries c =
       arrivals =
           c.self.inside.arrivals.items;
     } in
-    let seg = c.args.seg.now in
+    let segment = c.args.segment.now in
     let n = c.name-name.result in
-    let is : n ≡ name_of seg = c.name-name.ensures.value in
+    let is : n ≡ name_of segment = c.name-name.ensures.value in
     let there : n.gauge < length b.rows = omega (arith, c.if-gauge-len.false, c.len.ensures, c.self.inside.rows.ok.0) in
-    let known : seg.gauge < length b.rows = subst (λ (m : Name). m.gauge < length b.rows) is there in
+    let known : segment.gauge < length b.rows = subst (λ (m : Name). m.gauge < length b.rows) is there in
     let row : Row = c.index_mut.result.now in
-    let at : row ≡ get_or b.rows seg.gauge row = subst (λ (m : Name). row ≡ get_or b.rows m.gauge row) is c.index_mut.ensures.value in
-    let start : c.place.new.self.start ≡ (get_or b.rows seg.gauge row).start = c.place.ensures.start ∙ ap (λ (r : Row). r.start) at in
-    let number : Numbered b.block (length b.rows) (get_or b.rows seg.gauge row).start (name_of seg) (Some c.in-Some.number) =
-    subst (λ (m : Name). Numbered b.block (length b.rows) (get_or b.rows m.gauge row).start m (Some c.in-Some.number)) is
+    let at : row ≡ get_or b.rows segment.gauge row = subst (λ (m : Name). row ≡ get_or b.rows m.gauge row) is c.index_mut.ensures.value in
+    let start : c.place.new.self.start ≡ (get_or b.rows segment.gauge row).start = c.place.ensures.start ∙ ap (λ (r : Row). r.start) at in
+    let number : IsBlockNumber b.block (length b.rows) (get_or b.rows segment.gauge row).start (name_of segment) (Some c.in-Some.number) =
+    subst (λ (m : Name). IsBlockNumber b.block (length b.rows) (get_or b.rows m.gauge row).start m (Some c.in-Some.number)) is
     (number_there b n c.index.result.now row _ _ b.block c.in-Some.number there c.start-start.ensures
     (c.len-2.ensures ∙ c.self.inside.rows.ok.0) c.index.ensures c.in-Some.ensures) in
-    let kind : seg.grid ≡ b.grid = c.requires.grid ∙ sym (ap (λ (v : BoardValue). v.grid) c.self.view_is) in
-    let fits = can_place b seg row c.in-Some.number c.self.invariant.1 known number in
-    let put : Placed (get_or b.rows seg.gauge row).start b.block (get_or b.rows seg.gauge row).slots c.place.new.self.slots seg = subst
-    (λ (r : Row). Placed r.start b.block r.slots c.place.new.self.slots seg) at c.in-None.ensures.placing in
-    let grown : c.push_reserved.new.self.items ≡ b.arrivals ++ name_of seg ∷ [] = c.push_reserved.ensures.items ∙ ap
+    let kind : segment.grid ≡ b.grid = c.requires.grid ∙ sym (ap (λ (v : BoardValue). v.grid) c.self.view_is) in
+    let fits = can_place b segment row c.in-Some.number c.self.invariant.1 known number in
+    let put : PlacesSegment (get_or b.rows segment.gauge row).start b.block (get_or b.rows segment.gauge row).slots c.place.new.self.slots
+    segment = subst
+    (λ (r : Row). PlacesSegment r.start b.block r.slots c.place.new.self.slots segment) at c.in-None.ensures.placing in
+    let grown : c.push_reserved.new.self.items ≡ b.arrivals ++ name_of segment ∷ [] = c.push_reserved.ensures.items ∙ ap
     (λ (m : Name). b.arrivals ++ m ∷ []) is in
     λ gain w all one.
-    subst (λ (m : Name). Carries (record {
+    subst (λ (m : Name). CarriesSamples (record {
       grid = b.grid;
       block = b.block;
       rows = set b.rows m.gauge c.place.new.self;
       arrivals =
           c.push_reserved.new.self.items;
     }) gain w) (sym is)
-    (placed_carries b c.in-Some.number seg c.place.new.self row c.push_reserved.new.self.items known start c.self.invariant.1 kind fits put
-    grown gain w (subst (λ v. Carries v gain w) (sym c.self.view_is) all) one)
+    (placed_carries b c.in-Some.number segment c.place.new.self row c.push_reserved.new.self.items known start
+    c.self.invariant.1 kind fits put
+    grown gain w (subst (λ v. CarriesSamples v gain w) (sym c.self.view_is) all) one)
 
 pub returns-in-None-clause-board : goal.returns-in-None-clause-board
 returns-in-None-clause-board c = (invariant_of-self-in-None c).1

@@ -10,7 +10,11 @@ returns-in-Ok-clause-bytes g c = λ t. sym (c.loop.invariant.untaken t) ∙ cons
 pub returns-in-Ok-clause-end : goal.returns-in-Ok-clause-end
 returns-in-Ok-clause-end g c = λ t none room.
     let from = returns-in-Ok-clause-bytes g c t in
-    from ∙ ap (λ n. take n c.read.new.buf ++ bytes_of (g.F.Read.remaining c.read.new.self)) none ∙ at_end _ (c.in-Ok.ensures.bytes.1 none (omega (arith, room, c.read.auto.buf, c.loop.auto.buf)))
+    let some : 0 < length c.read.new.buf = omega (arith, room, c.read.auto.buf, c.loop.auto.buf) in
+    from ∙ ap (λ n. take n c.read.new.buf ++ bytes_of (g.F.Read.remaining c.read.new.self)) none
+    ∙ at_end _ (c.in-Ok.ensures.bytes.1 none some)
 
 pub returns-clause-failed : goal.returns-clause-failed
-returns-clause-failed g c = λ t. elim c.loop-test.branch [ else-loop-test w ↦ rw w.self-is (c.loop.invariant.untaken t) | then-loop-test+in-Err-2 w ↦ rw w.self-is (kept _ _ (t _) w.in-Err-2.ensures.bytes ∙ c.loop.invariant.untaken t) ]
+returns-clause-failed g c = λ t. elim c.loop-test.branch [
+    else-loop-test w ↦ rw w.self-is (c.loop.invariant.untaken t)
+    | then-loop-test+in-Err-2 w ↦ rw w.self-is (kept _ _ (t _) w.in-Err-2.ensures.bytes ∙ c.loop.invariant.untaken t) ]

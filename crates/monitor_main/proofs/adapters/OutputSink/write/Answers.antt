@@ -11,4 +11,6 @@ returns-in-Ok-eq0-clause-failed g c = λ t.
     prefix _ _ _ s.0 _ s.1 (none_written _ _ _ _ _ (t _) c.in-Ok-eq0.is c.in-Ok-eq0.field-0-test c.write.ensures.bytes ∙ s.2)
 
 pub returns-in-Err-2-clause-failed : goal.returns-in-Err-2-clause-failed
-returns-in-Err-2-clause-failed g c = λ t. let s = c.loop.invariant.so_far t in prefix _ _ _ s.0 _ s.1 (kept _ _ (t _) c.in-Err-2.ensures.bytes ∙ s.2)
+returns-in-Err-2-clause-failed g c = λ t.
+    let s = c.loop.invariant.so_far t in
+    prefix _ _ _ s.0 _ s.1 (kept _ _ (t _) c.in-Err-2.ensures.bytes ∙ s.2)

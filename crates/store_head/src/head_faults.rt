@@ -1,7 +1,7 @@
 ghost use Rattle.std.specs.Prelude.{◌≡◌, ◌≤◌, length};
 ghost use Rattle.std.specs.Option.{option_or};
 ghost use Rattle.segment_rules.specs.Tests.{unless as unless_in};
-ghost use Rattle.store_head.specs.Judging.{
+ghost use Rattle.store_head.specs.HeadFaults.{
   differs as differs_in,
   front_fault as front_fault_in,
   gauge_fault as gauge_fault_in,

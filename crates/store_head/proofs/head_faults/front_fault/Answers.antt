@@ -1,7 +1,7 @@
 use Rattle.std.proofs.Common.{◌≡◌, length, ap, ◌∙◌, arith}
-use Rattle.store_head.specs.Judging.{is_whole}
-use Rattle.store_head.proofs.Judged.{chain, differs_as, unless_as, through_pos}
-use Rattle.store_head.proofs.judging.front_fault.Goals as goal
+use Rattle.store_head.specs.HeadFaults.{is_whole}
+use Rattle.store_head.proofs.Faultless.{chain, differs_as, unless_as, through_pos}
+use Rattle.store_head.proofs.head_faults.front_fault.Goals as goal
 
 pub returns : goal.returns
 returns c =

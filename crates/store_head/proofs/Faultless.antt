@@ -24,7 +24,7 @@ use Rattle.store_head.specs.declared.fault.HeadFault.{HeadFault}
 use Rattle.calibration.specs.declared.setup.Setup.{Setup}
 use Rattle.recording.specs.Head.{IsRecorded}
 use Rattle.store_head.specs.Head.{IsSetup, version_of, front, numbers, gauge}
-use Rattle.store_head.specs.Judging.{number, signed_number, differs, is_version, layout_of, front_fault, gauge_fault, recording_in}
+use Rattle.store_head.specs.HeadFaults.{number, signed_number, differs, is_version, layout_of, front_fault, gauge_fault, recording_in}
 
 -- ---- tests
 
