@@ -1,11 +1,11 @@
 -- What is compared with the samples that were counted again, and which difference is found.
---   SegmentChoice   which segment is meant for each gauge
---   IsItem         that of a list, which keeps its rules
---   HasKept        one that has what the bodies of the gauge keep
---   IsStanding     one that stands for the first so many samples of the gauge
---   AuditsGauge    the first difference of a gauge, or none
---   AllSame        no gauge below this one has any
---   FindsDifference   what an answer says that comes after all were compared
+--   SegmentChoice    which segment is meant for each gauge
+--   IsItem           that of a list, which keeps its rules
+--   HasKept          one that has what the bodies of the gauge keep
+--   IsStanding       one that stands for the first so many samples of the gauge
+--   AuditsGauge      the first difference of a gauge, or none
+--   AllSame          no gauge below this one has any
+--   FindsDifference  what an answer says that comes after all were compared
 use Rattle.std.specs.Prelude.{◌≡◌, ◌<◌, ℕ, ℤ, List, length, slice_index_or, Option, Some, None}
 use Rattle.calibration.specs.History.{history}
 use Rattle.three_point.specs.Run.{three_point}

@@ -1,10 +1,10 @@
 -- What a round does to its readers and workers.
---   CanRead, ReadJob    a reader before and after a round
---   NotRead             a lane that had ended: nothing but marks
---   CanWork, WorkJob    a worker before and after a round
---   SameRead, SameWork  the same but for what its ends know of the rings
---   RingAt, Fifo        the ring of a gauge and a worker, and that what was fed was taken or is left
---   AllRead, AllWorked, AllRings, AllFifo    the same of all readers and workers
+--   CanRead, ReadJob                       a reader before and after a round
+--   NotRead                                a lane that had ended: nothing but marks
+--   CanWork, WorkJob                       a worker before and after a round
+--   SameRead, SameWork                     the same but for what its ends know of the rings
+--   RingAt, Fifo                           the ring of a gauge and a worker, and that what was fed was taken or is left
+--   AllRead, AllWorked, AllRings, AllFifo  the same of all readers and workers
 use Rattle.std.specs.Prelude.{◌≡◌, ◌≢◌, ◌<◌, ◌≤◌, [], ℕ, List, ◌++◌, length, slice_index_or, vec_len, Some}
 use Rattle.gauge_ring.specs.declared.taker.Taker.{Taker}
 use Rattle.gauge_ring.specs.declared.feeder.Feeder.{Feeder}

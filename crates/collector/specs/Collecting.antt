@@ -1,9 +1,9 @@
 -- What comes back from the workers.
---   IsAwaited   the mark of a ring is still to come
---   LooksAtRing   one look at a return ring
---   UnitsCameSoFar   the units that came from a ring so far, and behind them the mark, where the round has ended
+--   IsAwaited         the mark of a ring is still to come
+--   LooksAtRing       one look at a return ring
+--   UnitsCameSoFar    the units that came from a ring so far, and behind them the mark, where the round has ended
 --   IsCollectedSoFar  what came from all rings so far: a mix of the workers' units, deposited in this order
---   IsCollected   the same where the mark of each ring came
+--   IsCollected       the same where the mark of each ring came
 use Rattle.std.specs.Prelude.{◌≡◌, ◌⊎◌, ◌<◌, ℕ, List, [], ◌∷◌, ◌++◌, length, map, slice_index_or, true, false}
 use Rattle.gauge_ring.specs.Ends.{taken, IsSameTaker}
 use Rattle.block_pool.specs.Units.{CountedValue, PoolValue}

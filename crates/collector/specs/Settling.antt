@@ -1,7 +1,7 @@
 -- What is known of both ends of the return rings, once they are in one thread.
---   ReturnAt, AllReturns    the ends are of one ring; of each worker's
---   IsStillAwaited, SameFeeding   a taker and a worker after a look at both ends
---   BackFifo                what was fed back is what was taken and what is left
+--   ReturnAt, AllReturns         the ends are of one ring; of each worker's
+--   IsStillAwaited, SameFeeding  a taker and a worker after a look at both ends
+--   BackFifo                     what was fed back is what was taken and what is left
 use Rattle.std.specs.Prelude.{◌≡◌, ◌<◌, ◌++◌, ℕ, List, length, slice_index_or}
 use Rattle.gauge_ring.specs.Ends.{fed, taken, AreOneRing, IsSameFeeder, IsSameTaker}
 use Rattle.block_workers.specs.declared.item.Back.{Back}

@@ -1,11 +1,11 @@
 -- Which answer a run of `count` has. Each has its cause in the configuration, the store and the recordings; a fault of
 -- the outside has a clause of its own, and want of memory none.
---   EndAnswers     after all recordings were opened
---   RunAnswers     after the store was resumed
---   MayAnswerOver  over what a read of the store gives
---   CountAnswers   by the configuration
---   IsEnding, IsRunning, IsCounting   the answers that can come at all, by stage
---   IsComplete     the answers over a sound site and store
+--   EndAnswers                       after all recordings were opened
+--   RunAnswers                       after the store was resumed
+--   MayAnswerOver                    over what a read of the store gives
+--   CountAnswers                     by the configuration
+--   IsEnding, IsRunning, IsCounting  the answers that can come at all, by stage
+--   IsComplete                       the answers over a sound site and store
 use Rattle.std.specs.Prelude.{◌≡◌, ◌<◌, ℕ, List, length, slice_index, Some, Result, Ok, Err}
 use Rattle.outside.specs.Site.{Files}
 use Rattle.station.specs.Station.{Image}

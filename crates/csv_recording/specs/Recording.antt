@@ -1,7 +1,7 @@
 -- A column as a recording.
---   recording_bytes   the recording with a head and samples
---   ReadsAs           a file reads as a head and samples
---   ReadsAsWritten         the recording of a column reads as the column's samples
+--   recording_bytes  the recording with a head and samples
+--   ReadsAs          a file reads as a head and samples
+--   ReadsAsWritten   the recording of a column reads as the column's samples
 use Rattle.std.specs.Prelude.{◌≡◌, ℕ, ℤ, List, ◌++◌, drop, Ok}
 use Rattle.recording.specs.Head.{IsRecorded, head_bytes, recording_head}
 use Rattle.recording.specs.Samples.{samples, torn_bytes, sample_bytes}

@@ -1,10 +1,10 @@
 -- What the deposit of a list of units does to a board and a pool.
---   Each         a fact of each item
---   unit_name    the name of a unit, and the names of units
---   IsGood       the units are blocks of the board's windows and of the pool, and no sample is named twice
---   UnitStands   a unit's segment stands for the samples that its name names
---   UnitsArePlaced   what comes of good units
---   DepositsUnit   one unit was deposited and given back
+--   Each            a fact of each item
+--   unit_name       the name of a unit, and the names of units
+--   IsGood          the units are blocks of the board's windows and of the pool, and no sample is named twice
+--   UnitStands      a unit's segment stands for the samples that its name names
+--   UnitsArePlaced  what comes of good units
+--   DepositsUnit    one unit was deposited and given back
 --   DepositsUnits   a list of units was, in this order; what comes of it is said where the list is good
 use Rattle.std.specs.Prelude.{◌≡◌, ◌+◌, ◌<◌, ◌≤◌, ℕ, ℤ, List, [], ◌∷◌, ◌++◌, length, map}
 use Rattle.calibration.specs.Gain.{GainValue}

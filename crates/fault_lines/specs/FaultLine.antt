@@ -1,10 +1,10 @@
 -- The line that is told of a status.
---   digest_digits, id_digits             in hexadecimal
---   damage_text, store_text               of a store
---   recording_text                        of a recording
---   what_text                             what an audit compared
---   fault_line                            the whole, with the name of the gauge or of the file
---   name_for, name_by                     the name of a status's gauge
+--   digest_digits, id_digits  in hexadecimal
+--   damage_text, store_text   of a store
+--   recording_text            of a recording
+--   what_text                 what an audit compared
+--   fault_line                the whole, with the name of the gauge or of the file
+--   name_for, name_by         the name of a status's gauge
 use Rattle.std.specs.Prelude.{ℕ, List, [], ◌++◌, codes, take, Result, Ok, Err}
 use Rattle.std.specs.Fmt.{decimal, signed_decimal}
 use Rattle.hex.specs.Hex.{encode_lower}

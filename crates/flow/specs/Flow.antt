@@ -1,11 +1,11 @@
 -- The flow of blocks from the recordings to the store: its states and its events.
---   Flow, Event      the state, and what may happen
---   name_of_samples  the name of these samples of a gauge
---   hits             how many names name a sample
---   NamesCover, EndsAt   names without a gap; a name that ends there
---   IsAllowed, after   where an event may come, and what it does
---   run, AllAllowed  a list of events
---   IsStart          the state in which a run starts
+--   Flow, Event         the state, and what may happen
+--   name_of_samples     the name of these samples of a gauge
+--   hits                how many names name a sample
+--   NamesCover, EndsAt  names without a gap; a name that ends there
+--   IsAllowed, after    where an event may come, and what it does
+--   run, AllAllowed     a list of events
+--   IsStart             the state in which a run starts
 use Rattle.std.specs.Prelude.{◌≡◌, ◌+◌, ◌%◌, ◌<◌, ◌≤◌, ◌&&◌, ℕ, ℤ, List, [], ◌∷◌, ◌++◌, length, take, drop, min, cond, not, eqb, leb, ltb, Bool}
 use Rattle.std.specs.List.{filter}
 use Rattle.segment_rules.specs.declared.name.Name.{Name}

@@ -1,7 +1,7 @@
 -- Rounds that run beside the puts of the round before.
---   IsBoardFor   a board for prepared rounds
---   Leads    the fronts of a board lead from what is held to where the lanes are
---   Stores   what the puts and lines of one board do, in one word
+--   IsBoardFor  a board for prepared rounds
+--   Leads       the fronts of a board lead from what is held to where the lanes are
+--   Stores      what the puts and lines of one board do, in one word
 use Rattle.std.specs.Prelude.{◌≡◌, ◌<◌, ◌++◌, ℕ, List, length, false, Result, OnOk, slice_index}
 use Rattle.outside.specs.Fault.{HasCause}
 use Rattle.outside.specs.Site.{Files}

@@ -1,11 +1,11 @@
 -- What is true at every moment of a run of `count`.
---   HoldsAtLeast   the image holds at least these numbers of samples
---   IsKept         and no line of this call acknowledges more than the image holds
---   HoldsSinceEntry   the run from a function's entry: each moment is kept, and each image that a crash may leave now
---                  holds so many
---   Safe           the same without a store
---   IsStored       the store is on its station, and its bodies stand for the recordings
---   AreNames       names by which a line that acknowledges tells its gauge and number
+--   HoldsAtLeast     the image holds at least these numbers of samples
+--   IsKept           and no line of this call acknowledges more than the image holds
+--   HoldsSinceEntry  the run from a function's entry: each moment is kept, and each image that a crash may leave now
+--                    holds so many
+--   Safe             the same without a store
+--   IsStored         the store is on its station, and its bodies stand for the recordings
+--   AreNames         names by which a line that acknowledges tells its gauge and number
 use Rattle.std.specs.Prelude.{◌≡◌, ◌<◌, true, ℕ, List, ◌++◌}
 use Rattle.station.specs.Station.{Image, Lines, MomentsSince, Since}
 use Rattle.segment_rules.specs.Parts.{PartsValue}

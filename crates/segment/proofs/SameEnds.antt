@@ -1,7 +1,7 @@
 -- The crossings begin and end where the points do.
---   Joint         what the ends of two histories are by those of each
---   joined_ends, pushed_ends, listed_ends   kept by a joint, by a level more and by a list of points
---   some_used     where there is a level, a sample is used
+--   Joint                                  what the ends of two histories are by those of each
+--   joined_ends, pushed_ends, listed_ends  kept by a joint, by a level more and by a list of points
+--   some_used                              where there is a level, a sample is used
 use Rattle.std.proofs.Common.{◌≡◌, ℕ, suc, ◌<◌, ◌≤◌, ◌⊎◌, inl, inr, Bool, true, ◌||◌, ◌==◌, if◌then◌else◌, List, [], ◌∷◌, length, sym, ap, ◌∙◌, subst, arith}
 use Rattle.std.specs.Prelude.{not}
 use Rattle.std.proofs.lemmas.Bool.{cases_lt}

@@ -1,9 +1,9 @@
 -- How a lane stands to its recording.
---   SourceStands   where its source stands
---   IsLane       so it does, and has its gauge's gain; AreLanes: each of a list
---   AreReady     each lane may be read in a round
---   AreHeldTo    so it may, and each gauge is held up to where its lane is
---   IsFaulty     a read fault has raised its source's count
+--   SourceStands  where its source stands
+--   IsLane        so it does, and has its gauge's gain; AreLanes: each of a list
+--   AreReady      each lane may be read in a round
+--   AreHeldTo     so it may, and each gauge is held up to where its lane is
+--   IsFaulty      a read fault has raised its source's count
 use Rattle.std.specs.Prelude.{◌≡◌, ◌≢◌, ◌<◌, ◌≤◌, ℕ, ℤ, List, length, drop, Some, slice_index, slice_index_or}
 use Rattle.recording.specs.Samples.{samples, torn_bytes}
 use Rattle.recording.specs.declared.TheConstants.{MAX_SAMPLES}

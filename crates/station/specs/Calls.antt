@@ -1,10 +1,10 @@
 -- What a station in memory has been through: its first image and its calls, one after another.
---   Disk         what a read gives, what is durable, and the ranges written since
---   Past         the first image and the calls
---   disk, told_lines    what the calls make of them
---   MayLeave     the images that a crash may leave now
---   HadMoment    the moments
---   Passes       time goes on from one past to a later one
+--   Disk              what a read gives, what is durable, and the ranges written since
+--   Past              the first image and the calls
+--   disk, told_lines  what the calls make of them
+--   MayLeave          the images that a crash may leave now
+--   HadMoment         the moments
+--   Passes            time goes on from one past to a later one
 use Rattle.std.specs.Prelude.{◌≡◌, ◌≤◌, ℕ, ◌+◌, Bool, true, false, ◌&&◌, nat_le, List, [], ◌∷◌, ◌++◌, length, take, drop}
 use Rattle.station.specs.declared.call.Call.{Call}
 use Rattle.station.specs.declared.call.Call.TheVariants.{Other, Write, Sync, Tell}

@@ -1,10 +1,10 @@
 -- The numbered steps of ASTM E1049-85, 5.4.4, each as a constructor. Live points stand with the newest first, and the
 -- last of them is the starting point S. X is the range from y to z, the two newest live points, and Y the previous
 -- range, from x to y.
---   Step       what steps 4 and 5 count, and the points that they leave
---   HasNoStep   where steps 2 and 3 go back to step 1: neither step 4 nor step 5 applies
---   CountsBySteps   all that the steps count, from these live points on and with these points to read
---   HasSteps   the steps count the ranges of `run`, and no others
+--   Step           what steps 4 and 5 count, and the points that they leave
+--   HasNoStep      where steps 2 and 3 go back to step 1: neither step 4 nor step 5 applies
+--   CountsBySteps  all that the steps count, from these live points on and with these points to read
+--   HasSteps       the steps count the ranges of `run`, and no others
 use Rattle.std.specs.Prelude.{◌≡◌, ℕ, ◌≤◌, List, [], ◌∷◌}
 use Rattle.turning_points.specs.Pairs.{range}
 use Rattle.three_point.specs.Run.{CountedRange, counted_range, ranges_left, run}

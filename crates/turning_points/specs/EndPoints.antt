@@ -4,7 +4,7 @@
 --   only_point    those of one point
 --   IsEnds        those of some list of points of levels below k
 --   ends_prepend  the ends after a level was put before
---   ends_of_both   the ends of two histories, one after the other
+--   ends_of_both  the ends of two histories, one after the other
 --   ends_push     the ends after a level was put behind
 use Rattle.std.specs.Prelude.{◌≡◌, ◌≢◌, ℕ, ◌+◌, ◌-◌, ◌<◌, ◌≤◌, ◌⊎◌, ◌==◌, if◌then◌else◌, List, [], ◌∷◌, length, slice_index}
 use Rattle.turning_points.specs.Points.{is_turn, IsTurn}
