@@ -24,6 +24,7 @@ use Rattle.block_workers.specs.Reading.AreBlocks.{none, last, more}
 use Rattle.round_accounts.proofs.Lists.{in_turn}
 use Rattle.round_accounts.proofs.Names.{blocks_of_worker_names}
 use Rattle.round_accounts.proofs.Taken.{AreTaken, blocks_reach, every_name, list_names, mixed_names, taken_known}
+use Rattle.flow.specs.declared.TheConstants.{BLOCKS_PER_WINDOW}
 
 -- a name of a gauge, and of a block that a worker gets
 pub record IsOf (block workers : ℕ) (r : RoundOfFlow) (g v : ℕ) (x : Name) : Type 0 where
@@ -147,7 +148,7 @@ module _ (block : ℕ) (kind : GridValue) (n workers : ℕ) (at to : ℕ → ℕ
       (mixed_names block kind n workers at to desk given lists units h) b)
 
   -- the names of a ring are those of the flow
-  pub ring_is_fed : (g v : ℕ) → g < n → names_of (blocks_of_worker workers v 0 (given g)) ≡ fed_to block workers r g v 16
+  pub ring_is_fed : (g v : ℕ) → g < n → names_of (blocks_of_worker workers v 0 (given g)) ≡ fed_to block workers r g v BLOCKS_PER_WINDOW
   ring_is_fed g v l =
       let gauge = h.gauge g l in
       let stops : length (r.samples (desk g).gauge) ≡ to g = ap (λ k. length (r.samples k)) gauge ∙ ends g l in
@@ -159,10 +160,11 @@ module _ (block : ℕ) (kind : GridValue) (n workers : ℕ) (at to : ℕ → ℕ
       let m = blocks_reach (desk g) (at g) (to g) (given g) (h.blocks g l) in
       let s : length (given g) * (desk g).block ≡ length (given g) * block = ap (λ k. length (given g) * k) (h.size g l) in
       let e = ends g l in let f = starts g l in omega (arith, m, s, e, f) in
-      let sum : length (given g) + (16 - length (given g)) ≡ 16 = let f = h.few g l in omega (arith, f) in
+      let sum : length (given g) + (BLOCKS_PER_WINDOW - length (given g)) ≡ BLOCKS_PER_WINDOW = let f = h.few g l in omega (arith, f) in
       let from_none : 0 + length (given g) ≡ length (given g) = omega arith in
       fed ∙ ap (fed_to block workers r (desk g).gauge v) from_none ∙ ap (λ k. fed_to block workers r k v (length (given g))) gauge
-      ∙ sym (past_end block workers r g v (length (given g)) (16 - length (given g)) reach) ∙ ap (fed_to block workers r g v) sum
+      ∙ sym (past_end block workers r g v (length (given g)) (BLOCKS_PER_WINDOW - length (given g)) reach)
+          ∙ ap (fed_to block workers r g v) sum
 
   pub arrived : AreArrivals block workers r n (unit_names units)
   arrived = record {

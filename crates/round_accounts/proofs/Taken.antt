@@ -26,6 +26,7 @@ use Rattle.block_workers.proofs.Drains.{counts_long}
 use Rattle.block_workers.proofs.Accounts.{blocks_of_worker_once, blocks_once}
 use Rattle.round_accounts.proofs.Lists.{over_swap, in_turn, turn_long, turn_each, turn_names, turn_hits, blocks_of_worker_long}
 use Rattle.round_accounts.proofs.Standing.{FromLanes, from_lane, each_dealt, count_stands, each_count, counts_names}
+use Rattle.flow.specs.declared.TheConstants.{BLOCKS_PER_WINDOW}
 
 -- what each lane gave and each worker counted, and a mix of the counts
 pub record AreTaken (block : ℕ) (kind : GridValue) (n workers : ℕ) (at to : ℕ → ℕ) (desk : ℕ → Desk) (given : ℕ → List FilledValue)
@@ -34,7 +35,7 @@ pub record AreTaken (block : ℕ) (kind : GridValue) (n workers : ℕ) (at to : 
   pub gauge : (g : ℕ) → g < n → (desk g).gauge ≡ g
   pub size : (g : ℕ) → g < n → (desk g).block ≡ block
   pub grid : (g : ℕ) → g < n → (desk g).grid ≡ kind
-  pub few : (g : ℕ) → g < n → length (given g) ≤ 16
+  pub few : (g : ℕ) → g < n → length (given g) ≤ BLOCKS_PER_WINDOW
   pub blocks : (g : ℕ) → g < n → AreBlocks (desk g) (at g) (given g) (to g)
   pub counts : (v : ℕ) → v < workers → AreCounts (in_turn n (λ g. blocks_of_worker workers v 0 (given g))) (lists v)
   pub mixed : IsMixOf workers lists units
@@ -51,12 +52,12 @@ pub record IsBlockAt (block n start : ℕ) (d : Desk) (u : FilledValue) : Type 0
   pub grid : u.grid ≡ d.grid
 
 block_at : (block n start k : ℕ) (d : Desk) (a b : ℕ) (u : FilledValue) → IsUnit d a b u → a ≡ start + k * block → d.block ≡ block
-    → d.gauge < n → k < 16 → IsBlockAt block n start d u
+    → d.gauge < n → k < BLOCKS_PER_WINDOW → IsBlockAt block n start d u
 block_at block n start k d a b u i e s l few =
     let gauge : u.name.gauge ≡ d.gauge = ap (λ x. x.gauge) i.name in
     let from : u.name.from ≡ a = ap (λ x. x.from) i.name in
     let to : u.name.to ≡ b = ap (λ x. x.to) i.name in
-    let up : k * block + block ≤ 16 * block = mul-le block k few in
+    let up : k * block + block ≤ BLOCKS_PER_WINDOW * block = mul-le block k few in
     record {
       gauge = gauge;
       block_of = record {
@@ -72,12 +73,13 @@ block_at block n start k d a b u i e s l few =
       grid = i.grid;
     }
   where
-    mul-le : (b k : ℕ) → k < 16 → k * b + b ≤ 16 * b
-    mul-le b k h = let m : (k + 1) * b ≤ 16 * b = mul-le-mul_right b (omega (arith, h)) in let e : (k + 1) * b ≡ k * b + b = omega arith in
+    mul-le : (b k : ℕ) → k < BLOCKS_PER_WINDOW → k * b + b ≤ BLOCKS_PER_WINDOW * b
+    mul-le b k h = let m : (k + 1) * b ≤ BLOCKS_PER_WINDOW * b = mul-le-mul_right b (omega (arith, h)) in let e : (k + 1) * b ≡ k * b + b =
+        omega arith in
         omega (arith, m, e)
 
 pub blocks_at : (block n start k : ℕ) (d : Desk) (a b : ℕ) (us : List FilledValue) → AreBlocks d a us b → a ≡ start + k * block
-    → d.block ≡ block → d.gauge < n → k + length us ≤ 16 → Each (IsBlockAt block n start d) us
+    → d.block ≡ block → d.gauge < n → k + length us ≤ BLOCKS_PER_WINDOW → Each (IsBlockAt block n start d) us
 blocks_at block n start k d a b [] none e s l few = no_unit
 blocks_at block n start k d a b (u ∷ []) (last i) e s l few = both (block_at block n start k d a b u i e s l (omega (arith, few))) no_unit
 blocks_at block n start k d a b (u ∷ us) (more i r) e s l few =

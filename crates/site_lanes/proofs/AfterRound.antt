@@ -19,6 +19,7 @@ use Rattle.round_making.specs.Round.{LaneDone}
 use Rattle.recorded.specs.Recorded.{Recorded}
 use Rattle.site_lanes.specs.Lanes.{SourceStands, IsLane, IsFaulty}
 use Rattle.lemmas.proofs.Outcomes.{same_some}
+use Rattle.flow.specs.declared.TheConstants.{BLOCKS_PER_WINDOW}
 
 -- the rule of how a lane ends, over plain numbers
 abbrev end_by : ℕ → ℕ → ℕ → ℕ → End
@@ -44,43 +45,51 @@ module _ (block : ℕ) (w : List ℤ) (torn : ℕ) (before after : List ℕ) (fr
   there : length (samples before) ≡ length w - from
   there = ap length is ∙ length-drop from w
 
-  stood_after : (end : End) → Gives (16 * block) (MAX_SAMPLES - from) before (to - from) end after → SourceStands w torn after to end
+  stood_after : (end : End) → Gives (BLOCKS_PER_WINDOW * block) (MAX_SAMPLES - from) before (to - from) end after →
+      SourceStands w torn after to end
   stood_after More gives =
-      let room = when_more (16 * block) (MAX_SAMPLES - from) (length (samples before)) (torn_bytes before) (gives.ends (λ e. absurd cc)) in
-      let to_is : to ≡ from + 16 * block = grind (arith, room, gives.count (λ e. absurd cc), on) in
-      let enough : 4 * (16 * block) ≤ length before = grind (arith, room, length-samples before) in (
-        ap samples (gives.left refl) ∙ samples-drop (16 * block) before ∙ ap (λ (l : List ℤ). drop (16 * block) l) is
-            ∙ drop-drop (16 * block) from w ∙ ap (λ (k : ℕ). drop k w) (sym to_is),
-        ap torn_bytes (gives.left refl) ∙ torn_bytes-drop (16 * block) before enough ∙ same,
+      let room = when_more (BLOCKS_PER_WINDOW * block) (MAX_SAMPLES - from) (length (samples before)) (torn_bytes before)
+          (gives.ends (λ e. absurd cc)) in
+      let to_is : to ≡ from + BLOCKS_PER_WINDOW * block = grind (arith, room, gives.count (λ e. absurd cc), on) in
+      let enough : 4 * (BLOCKS_PER_WINDOW * block) ≤ length before = grind (arith, room, length-samples before) in (
+        ap samples (gives.left refl) ∙ samples-drop (BLOCKS_PER_WINDOW * block) before
+            ∙ ap (λ (l : List ℤ). drop (BLOCKS_PER_WINDOW * block) l) is
+            ∙ drop-drop (BLOCKS_PER_WINDOW * block) from w ∙ ap (λ (k : ℕ). drop k w) (sym to_is),
+        ap torn_bytes (gives.left refl) ∙ torn_bytes-drop (BLOCKS_PER_WINDOW * block) before enough ∙ same,
       )
   stood_after Ended gives =
-      let e = when_ended (16 * block) (MAX_SAMPLES - from) (length (samples before)) (torn_bytes before) (gives.ends (λ e. absurd cc)) in
+      let e = when_ended (BLOCKS_PER_WINDOW * block) (MAX_SAMPLES - from) (length (samples before)) (torn_bytes before)
+          (gives.ends (λ e. absurd cc)) in
       (grind (arith, e.0, e.1, gives.count (λ e. absurd cc), there, on, le), sym same ∙ e.2)
   stood_after (Torn bytes) gives =
-      let e = when_torn (16 * block) (MAX_SAMPLES - from) (length (samples before)) (torn_bytes before) bytes
+      let e = when_torn (BLOCKS_PER_WINDOW * block) (MAX_SAMPLES - from) (length (samples before)) (torn_bytes before) bytes
       (gives.ends (λ e. absurd cc)) in
       (grind (arith, e.0, e.1, gives.count (λ e. absurd cc), there, on, le), sym same ∙ e.2, e.3)
   stood_after ReadFault gives = tt
   stood_after TooLong gives =
-      let e = when_long (16 * block) (MAX_SAMPLES - from) (length (samples before)) (torn_bytes before) (gives.ends (λ e. absurd cc)) in
+      let e = when_long (BLOCKS_PER_WINDOW * block) (MAX_SAMPLES - from) (length (samples before)) (torn_bytes before)
+          (gives.ends (λ e. absurd cc)) in
       (grind (arith, e.0, e.1, gives.count (λ e. absurd cc), there, on, limit), grind (arith, e.0, e.1, there, limit))
 
   -- where it was reached by so many rounds, one more reaches
   reaches : (a : ℕ) (end : End) → end ≢ ReadFault → end ≢ TooLong → from ≡ min a (length w)
-      → Gives (16 * block) (MAX_SAMPLES - from) before (to - from) end after → to ≡ min (a + 16 * block) (length w)
+      → Gives (BLOCKS_PER_WINDOW * block) (MAX_SAMPLES - from) before (to - from) end after → to
+          ≡ min (a + BLOCKS_PER_WINDOW * block) (length w)
   reaches a More read long was gives =
-      let room = when_more (16 * block) (MAX_SAMPLES - from) (length (samples before)) (torn_bytes before) (gives.ends read) in
+      let room = when_more (BLOCKS_PER_WINDOW * block) (MAX_SAMPLES - from) (length (samples before)) (torn_bytes before)
+          (gives.ends read) in
       grind (arith, room, gives.count read, there, on, le, was)
   reaches a Ended read long was gives =
-      let e = when_ended (16 * block) (MAX_SAMPLES - from) (length (samples before)) (torn_bytes before) (gives.ends read) in
+      let e = when_ended (BLOCKS_PER_WINDOW * block) (MAX_SAMPLES - from) (length (samples before)) (torn_bytes before) (gives.ends read) in
       grind (arith, e.0, e.1, gives.count read, there, on, le, was)
   reaches a (Torn bytes) read long was gives =
-      let e = when_torn (16 * block) (MAX_SAMPLES - from) (length (samples before)) (torn_bytes before) bytes (gives.ends read) in
+      let e = when_torn (BLOCKS_PER_WINDOW * block) (MAX_SAMPLES - from) (length (samples before)) (torn_bytes before) bytes
+          (gives.ends read) in
       grind (arith, e.0, e.1, gives.count read, there, on, le, was)
   reaches a ReadFault read long was gives = absurd (read refl)
   reaches a TooLong read long was gives = absurd (long refl)
 
-  within_after : {end : End} → Gives (16 * block) (MAX_SAMPLES - from) before (to - from) end after → to ≤ length w
+  within_after : {end : End} → Gives (BLOCKS_PER_WINDOW * block) (MAX_SAMPLES - from) before (to - from) end after → to ≤ length w
   within_after gives = omega (arith, gives.few.2, there, le, on)
 
 stood_same : (w : List ℤ) (torn : ℕ) {left left2 : List ℕ} {at at2 : ℕ} {end end2 : End} → left2 ≡ left → at2 ≡ at → end2 ≡ end
@@ -128,7 +137,7 @@ module _ {C : Type 0} {tells : Type 0} {left : C → List ℕ} {faults : C → �
 
   -- a lane that went on to a sound end, or to the end of the round
   pub reached : (r : Recorded) (g a : ℕ) → tells → IsLane tells left r g old → new.end ≢ ReadFault → new.end ≢ TooLong
-      → old.at ≡ min a (length (r.samples g)) → new.at ≡ min (a + 16 * block) (length (r.samples g))
+      → old.at ≡ min a (length (r.samples g)) → new.at ≡ min (a + BLOCKS_PER_WINDOW * block) (length (r.samples g))
   reached r g a t was read long at = ⊎_elim
       (λ more. let s = stood_more (r.samples g) (r.torn g) (left done.before) old.at more (was.stood t done.before done.was) in
       reaches block (r.samples g) (r.torn g) (left done.before) (left done.now) old.at new.at s.0 s.1 (was.within t) done.samples.0 limit

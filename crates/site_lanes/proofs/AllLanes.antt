@@ -10,6 +10,7 @@ use Rattle.round_making.specs.Round.{LaneDone, RoundDone}
 use Rattle.recorded.specs.Recorded.{Recorded}
 use Rattle.site_lanes.specs.Lanes.{AreReady, AreLanes, HasSource, IsFaulty, IsWhole}
 use Rattle.site_lanes.proofs.AfterRound.{lane_after, faulty_after, reached}
+use Rattle.flow.specs.declared.TheConstants.{BLOCKS_PER_WINDOW}
 
 module _ {C : Type 0} {tells : Type 0} {left : C → List ℕ} {faults : C → ℕ} {old new : PreparedValue} {lanes lanes2 : List (Lane C)}
     (done : RoundDone tells left faults old new lanes lanes2) (count : length lanes ≡ old.gauges) (ready : AreReady lanes) where
@@ -59,6 +60,7 @@ module _ {C : Type 0} {tells : Type 0} {left : C → List ℕ} {faults : C → �
   -- each round brings a lane that is whole a round further, up to the end of its recording
   pub all_reached : (r : Recorded) (a : ℕ → ℕ) → tells → AreLanes tells left r lanes → All IsWhole lanes2
       → ((g : ℕ) (d : Lane C) → g < length lanes → (slice_index_or lanes g d).at ≡ min (a g) (length (r.samples g)))
-      → (g : ℕ) (d : Lane C) → g < length lanes2 → (slice_index_or lanes2 g d).at ≡ min (a g + 16 * old.block) (length (r.samples g))
+      → (g : ℕ) (d : Lane C) → g < length lanes2 → (slice_index_or lanes2 g d).at
+          ≡ min (a g + BLOCKS_PER_WINDOW * old.block) (length (r.samples g))
   all_reached r a t are whole was g d lt =
       reached (lane g d lt) (limit g d lt) r g (a g) t (are g d (known g lt)) (whole g d lt).0 (whole g d lt).1 (was g d (known g lt))
