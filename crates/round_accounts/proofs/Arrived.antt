@@ -164,7 +164,7 @@ module _ (block : ℕ) (kind : GridValue) (n workers : ℕ) (at to : ℕ → ℕ
       let from_none : 0 + length (given g) ≡ length (given g) = omega arith in
       fed ∙ ap (fed_to block workers r (desk g).gauge v) from_none ∙ ap (λ k. fed_to block workers r k v (length (given g))) gauge
       ∙ sym (past_end block workers r g v (length (given g)) (BLOCKS_PER_WINDOW - length (given g)) reach)
-          ∙ ap (fed_to block workers r g v) sum
+      ∙ ap (fed_to block workers r g v) sum
 
   pub arrived : AreArrivals block workers r n (unit_names units)
   arrived = record {

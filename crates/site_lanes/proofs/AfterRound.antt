@@ -49,7 +49,7 @@ module _ (block : ℕ) (w : List ℤ) (torn : ℕ) (before after : List ℕ) (fr
       SourceStands w torn after to end
   stood_after More gives =
       let room = when_more (BLOCKS_PER_WINDOW * block) (MAX_SAMPLES - from) (length (samples before)) (torn_bytes before)
-          (gives.ends (λ e. absurd cc)) in
+      (gives.ends (λ e. absurd cc)) in
       let to_is : to ≡ from + BLOCKS_PER_WINDOW * block = grind (arith, room, gives.count (λ e. absurd cc), on) in
       let enough : 4 * (BLOCKS_PER_WINDOW * block) ≤ length before = grind (arith, room, length-samples before) in (
         ap samples (gives.left refl) ∙ samples-drop (BLOCKS_PER_WINDOW * block) before
@@ -59,7 +59,7 @@ module _ (block : ℕ) (w : List ℤ) (torn : ℕ) (before after : List ℕ) (fr
       )
   stood_after Ended gives =
       let e = when_ended (BLOCKS_PER_WINDOW * block) (MAX_SAMPLES - from) (length (samples before)) (torn_bytes before)
-          (gives.ends (λ e. absurd cc)) in
+      (gives.ends (λ e. absurd cc)) in
       (grind (arith, e.0, e.1, gives.count (λ e. absurd cc), there, on, le), sym same ∙ e.2)
   stood_after (Torn bytes) gives =
       let e = when_torn (BLOCKS_PER_WINDOW * block) (MAX_SAMPLES - from) (length (samples before)) (torn_bytes before) bytes
@@ -68,23 +68,23 @@ module _ (block : ℕ) (w : List ℤ) (torn : ℕ) (before after : List ℕ) (fr
   stood_after ReadFault gives = tt
   stood_after TooLong gives =
       let e = when_long (BLOCKS_PER_WINDOW * block) (MAX_SAMPLES - from) (length (samples before)) (torn_bytes before)
-          (gives.ends (λ e. absurd cc)) in
+      (gives.ends (λ e. absurd cc)) in
       (grind (arith, e.0, e.1, gives.count (λ e. absurd cc), there, on, limit), grind (arith, e.0, e.1, there, limit))
 
   -- where it was reached by so many rounds, one more reaches
   reaches : (a : ℕ) (end : End) → end ≢ ReadFault → end ≢ TooLong → from ≡ min a (length w)
       → Gives (BLOCKS_PER_WINDOW * block) (MAX_SAMPLES - from) before (to - from) end after → to
-          ≡ min (a + BLOCKS_PER_WINDOW * block) (length w)
+      ≡ min (a + BLOCKS_PER_WINDOW * block) (length w)
   reaches a More read long was gives =
       let room = when_more (BLOCKS_PER_WINDOW * block) (MAX_SAMPLES - from) (length (samples before)) (torn_bytes before)
-          (gives.ends read) in
+      (gives.ends read) in
       grind (arith, room, gives.count read, there, on, le, was)
   reaches a Ended read long was gives =
       let e = when_ended (BLOCKS_PER_WINDOW * block) (MAX_SAMPLES - from) (length (samples before)) (torn_bytes before) (gives.ends read) in
       grind (arith, e.0, e.1, gives.count read, there, on, le, was)
   reaches a (Torn bytes) read long was gives =
       let e = when_torn (BLOCKS_PER_WINDOW * block) (MAX_SAMPLES - from) (length (samples before)) (torn_bytes before) bytes
-          (gives.ends read) in
+      (gives.ends read) in
       grind (arith, e.0, e.1, gives.count read, there, on, le, was)
   reaches a ReadFault read long was gives = absurd (read refl)
   reaches a TooLong read long was gives = absurd (long refl)

@@ -61,6 +61,6 @@ module _ {C : Type 0} {tells : Type 0} {left : C → List ℕ} {faults : C → �
   pub all_reached : (r : Recorded) (a : ℕ → ℕ) → tells → AreLanes tells left r lanes → All IsWhole lanes2
       → ((g : ℕ) (d : Lane C) → g < length lanes → (slice_index_or lanes g d).at ≡ min (a g) (length (r.samples g)))
       → (g : ℕ) (d : Lane C) → g < length lanes2 → (slice_index_or lanes2 g d).at
-          ≡ min (a g + BLOCKS_PER_WINDOW * old.block) (length (r.samples g))
+      ≡ min (a g + BLOCKS_PER_WINDOW * old.block) (length (r.samples g))
   all_reached r a t are whole was g d lt =
       reached (lane g d lt) (limit g d lt) r g (a g) t (are g d (known g lt)) (whole g d lt).0 (whole g d lt).1 (was g d (known g lt))

@@ -160,7 +160,7 @@ returns-in-Ended g c =
       cause = λ tells. state_with_head file c.in_ok-read_head.field-0 (c.in_ok-read_head.ensures.head tells (λ is. cc)) ∙ sound_end
           table_grid table_gain c.take.new.self read.0 (drop HEAD_LENGTH file)
           (g.S.Source.left c.loop.src) (g.S.Source.left c.fill-filled.new.src) (length c.loop.raws) c.fill-filled.result.n
-              c.fill-filled.result.end c.fill-filled.new.buf (read.2 tells) (fill.samples tells)
+          c.fill-filled.result.end c.fill-filled.new.buf (read.2 tells) (fill.samples tells)
           (fill.taken tells) taken c.in-Ended.is c.if-figures-gt-MAX_SAMPLES.false;
       fault = λ is. absurd (cc);
       later = omega (arith, c.loop.invariant.later, fill.later);
@@ -179,7 +179,7 @@ returns-in-Torn-clause-cause g c =
     (ap (answer_for 0) (state_with_head file c.in_ok-read_head.field-0 (c.in_ok-read_head.ensures.head tells (λ is. cc)) ∙ torn_end
     table_grid table_gain c.take.new.self read.0 (drop HEAD_LENGTH file)
     (g.S.Source.left c.loop.src) (g.S.Source.left c.fill-filled.new.src) (length c.loop.raws) c.fill-filled.result.n
-        c.fill-filled.result.end c.fill-filled.new.buf (read.2 tells) (fill.samples tells)
+    c.fill-filled.result.end c.fill-filled.new.buf (read.2 tells) (fill.samples tells)
     (fill.taken tells) taken _ c.in-Torn.is c.if-figures-gt-MAX_SAMPLES.false)) in
     search rules
 

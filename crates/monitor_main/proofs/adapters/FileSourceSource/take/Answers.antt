@@ -16,5 +16,6 @@ returns-in-Ok-clause-end g c = λ t none room.
 
 pub returns-clause-failed : goal.returns-clause-failed
 returns-clause-failed g c = λ t. elim c.loop-test.branch [
-    else-loop-test w ↦ rw w.self-is (c.loop.invariant.untaken t)
-    | then-loop-test+in-Err-2 w ↦ rw w.self-is (kept _ _ (t _) w.in-Err-2.ensures.bytes ∙ c.loop.invariant.untaken t) ]
+  | else-loop-test w ↦ rw w.self-is (c.loop.invariant.untaken t)
+  | then-loop-test+in-Err-2 w ↦ rw w.self-is (kept _ _ (t _) w.in-Err-2.ensures.bytes ∙ c.loop.invariant.untaken t)
+]

@@ -7,5 +7,5 @@ abbrev pub invariant-loop : goal.invariant-loop
 invariant-loop g l = record {
   uncounted : l.self.faults ≡ l.fn.self.faults;
   so_far : Tells g.W.Write.contents → (front : List ℕ) × (l.bytes ≡ front ++ l.rest)
-    × (bytes_of (g.W.Write.contents l.self.out) ≡ bytes_of (g.W.Write.contents l.fn.self.out) ++ front);
+      × (bytes_of (g.W.Write.contents l.self.out) ≡ bytes_of (g.W.Write.contents l.fn.self.out) ++ front);
 }
