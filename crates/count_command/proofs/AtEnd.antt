@@ -48,8 +48,8 @@ use Rattle.report.proofs.SegmentFigures.{figures_stand}
 use Rattle.site_report.specs.Report.{Agrees, figures_by}
 use Rattle.calibration.specs.Grid.{GridValue}
 use Rattle.held_samples.proofs.Going.{stored_holds, same_lines}
-use Rattle.held_rounds.proofs.RoundOf.{any_of}
 use Rattle.lemmas.proofs.Lists.{all_written}
+use Rattle.lane_loans.proofs.Walking.{some_of}
 
 -- a lane that has ended, by its answer
 sound_lane : (g : ℕ) (e : End) → e ≢ end.More → lane_fault g e ≡ None → e ≡ end.Ended
@@ -163,7 +163,7 @@ module _ {C : Type 0} {tells : Type 0} {left : C → List ℕ} (c : Config) (fil
       × (slice_index ends g ≤ MAX_SAMPLES)
   all_at k le none g lt =
       let within : g < length lanes = omega (arith, lt, le) in
-      let d = any_of lanes g within in
+      let d = some_of lanes (omega (arith, within)) in
       let e = ended_at _ _ _ _ _ (sound_lane g (slice_index_or lanes g d).end (ended g d within) (none g d lt)) (stood g d within) in
       ((held g d within).1 ∙ e.0, e.1, omega (arith, (held g d within).1, (held g d within).0.at))
 
@@ -178,7 +178,8 @@ module _ {C : Type 0} {tells : Type 0} {left : C → List ℕ} (c : Config) (fil
   pub end_fault : (s : Status) (g : ℕ) → g < length lanes → ((d : Lane C) → lane_fault g (slice_index_or lanes g d).end ≡ Some s) →
       NoFaultBelow lanes g → EndAnswers c files s
   end_fault s g lt is none =
-      let d = any_of lanes g lt in by_end (slice_index_or lanes g d).at (left (held g d lt).0.src) (slice_index_or lanes g d).end
+      let d = some_of lanes (omega (arith, lt)) in
+      by_end (slice_index_or lanes g d).at (left (held g d lt).0.src) (slice_index_or lanes g d).end
       (held g d lt).0.at (is d) (stood g d lt)
     where
       by_end : (at : ℕ) (l : List ℕ) (e : End) → at ≤ MAX_SAMPLES → lane_fault g e ≡ Some s →
@@ -218,7 +219,7 @@ module _ {C : Type 0} {tells : Type 0} {left : C → List ℕ} (c : Config) (fil
           holds = stored_holds (recordings c files) s seen leaves stored f has;
           all = λ h lt.
               let within : h < length lanes = omega (arith, lt, many) in
-              let d = any_of lanes h within in
+              let d = some_of lanes (omega (arith, within)) in
               ap (λ (e : List ℕ). slice_index e h) same ∙ (held h d within).1 ∙ cut_at _ _ _ _ (slice_index_or lanes h d).end
               (held h d within).0.at (ended h d within) (none h d within) (stood h d within);
         } in
@@ -249,7 +250,7 @@ module _ {C : Type 0} {tells : Type 0} {left : C → List ℕ} (c : Config) (fil
       are = refl;
       all = λ g lt.
           let within : g < length lanes = omega (arith, lt, many) in
-          let d = any_of lanes g within in
+          let d = some_of lanes (omega (arith, within)) in
           reached _ _ (sym (h.at g d within) ∙ sym (held g d within).1 ∙ (all_at (length lanes) (omega arith) none g within).0);
     };
   } where

@@ -5,9 +5,9 @@ use Rattle.count_command.specs.Answer.{IsEnding}
 use Rattle.count_command.specs.Holding.{HeldAt}
 use Rattle.status.specs.declared.status.Status.{Status}
 use Rattle.held_samples.proofs.Going.{going_starts}
-use Rattle.held_rounds.proofs.RoundOf.{any_of}
 use Rattle.count_command.proofs.AtEnd.{by_fault, ending, cut_printing, not_done, not_write, not_disk, read_lane, same_nothing, end_fault, end_printing, held_fault, held_printing, all_held, are_whole, acknowledges, told_starts, stand_for, fault_stored, printing_stored}
 use Rattle.count_command.proofs.opened.count_opened.Goals as goal
+use Rattle.lane_loans.proofs.Walking.{some_of}
 
 pub returns-in_default-clause-going : goal.returns-in_default-clause-going
 returns-in_default-clause-going g c = λ tells reads files lanes stored.
@@ -35,7 +35,7 @@ returns-in-Some-clause-ended g c = λ tells reads files lanes stored.
     by_fault (λ (s : Status). HeldAt s (recordings c.args.bridge.now files) (g.K.Station.leaves c.count_rounds.new.station))
     f.0 (λ b. tt) tt
     tt
-    _ c.in-Some.status (f.2 (any_of c.count_rounds.new.lanes f.0 f.1))
+    _ c.in-Some.status (f.2 (some_of c.count_rounds.new.lanes (omega (arith, f.1))))
 
 pub returns-in-Some-clause-cut : goal.returns-in-Some-clause-cut
 returns-in-Some-clause-cut g c = λ tells reads files lanes stored none.
@@ -44,17 +44,17 @@ returns-in-Some-clause-cut g c = λ tells reads files lanes stored none.
     held_fault c.args.bridge.now files c.count_rounds.new.lanes reads (now.read reads files lanes) (ends_of c.count_rounds.new.store.held)
     now.held now.ended (c.count_rounds.ensures.gauges.1 ∙ c.requires.gauges.1)
     c.count_rounds.new.store _ _ (now.stored tells reads files lanes stored) refl none c.in-Some.status f.0 _
-    (f.2 (any_of c.count_rounds.new.lanes f.0 f.1))
+    (f.2 (some_of c.count_rounds.new.lanes (omega (arith, f.1))))
 
 pub returns-in-Some-clause-acknowledged : goal.returns-in-Some-clause-acknowledged
 returns-in-Some-clause-acknowledged g c = λ tells reads files lanes done.
     let f = c.in-Some.ensures in
-    absurd (not_done f.0 _ c.in-Some.status (f.2 (any_of c.count_rounds.new.lanes f.0 f.1)) done)
+    absurd (not_done f.0 _ c.in-Some.status (f.2 (some_of c.count_rounds.new.lanes (omega (arith, f.1)))) done)
 
 pub returns-in-Some-clause-prints : goal.returns-in-Some-clause-prints
 returns-in-Some-clause-prints g c = λ shows tells reads files lanes stored.
     let f = c.in-Some.ensures in
-    same_nothing c.in-Some.status _ _ _ f.0 _ (f.2 (any_of c.count_rounds.new.lanes f.0 f.1))
+    same_nothing c.in-Some.status _ _ _ f.0 _ (f.2 (some_of c.count_rounds.new.lanes (omega (arith, f.1))))
 
 pub returns-in-Some-clause-answer : goal.returns-in-Some-clause-answer
 returns-in-Some-clause-answer g c = λ reads files lanes.
@@ -66,28 +66,28 @@ returns-in-Some-clause-answer g c = λ reads files lanes.
 pub returns-in-Some-clause-kind : goal.returns-in-Some-clause-kind
 returns-in-Some-clause-kind g c =
     let f = c.in-Some.ensures in
-    by_fault IsEnding f.0 (λ b. tt) tt tt _ c.in-Some.status (f.2 (any_of c.count_rounds.new.lanes f.0 f.1))
+    by_fault IsEnding f.0 (λ b. tt) tt tt _ c.in-Some.status (f.2 (some_of c.count_rounds.new.lanes (omega (arith, f.1))))
 
 pub returns-in-Some-clause-read : goal.returns-in-Some-clause-read
 returns-in-Some-clause-read g c = λ read none.
     let f = c.in-Some.ensures in
-    let d = any_of c.count_rounds.new.lanes f.0 f.1 in
+    let d = some_of c.count_rounds.new.lanes (omega (arith, f.1)) in
     none f.0 d f.1 (read_lane f.0 _ c.in-Some.status (f.2 d) read)
 
 pub returns-in-Some-clause-write : goal.returns-in-Some-clause-write
 returns-in-Some-clause-write g c = λ is.
     let f = c.in-Some.ensures in
-    absurd (not_write f.0 _ c.in-Some.status (f.2 (any_of c.count_rounds.new.lanes f.0 f.1)) is)
+    absurd (not_write f.0 _ c.in-Some.status (f.2 (some_of c.count_rounds.new.lanes (omega (arith, f.1)))) is)
 
 pub returns-in-Some-clause-disk : goal.returns-in-Some-clause-disk
 returns-in-Some-clause-disk g c = λ is.
     let f = c.in-Some.ensures in
-    absurd (not_disk f.0 _ c.in-Some.status (f.2 (any_of c.count_rounds.new.lanes f.0 f.1)) is)
+    absurd (not_disk f.0 _ c.in-Some.status (f.2 (some_of c.count_rounds.new.lanes (omega (arith, f.1)))) is)
 
 pub returns-in-Some-clause-quiet : goal.returns-in-Some-clause-quiet
 returns-in-Some-clause-quiet g c = λ tells leaves.
     let f = c.in-Some.ensures in
-    absurd (fault_stored f.0 _ c.in-Some.status (f.2 (any_of c.count_rounds.new.lanes f.0 f.1)) leaves)
+    absurd (fault_stored f.0 _ c.in-Some.status (f.2 (some_of c.count_rounds.new.lanes (omega (arith, f.1)))) leaves)
 
 -- all have
 pub returns-clause-ended : goal.returns-clause-ended
