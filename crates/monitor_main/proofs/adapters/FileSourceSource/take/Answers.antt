@@ -1,4 +1,4 @@
-use Rattle.std.proofs.Common.{◌++◌, take, sym, ap, ◌∙◌, arith}
+use Rattle.std.proofs.Common.{◌++◌, ◌<◌, length, take, sym, ap, ◌∙◌, arith}
 use Rattle.monitor_main.specs.Known.{bytes_of}
 use Rattle.monitor_main.proofs.Known.{consumed, kept, at_end}
 use Rattle.monitor_main.proofs.adapters.FileSourceSource.take.Goals.{else-loop-test, then-loop-test+in-Err-2}
