@@ -117,16 +117,16 @@ impl Board {
 
     /// Joins the segment with the intervals beside it, unless it is no block of its window or its
     /// first sample is there already. Takes no memory.
-    pub fn deposit(&mut self, segment: &Segment) -> Deposit
-        requires grid { segment.now.grid ≡ self.old.grid }
-        ensures answer { IsDepositAnswer self.old self.new segment.now result }
+    pub fn deposit(&mut self, seg: &Segment) -> Deposit
+        requires grid { seg.now.grid ≡ self.old.grid }
+        ensures answer { IsDepositAnswer self.old self.new seg.now result }
         ensures same { SameBoard self.old self.new }
         ensures carries { (gain : ℕ → GainValue) (w : ℕ → List ℤ) → CarriesSamples self.old gain w →
-            StandsIn segment.now (gain segment.now.gauge) (w segment.now.gauge) →
+            StandsIn seg.now (gain seg.now.gauge) (w seg.now.gauge) →
             CarriesSamples self.new gain w }
         ensures board { IsBoard self.new }
     {
-        let name = segment.name();
+        let name = seg.name();
         let gauge = name.gauge as usize;
         if gauge >= self.rows.len() {
             return Deposit::Stranger(name);
@@ -135,7 +135,7 @@ impl Board {
         let Some(number) = number_in(start, self.block, self.rows.len(), name) else {
             return Deposit::Stranger(name);
         };
-        match self.rows[gauge].place(self.block, number as usize, segment) {
+        match self.rows[gauge].place(self.block, number as usize, seg) {
             Some(interval) => Deposit::Double(interval),
             None => {
                 self.arrivals.push_reserved(name);

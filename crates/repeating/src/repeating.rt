@@ -60,26 +60,26 @@ impl Repeating {
 
     /// Counts the history of a segment, repeating, in place of the one before: the segment's full
     /// cycles, and those that its residue closes when it is put behind itself. Takes no memory.
-    pub fn of(&mut self, segment: &Segment)
-        requires { segment.now.grid ≡ self.old.grid }
+    pub fn of(&mut self, seg: &Segment)
+        requires { seg.now.grid ≡ self.old.grid }
         ensures cycles { AddsCycles
-            (points (segment.now.reducer.residue ++ segment.now.reducer.residue))
-            (count_of segment.now.tally.cells) segment.now.reducer.residue
+            (points (seg.now.reducer.residue ++ seg.now.reducer.residue))
+            (count_of seg.now.tally.cells) seg.now.reducer.residue
             (count_of self.new.tally.cells) }
-        ensures stands { (gain : GainValue) (w : List ℤ) → Stands segment.now gain w →
+        ensures stands { (gain : GainValue) (w : List ℤ) → Stands seg.now gain w →
             (lo hi : ℕ) → count_of self.new.tally.cells lo hi ≡
-            repeating_cycles (history segment.now.grid gain w) lo hi }
+            repeating_cycles (history seg.now.grid gain w) lo hi }
 
         // A cycle is two half units, and a reading adds no more than one.
-        ensures few { 2 * total_of self.new.tally.cells ≤ segment.now.used }
+        ensures few { 2 * total_of self.new.tally.cells ≤ seg.now.used }
         ensures grid { self.new.grid ≡ self.old.grid }
         ensures rules { IsRepeating self.new }
     {
         // What holds of every segment only a call of it tells; this costs nothing.
-        let (_grid, _room) = (segment.grid(), segment.room());
-        let residue = segment.residue();
+        let (_grid, _room) = (seg.grid(), seg.room());
+        let residue = seg.residue();
         self.tally.clear();
-        copy_cycles(&mut self.tally, segment, &mut self.row);
+        copy_cycles(&mut self.tally, seg, &mut self.row);
         let _is_residue = self.reducer.load(residue);
         join_residue(&mut self.reducer, residue, &mut self.tally);
         let _counts = self.tally.classes();

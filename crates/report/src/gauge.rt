@@ -17,21 +17,21 @@ const PLACES: usize = MAX_CLASSES as usize;
 
 /// Makes the page the text of a gauge: its table, then the sections `matrix` (half units by pair of
 /// levels), `crossings`, `peaks`, `valleys` and `ranges`, each with its heading.
-pub fn gauge_text(page: &mut Page, name: &str, segment: &Segment)
+pub fn gauge_text(page: &mut Page, name: &str, seg: &Segment)
     requires name { length name.now ≤ MAX_NAME_BYTES }
-    requires classes { segment.now.grid.classes ≤ page.old.classes }
+    requires classes { seg.now.grid.classes ≤ page.old.classes }
     ensures text { page.new ≡ record page.old {
-      bytes = spec.gauge_text segment.now.grid name.now (figures_of segment.now);
+      bytes = spec.gauge_text seg.now.grid name.now (figures_of seg.now);
     } }
-    ensures stands { (gain : GainValue) (w : List ℤ) → Stands segment.now gain w →
+    ensures stands { (gain : GainValue) (w : List ℤ) → Stands seg.now gain w →
         page.new ≡ record page.old {
-          bytes = spec.gauge_text segment.now.grid name.now (figures segment.now.grid gain w);
+          bytes = spec.gauge_text seg.now.grid name.now (figures seg.now.grid gain w);
         } }
 {
     // What a segment keeps: its grid and all its numbers lie within limits.
-    let _grid = segment.grid();
+    let _grid = seg.grid();
     page.clear();
-    push_gauge(page, name, segment);
+    push_gauge(page, name, seg);
 }
 
 #[tactic(auto, unfolding(crate::specs::Texts::gauge_text))]

@@ -204,18 +204,18 @@ fn put_parts(buf: &mut [u8], layout: Layout, segment: &Segment) -> usize
 /// Writes the body of a segment in the layout to the front of a buffer, and tells its length. Takes
 /// no memory. The cells are walked once, row by row: a table of a tally costs its places, a log its
 /// entries for each row.
-pub fn encode(layout: Layout, segment: &Segment, buf: &mut [u8]) -> usize
-    requires few { layout ≡ One → segment.now.grid.classes ≤ MAX_CLASSES_ONE }
-    requires room { max_body layout segment.now.grid.classes ≤ length buf.old }
-    ensures body { IsBodyOf layout segment.now.grid (parts_of segment.now) (take result buf.new) }
-    ensures len { result ≡ length (body_of layout (parts_of segment.now)) }
-    ensures bound { result ≤ max_body layout segment.now.grid.classes }
+pub fn encode(layout: Layout, seg: &Segment, buf: &mut [u8]) -> usize
+    requires few { layout ≡ One → seg.now.grid.classes ≤ MAX_CLASSES_ONE }
+    requires room { max_body layout seg.now.grid.classes ≤ length buf.old }
+    ensures body { IsBodyOf layout seg.now.grid (parts_of seg.now) (take result buf.new) }
+    ensures len { result ≡ length (body_of layout (parts_of seg.now)) }
+    ensures bound { result ≤ max_body layout seg.now.grid.classes }
     ensures by_samples { result ≤
-        max_body_of segment.now.grid.classes (segment.now.to - segment.now.from) }
+        max_body_of seg.now.grid.classes (seg.now.to - seg.now.from) }
 {
-    let grid = segment.grid();
+    let grid = seg.grid();
     let _classes = grid.classes();
-    let name = segment.name();
+    let name = seg.name();
     let _gauge = name.gauge;
-    put_parts(buf, layout, segment)
+    put_parts(buf, layout, seg)
 }

@@ -108,28 +108,28 @@ impl Store {
     /// Stores a segment over the store's grid, which is not empty and of a gauge of the store. It
     /// takes no memory: one write behind the closed gate, a sync, the open gate, a sync. After
     /// `DiskFault` the store is shut; after any refusal what is held stays.
-    pub fn put<K: Station>(&mut self, station: &mut K, segment: &Segment) -> Result<(), PutFault>
-        requires grid { segment.now.grid ≡ self.old.head.setup.grid }
-        requires gauge { segment.now.gauge < length self.old.head.setup.gains }
-        requires some { segment.now.from < segment.now.to }
+    pub fn put<K: Station>(&mut self, station: &mut K, seg: &Segment) -> Result<(), PutFault>
+        requires grid { seg.now.grid ≡ self.old.head.setup.grid }
+        requires gauge { seg.now.gauge < length self.old.head.setup.gains }
+        requires some { seg.now.from < seg.now.to }
         requires on { K.tells → self.old.shut ≡ false →
             IsThere self.old (K.seen station.old) (K.leaves station.old) }
         // With Ok the store is on its station with one body more.
         ensures stored { K.tells → (bodies : List PartsValue) → self.old.shut ≡ false →
             IsOn self.old bodies (K.seen station.old) (K.leaves station.old) →
-            OnOk result (IsNext self.old.head.setup (ends_of self.old.held) (parts_of segment.now)
-            × IsOn self.new (bodies ++ parts_of segment.now ∷ [])
+            OnOk result (IsNext self.old.head.setup (ends_of self.old.held) (parts_of seg.now)
+            × IsOn self.new (bodies ++ parts_of seg.now ∷ [])
             (K.seen station.new) (K.leaves station.new)) }
         // Every moment of it reads as the bodies from before, or with the new one.
         ensures any_moment { K.tells → (bodies : List PartsValue) → self.old.shut ≡ false →
             IsOn self.old bodies (K.seen station.old) (K.leaves station.old) →
             Since (K.clock station.old) (K.moments station.old) (K.clock station.new)
             (K.moments station.new) (InPut (K.told station.old) self.old.head bodies
-            (ends_of self.old.held) (parts_of segment.now)) }
+            (ends_of self.old.held) (parts_of seg.now)) }
         ensures told { K.tells → K.told station.new ≡ K.told station.old }
         // When it refuses.
         ensures refuses { Refuses self.old.shut
-            (slice_index (ends_of self.old.held) segment.now.gauge) segment.now.from result }
+            (slice_index (ends_of self.old.held) seg.now.gauge) seg.now.from result }
         ensures unwritten { K.tells → LeavesUnwritten result (K.seen station.old)
             (K.seen station.new)
             (K.leaves station.old) (K.leaves station.new) }
@@ -138,14 +138,14 @@ impl Store {
         ensures shut { (result ≡ Err DiskFault) ⊎ (self.new.shut ≡ self.old.shut) }
         // What is held.
         ensures held { OnOk result (ends_of self.new.held ≡
-            ends_after (ends_of self.old.held) (parts_of segment.now)) }
+            ends_after (ends_of self.old.held) (parts_of seg.now)) }
         ensures unchanged { OnErr result ((self.new.held ≡ self.old.held)
             × (self.new.count ≡ self.old.count) × (self.new.place ≡ self.old.place)) }
         ensures gauges { length self.new.held ≡ length self.old.held }
         ensures head { self.new.head ≡ self.old.head }
         ensures later { K.faults station.old ≤ K.faults station.new }
     {
-        self.state.put(station, segment)
+        self.state.put(station, seg)
     }
 
     /// What it is for.

@@ -18,7 +18,7 @@ invariant_of-self c =
       arrivals =
           c.self.inside.arrivals.items;
     } in
-    let segment = c.args.segment.now in
+    let segment = c.args.seg.now in
     let n = c.name-name.result in
     let is : n ≡ name_of segment = c.name-name.ensures.value in
     let there : n.gauge < length b.rows = omega (arith, c.if-gauge-len.false, c.len.ensures, c.self.inside.rows.ok.0) in
@@ -48,7 +48,7 @@ push_reserved-requires c =
       arrivals =
           c.self.inside.arrivals.items;
     } in
-    let segment = c.args.segment.now in
+    let segment = c.args.seg.now in
     let n = c.name-name.result in
     let is : n ≡ name_of segment = c.name-name.ensures.value in
     let there : n.gauge < length b.rows = omega (arith, c.if-gauge-len.false, c.len.ensures, c.self.inside.rows.ok.0) in
@@ -78,7 +78,7 @@ invariant_of-self-in-None c =
       arrivals =
           c.self.inside.arrivals.items;
     } in
-    let segment = c.args.segment.now in
+    let segment = c.args.seg.now in
     let n = c.name-name.result in
     let is : n ≡ name_of segment = c.name-name.ensures.value in
     let there : n.gauge < length b.rows = omega (arith, c.if-gauge-len.false, c.len.ensures, c.self.inside.rows.ok.0) in
@@ -118,7 +118,7 @@ returns-in-Some-place-clause-answer c =
       arrivals =
           c.self.inside.arrivals.items;
     } in
-    let segment = c.args.segment.now in
+    let segment = c.args.seg.now in
     let n = c.name-name.result in
     let is : n ≡ name_of segment = c.name-name.ensures.value in
     let there : n.gauge < length b.rows = omega (arith, c.if-gauge-len.false, c.len.ensures, c.self.inside.rows.ok.0) in
@@ -165,7 +165,7 @@ returns-in-Some-place-clause-carries c =
       arrivals =
           c.self.inside.arrivals.items;
     } in
-    let segment = c.args.segment.now in
+    let segment = c.args.seg.now in
     let n = c.name-name.result in
     let is : n ≡ name_of segment = c.name-name.ensures.value in
     let there : n.gauge < length b.rows = omega (arith, c.if-gauge-len.false, c.len.ensures, c.self.inside.rows.ok.0) in
@@ -197,7 +197,7 @@ returns-in-None-clause-carries c =
       arrivals =
           c.self.inside.arrivals.items;
     } in
-    let segment = c.args.segment.now in
+    let segment = c.args.seg.now in
     let n = c.name-name.result in
     let is : n ≡ name_of segment = c.name-name.ensures.value in
     let there : n.gauge < length b.rows = omega (arith, c.if-gauge-len.false, c.len.ensures, c.self.inside.rows.ok.0) in

@@ -10,19 +10,19 @@ use Rattle.repeating.proofs.OfResidue.{IsClosed, closed, few_cycles}
 use Rattle.repeating.proofs.repeating.Repeating.of.Goals as goal
 
 module _ (c : goal.After-classes-counts) where
-  same_grid : c.args.segment.now.grid ≡ c.self.inside.grid
+  same_grid : c.args.seg.now.grid ≡ c.self.inside.grid
   same_grid = c.requires ∙ sym (ap (λ v. v.grid) c.self.view_is)
 
-  is_closed : IsClosed c.args.segment.now c.load-is_residue.new.self c.join_residue.new.left c.join_residue.new.tally
+  is_closed : IsClosed c.args.seg.now c.load-is_residue.new.self c.join_residue.new.left c.join_residue.new.tally
   is_closed =
-      closed c.args.segment.now c.self.inside.reducer c.load-is_residue.new.self c.join_residue.new.left c.load-is_residue.result
+      closed c.args.seg.now c.self.inside.reducer c.load-is_residue.new.self c.join_residue.new.left c.load-is_residue.result
       c.residue-residue.result.now c.copy_cycles.new.tally c.join_residue.new.tally c.residue-residue.ensures.rules
       c.residue-residue.ensures.residue (c.self.invariant.1 ∙ sym (ap (λ g. g.classes) same_grid)) c.load-is_residue.ensures.accepted
       c.load-is_residue.ensures.loaded c.copy_cycles.ensures.cells c.join_residue.ensures.step c.join_residue.ensures.shape
 
-  few : 2 * total_of c.join_residue.new.tally.cells ≤ c.args.segment.now.used
+  few : 2 * total_of c.join_residue.new.tally.cells ≤ c.args.seg.now.used
   few =
-      let v = c.args.segment.now in
+      let v = c.args.seg.now in
       let s = c.residue-residue.ensures.rules in
       let r = c.residue-residue.ensures.residue in
       let p = ap (λ l. length (points (l ++ c.residue-residue.result.now))) is_closed.residue
@@ -51,14 +51,14 @@ module _ (c : goal.After-classes-counts) where
 
 pub returns-clause-cycles : goal.returns-clause-cycles
 returns-clause-cycles c =
-    let v = c.args.segment.now in
+    let v = c.args.seg.now in
     subst (λ l. AddsCycles (points (v.reducer.residue ++ v.reducer.residue)) (count_of v.tally.cells) l
     (count_of c.join_residue.new.tally.cells))
     (is_closed c).again (is_closed c).adds
 
 pub returns-clause-stands : goal.returns-clause-stands
 returns-clause-stands c = λ gain w s.
-    let v = c.args.segment.now in
+    let v = c.args.seg.now in
     cycles_of (history v.grid gain w) (count_of v.tally.cells) (count_of c.join_residue.new.tally.cells) v.reducer.residue
     c.join_residue.new.left.residue s.history.result (is_closed c).adds c.join_residue.ensures.shape.irreducible
 
