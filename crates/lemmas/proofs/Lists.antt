@@ -1,28 +1,24 @@
 -- Parts and places of lists.
 --   take_next, take_two, take_four   the first levels of a buffer, with the last one, two or four apart
---   take_by_last_two                 the same by the length; take_set_last, take_set_third: after a write near the end
+--   take_by_last_two                 the same by the length; take_set_last: after a write near the end
 --   take_pushed                      with an item more behind
 --   take-append-part, take-append-taken   the front of a buffer that was filled in two steps
---   reverse-take_next                a front read from its end
 --   longer                           a list with an item more is another list
 --   length-rewritten                 a buffer whose front was written; all_written: one that a slice wrote over
---   length-append-le, length-cond-le, length-decimal_word   how long a text is at most
 --   get_or-behind, get_or-zeros      places; positive_within: what is past the end is 0
 --   All-reverse, All-of_reverse, each_more     what holds of each item; All-front, All-behind: of a part's
 --   list_all-digits                  the test of each digit of a numeral
---   below_positive, below_at, below_set_third   lists of numbers below a bound
-use Rattle.std.proofs.Common.{◌≡◌, ◌≢◌, ℕ, zero, suc, ◌+◌, ◌-◌, ◌<◌, ◌≤◌, ◌⊎◌, inl, inr, List, [], ◌∷◌, ◌++◌, length, take, drop, set, get_or, reverse, refl, sym, ap, ◌∙◌, subst, arith, append_assoc, take-append-drop, length-append, length-set, get_or-take, get_or-set_same, get_or-set_other, length-take-le, Bool, true, false, cond, ◌^◌, slice_index_or, nat_lt, lt-ltb}
+--   below_positive, below_at         lists of numbers below a bound
+use Rattle.std.proofs.Common.{◌≡◌, ◌≢◌, ℕ, zero, suc, ◌+◌, ◌-◌, ◌<◌, ◌≤◌, ◌⊎◌, inl, inr, List, [], ◌∷◌, ◌++◌, length, take, drop, set, get_or, reverse, refl, sym, ap, ◌∙◌, subst, arith, append_assoc, take-append-drop, length-append, get_or-take, get_or-set_same, get_or-set_other, length-take-le, true, slice_index_or, nat_lt, lt-ltb}
 use Rattle.std.specs.Prelude.{All, replicate}
 use Rattle.std.specs.List.{list_all}
 use Rattle.std.specs.Char.{digit_value}
 use Rattle.std.specs.Str.Parse.{AllDigits}
-use Rattle.std.proofs.lemmas.Bool.{cases_lt, cases_eq}
+use Rattle.std.proofs.lemmas.Bool.{cases_lt}
 use Rattle.std.proofs.lemmas.List.{take_more, take_more_set, take_at, drop-drop, take-append-le, reverse-append, reverse-reverse, get_or-replicate, get_or_past, length-replicate, take_all}
 use Rattle.std.proofs.lemmas.List.Elements.{All-head, All-tail, All-push, All-take, All-drop}
 use Rattle.std.proofs.Math.Seq.{take-append-add, get_or-append_seam, take-append_seam, drop-append_seam}
 use Rattle.std.proofs.Math.ListN.{get_or-append}
-use Rattle.std.specs.Fmt.{decimal}
-use Rattle.std.proofs.lemmas.Fmt.{length-decimal-le}
 
 pub take_next : (s : List ℕ) (i j : ℕ) → j ≡ i + 1 → i < length s → take j s ≡ take i s ++ get_or s i 0 ∷ []
 take_next s i j e h = ap (λ n. take n s) e ∙ take_more s i 0 h
@@ -56,17 +52,6 @@ take_set_last s n v h r =
     let b = take_more_set s (n - 1) v (omega arith) in
     ap (λ k. take k (set s (n - 1) v)) e ∙ b ∙ ap (λ l. l ++ (v ∷ [])) a ∙ append_assoc (take (n - 2) s) (get_or s (n - 2) 0 ∷ []) (v ∷ [])
 
--- the third from the end was written, and the last two dropped
-pub take_set_third : (s : List ℕ) (k n d : ℕ) → n ≡ k + 4 → n ≤ length s →
-    take (n - 2) (set s (n - 3) d) ≡ take k s ++ (get_or s k 0 ∷ d ∷ [])
-take_set_third s k n d e h =
-    let i : n - 2 ≡ (k + 1) + 1 = omega arith in
-    let j : n - 3 ≡ k + 1 = omega arith in
-    let p = take_more_set s (k + 1) d (omega arith) in
-    let q = take_next s k (k + 1) refl (omega arith) in
-    ap (λ m. take m (set s (n - 3) d)) i ∙ ap (λ m. take ((k + 1) + 1) (set s m d)) j ∙ p ∙ ap (λ l. l ++ d ∷ []) q ∙ append_assoc
-    (take k s) (get_or s k 0 ∷ []) (d ∷ [])
-
 -- an item more behind the first n, of which the last two are apart
 pub take_pushed : (s : List ℕ) (n v : ℕ) → 2 ≤ n → n ≤ length s →
     take n s ++ (v ∷ []) ≡ take (n - 2) s ++ (get_or s (n - 2) 0 ∷ get_or s (n - 1) 0 ∷ v ∷ [])
@@ -90,9 +75,6 @@ pub take-append-taken : {X : Type 0} (n at : ℕ) (xs copied rest left : List X)
 take-append-taken n at xs copied rest left long is was =
     was ∙ sym (take-append-drop n (drop at xs)) ∙ ap (λ l. l ++ drop n (drop at xs)) (sym is ∙ sym (take_at copied rest n long))
     ∙ ap (λ l. take n (copied ++ rest) ++ l) (drop-drop n at xs)
-
-pub reverse-take_next : (s : List ℕ) (k : ℕ) → k < length s → reverse (take (k + 1) s) ≡ get_or s k 0 ∷ reverse (take k s)
-reverse-take_next s k h = ap reverse (take_more s k 0 h) ∙ reverse-append (take k s) (get_or s k 0 ∷ [])
 
 pub longer : (l : List ℕ) (x : ℕ) → l ++ (x ∷ []) ≡ l → ⊥
 longer [] x e = cc
@@ -137,17 +119,6 @@ below_more k n x i d s a room few w h (inr e) =
     let v = a i d (omega (arith, length-take-le n s room)) in
     omega arith
 
--- the third of the first n from the end was written, and the last two dropped
-pub below_set_third : (k n x : ℕ) (s : List ℕ) → All (λ y. y < k) (take n s) → n ≤ length s → 3 ≤ n → x < k →
-    All (λ y. y < k) (take (n - 2) (set s (n - 3) x))
-below_set_third k n x s a room few w = λ i d h.
-    let t = set s (n - 3) x in
-    let l = length-take-le (n - 2) t (omega (arith, length-set s (n - 3) x)) in
-    let g : i < n - 2 = omega arith in
-    let e = get_or-take (n - 2) t i d g in
-    let v = below_more k n x i d s a room few w g (cases_eq i (n - 3)) in
-    omega arith
-
 -- what holds of each item holds in any order
 pub All-reverse : {X : Type 0} (P : X → Type 0) (l : List X) → All P l → All P (reverse l)
 All-reverse P [] a = a
@@ -188,14 +159,3 @@ each_more {A} P xs ys x k is long all here g d lt =
           subst (λ (n : ℕ). P n (slice_index_or (xs ++ x ∷ []) n d)) (sym at)
           (subst (P (length xs)) (sym (get_or-append_seam xs x [] d)) (subst (λ (n : ℕ). P n x) long here))
     ])
-
--- how long a text of parts is at most
-pub length-append-le : (a b : List ℕ) (m n : ℕ) → length a ≤ m → length b ≤ n → length (a ++ b) ≤ m + n
-length-append-le a b m n x y = omega (arith, length-append a b, x, y)
-
-pub length-cond-le : (b : Bool) (x y : List ℕ) (n : ℕ) → length x ≤ n → length y ≤ n → length (cond b x y) ≤ n
-length-cond-le true x y n p q = p
-length-cond-le false x y n p q = q
-
-pub length-decimal_word : (n : ℕ) → n < 2 ^ 64 → length (decimal n) ≤ 20
-length-decimal_word n small = length-decimal-le 20 n (omega arith) (omega arith) (omega (arith, small))

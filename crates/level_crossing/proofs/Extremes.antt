@@ -96,8 +96,3 @@ no_extremes r p b s f g = λ k. omega (arith, either (leb r k) b s (k + 1) (f (k
 
 pub all_extremes : (r : ℕ) (b s p : List ℕ) (i : ℕ) → HasExtremes r b s (take (i + 1) p) → length p ≤ i + 1 → HasExtremes r b s p
 all_extremes r b s p i g h = subst (HasExtremes r b s) (take_all (i + 1) p h) g
-
-pub few_extremes : (r k : ℕ) (p : List ℕ) → length p < 2 → extremes_at r k p ≡ 0
-few_extremes r k [] h = refl
-few_extremes r k (x ∷ []) h = refl
-few_extremes r k (x ∷ y ∷ p) h = absurd (omega arith)

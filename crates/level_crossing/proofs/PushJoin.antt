@@ -174,9 +174,6 @@ stop_small v i (suc j) =
 sound_of : (v : CrossingsValue) → IsCrossings v → Sound v.classes v.begins v.stops
 sound_of v i = record { begins = i.begins; stops = i.stops; enough = i.enough }
 
-few_of : (v : CrossingsValue) → IsCrossings v → (l : ℕ) → sum (take (l + 1) v.stops) ≤ sum (take (l + 1) v.begins)
-few_of v i l = omega (arith, i.enough l, begins_grow v.begins l)
-
 first_below : (b : Bool) (x y k : ℕ) → x < k → y < k → cond b x y < k
 first_below true x y k p q = p
 first_below false x y k p q = q

@@ -1,7 +1,7 @@
 -- The cycles of a segment put into an empty tally, row by row.
 --   IsInRow, row_begun, row_more, row_ended      a row, of which the pairs up to a level were added
---   IsCopied, copied_none, copied_more, copied_all   the rows below a level
-use Rattle.std.proofs.Common.{◌≡◌, ℕ, ◌+◌, ◌≤◌, ◌⊎◌, inl, inr, nat_lt, nat_le, ◌==◌, ◌&&◌, if◌then◌else◌, List, [], sym, ap, ◌∙◌, subst, arith}
+--   IsCopied, copied_all                         the rows below a level
+use Rattle.std.proofs.Common.{◌≡◌, ℕ, ◌+◌, ◌≤◌, ◌⊎◌, inl, inr, nat_lt, nat_le, ◌==◌, ◌&&◌, if◌then◌else◌, List, ap, ◌∙◌, subst, arith}
 use Rattle.std.specs.Prelude.{All}
 use Rattle.std.proofs.lemmas.Bool.Decides.{nat_tests}
 use Rattle.lemmas.proofs.Naturals.{same_or_not}
@@ -52,16 +52,9 @@ IsCopied held new lo = (a b : ℕ) → count_of new a b ≡ (if nat_lt a lo then
 no_row : (f a : ℕ) → (if nat_lt a 0 then f else 0) ≡ 0
 no_row f a = grind (arith, nat_tests)
 
-pub copied_none : (held new : List Cell) → new ≡ [] → IsCopied held new 0
-copied_none held new e a b = ap (λ l. count_of l a b) e ∙ sym (no_row (count_of held a b) a)
-
 next_row : (f lo a p q : ℕ) → p ≡ (if nat_lt a lo then f else 0) → q ≡ p + (if a == lo then f else 0) →
     q ≡ (if nat_lt a (lo + 1) then f else 0)
 next_row f lo a p q g h = grind (arith, nat_tests)
-
-pub copied_more : (held new newer : List Cell) (lo : ℕ) → IsCopied held new lo →
-    ((a b : ℕ) → count_of newer a b ≡ count_of new a b + (if a == lo then count_of held a b else 0)) → IsCopied held newer (lo + 1)
-copied_more held new newer lo r h a b = next_row (count_of held a b) lo a (count_of new a b) (count_of newer a b) (r a b) (h a b)
 
 all_rows : (f k lo a p : ℕ) → lo + 1 ≡ k → (lo ≤ a → f ≡ 0) → p ≡ (if nat_lt a lo then f else 0) → p ≡ f
 all_rows f k lo a p e h g = grind (arith, nat_tests)

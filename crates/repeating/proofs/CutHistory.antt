@@ -33,9 +33,6 @@ add_top x m t (two {y = y} n) b h = let p : y < suc m = All-head (λ y. y < suc 
 add_top x m t (inner {y = y} {z = z} {l = l} u g) b h =
     let p : y < suc m = All-head (λ y. y < suc m) y (z ∷ l) b in add_away x m y (z ∷ l) (inl (h, below_top m y z p u))
 
-zig_top : {m : ℕ} → IsZigzag (m ∷ [])
-zig_top = one
-
 join_first : {m x : ℕ} {t u : List ℕ} → IsZigzag (m ∷ t) → All (λ y. y < suc m) t → over u (m ∷ t) ≡ m ∷ t → over u (m ∷ []) ≡ m ∷ [] →
     ((x < m) ⊎ (m ≤ x)) → x ≤ m → Joined m t (x ∷ u)
 join_first {m} {x} {t} g b p q (inl h) k = join_kept [] (x ∷ []) p q (add_top x m t g b h) (add_top x m [] one (All-nil (λ y. y < suc m)) h)

@@ -27,9 +27,6 @@ turn_side p q x a b t u v = grind arith
 between_side : (p q x a b : ℕ) → IsBetween p x a → OnSide x p q → OnSide x a b → IsBetween q x b
 between_side p q x a b t u v = grind arith
 
-same_here : (a p q : ℕ) → OnSide a p q → (b : ℕ) → b ≡ a → OnSide b p q
-same_here a p q t b e = subst (λ w. OnSide w p q) (sym e) t
-
 far_side : (p q x l : ℕ) → IsBetween p x l → IsBetween q x l → OnSide l p q
 far_side p q x l t u = grind arith
 

@@ -11,7 +11,6 @@ use Rattle.turning_points.proofs.Zigzag.{IsZigzag, inner}
 use Rattle.turning_points.proofs.Over.{zig_own}
 use Rattle.four_point.specs.Residue.{IsResidue, ReducerValue}
 use Rattle.calibration.specs.Grid.{GridValue, IsGrid}
-use Rattle.level_crossing.specs.Loading.{CanLoad as CanCross}
 use Rattle.simple_counts.specs.Loading.{CanLoad}
 use Rattle.segment_rules.specs.Parts.{PartsValue}
 use Rattle.segment_rules.specs.Rules.{IsEnded, IsSegment as AreSegment}
@@ -113,18 +112,6 @@ few_bins u [] h a = All-nil (λ (b : Bin). b.n ≤ MAX_POINTS)
 few_bins u (b ∷ bs) h a =
     let n = All-head (λ b. b.n < u) b bs a in
     All-cons (λ b. b.n ≤ MAX_POINTS) b bs (omega (arith, n, h)) (few_bins u bs h (All-tail (λ b. b.n < u) b bs a))
-
-pub can_cross : (g : GridValue) (p : PartsValue) → IsGrid g → AreSegment g p → CanCross g.classes p.ends p.crossings
-can_cross g p grid s =
-    let t = s.summed in
-    let e = ends_are g.classes p.ends p.residue (omega (arith, grid.classes_from)) s.residue s.ended in
-    record {
-      first = e.below.0;
-      last = e.below.3;
-      bins_are = s.ordered.crossings;
-      few = few_bins p.used p.crossings
-          (omega (arith, t.readings, t.span.1)) t.crossings;
-    }
 
 -- a residue that was taken
 pub loaded_residue : (k : ℕ) (r : List ℕ) (b : Bool) (m old : ReducerValue) → IsTrue b →

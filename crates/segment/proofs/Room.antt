@@ -1,12 +1,10 @@
 -- The room of a segment's tally is enough for each call.
 --   fits         twice the cycles and the levels of the residue are at most the samples
 --   push_room    for one level more
---   block_room   for the points of a block
 --   merge_room   for the cycles of the part that comes next
 --   join_room    and then for joining the two residues
-use Rattle.std.proofs.Common.{◌≡◌, ℕ, ◌+◌, ◌*◌, ◌-◌, ◌<◌, ◌≤◌, ◌/◌, ◌⊎◌, inl, inr, length, sym, ap, ◌∙◌, arith}
-use Rattle.std.proofs.lemmas.Bool.{cases_lt}
-use Rattle.tally.specs.Counts.{Counts, IsCounts, HasGreatestRoom, most_cells, total_of}
+use Rattle.std.proofs.Common.{◌≡◌, ◌+◌, ◌*◌, ◌-◌, ◌<◌, ◌≤◌, ◌⊎◌, length, sym, ap, ◌∙◌, arith}
+use Rattle.tally.specs.Counts.{Counts, IsCounts, HasGreatestRoom, total_of}
 use Rattle.tally.specs.Room.{FitsSamples, room_for}
 use Rattle.tally.proofs.Enough.{push_has_room, merge_has_room, join_has_room}
 use Rattle.segment.specs.Segment.{SegmentValue, IsSegment}
@@ -20,14 +18,6 @@ room_is v i = i.over.room ∙ ap (λ k. room_for k v.longest) (sym i.over.tally)
 pub push_room : (v : SegmentValue) → IsSegment v → IsCounts v.tally → v.to - v.from < v.longest →
     HasGreatestRoom v.tally ⊎ (2 * length v.tally.cells + length v.reducer.residue ≤ 2 * v.tally.room)
 push_room v i t less = push_has_room v.tally (length v.reducer.residue) (v.to - v.from) v.longest t (fits v i) (room_is v i) less
-
--- so many points, of at most so many samples
-pub block_room : (t : Counts) (longest n : ℕ) → t.room ≡ room_for t.classes longest → n ≤ longest → HasGreatestRoom t ⊎ (n ≤ 2 * t.room + 1)
-block_room t longest n is few = go (cases_lt (most_cells t.classes) (longest / 2))
-  where
-    go : (most_cells t.classes < longest / 2) ⊎ (longest / 2 ≤ most_cells t.classes) → HasGreatestRoom t ⊎ (n ≤ 2 * t.room + 1)
-    go (inl less) = inl (omega (arith, is, less))
-    go (inr less) = inr (omega (arith, is, less, few))
 
 module _ (v w : SegmentValue) (i : IsSegment v) (j : IsSegment w) (t : IsCounts v.tally) (u : IsCounts w.tally)
     (long : (v.to - v.from) + (w.to - w.from) ≤ v.longest) where

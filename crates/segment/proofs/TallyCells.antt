@@ -44,12 +44,6 @@ total_step i cs d old new lt added so_far =
     let here : drop i cs ≡ slice_index_or cs i d ∷ drop (i + 1) cs = drop_more cs i d lt in
     omega (arith, added, so_far, ap total_of here, sum_by-cons (λ c. c.n) (slice_index_or cs i d) (drop (i + 1) cs))
 
-pub total_room : (i : ℕ) (cs : List Cell) (d : Cell) (old : ℕ) → i < length cs → old + total_of (drop i cs) ≡ total_of cs
-    → old + (slice_index_or cs i d).n ≤ total_of cs
-total_room i cs d old lt so_far =
-    let here : drop i cs ≡ slice_index_or cs i d ∷ drop (i + 1) cs = drop_more cs i d lt in
-    omega (arith, so_far, ap total_of here, sum_by-cons (λ c. c.n) (slice_index_or cs i d) (drop (i + 1) cs))
-
 -- there is a place for each: of the greatest room for every pair, of a lesser one for half of the samples
 pub place_left : (t : Counts) (longest i n lo hi m : ℕ) → t.room ≡ room_for t.classes longest → length t.cells ≤ i → i < n →
     2 * n ≤ longest → HasPlace t lo hi m

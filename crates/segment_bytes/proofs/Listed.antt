@@ -1,8 +1,8 @@
 -- Lists of counts as bins, one by one, and one written behind the other.
-use Rattle.std.proofs.Common.{◌≡◌, ℕ, suc, ◌+◌, ◌*◌, ◌<◌, ◌≤◌, Bool, true, false, List, [], ◌∷◌, ◌++◌, length, drop, map, take, refl, sym, ap, ◌∙◌, append_assoc, length-append, arith}
-use Rattle.std.specs.Prelude.{◌==◌, if◌then◌else◌, slice_index, slice_index_or}
+use Rattle.std.proofs.Common.{◌≡◌, ℕ, suc, ◌+◌, ◌*◌, ◌<◌, ◌≤◌, Bool, true, false, List, [], ◌∷◌, ◌++◌, length, map, take, refl, sym, ap, ◌∙◌, append_assoc, length-append, arith}
+use Rattle.std.specs.Prelude.{◌==◌, if◌then◌else◌, slice_index}
 use Rattle.std.specs.List.{flat_map}
-use Rattle.std.proofs.lemmas.List.{append-nil, drop_more, length-map, map-append}
+use Rattle.std.proofs.lemmas.List.{append-nil, length-map}
 use Rattle.std.proofs.lemmas.Grind.{flat_map-append}
 use Rattle.tally.specs.declared.cells.Bin.{Bin}
 use Rattle.segment.specs.Parts.{bins_from}
@@ -18,19 +18,6 @@ split_by false x xs = refl
 -- the first count, and those behind it
 bins_split : (k n : ℕ) (ns : List ℕ) → bins_of k (n ∷ ns) ≡ bins_of k (n ∷ []) ++ bins_of (k + 1) ns
 bins_split k n ns = split_by (n == 0) (record { key = k; n = n }) (bins_of (k + 1) ns)
-
--- the next of the counts from a place on
-pub bins_next : (k i : ℕ) (ns : List ℕ) → i < length ns → bins_of k (drop i ns) ≡ bins_of k (slice_index_or ns i 0 ∷ []) ++ bins_of
-    (k + 1) (drop (i + 1) ns)
-bins_next k i ns lt = ap (bins_of k) (drop_more ns i 0 lt) ∙ bins_split k (slice_index_or ns i 0) (drop (i + 1) ns)
-
-long_by : (b : Bool) (x y : Bin) → length (if b then [] else x ∷ []) ≡ length (if b then [] else y ∷ [])
-long_by true x y = refl
-long_by false x y = refl
-
--- how many there are does not depend on the keys
-pub one_long : (j k n : ℕ) → length (bins_of j (n ∷ [])) ≡ length (bins_of k (n ∷ []))
-one_long j k n = long_by (n == 0) (record { key = j; n = n }) (record { key = k; n = n })
 
 pub one_at_most : (k n : ℕ) → length (bins_of k (n ∷ [])) ≤ 1
 one_at_most k n = by (n == 0) (record { key = k; n = n })
@@ -50,11 +37,6 @@ bins_few k (n ∷ ns) = omega (
   bins_few (k + 1) ns,
 )
 
-pub bins_long_next : (k i : ℕ) (ns : List ℕ) → i < length ns
-    → length (bins_of k (drop i ns)) ≡ length (bins_of k (slice_index_or ns i 0 ∷ [])) + length (bins_of (k + 1) (drop (i + 1) ns))
-bins_long_next k i ns lt = ap length (bins_next k i ns lt) ∙ length-append (bins_of k (slice_index_or ns i 0 ∷ []))
-    (bins_of (k + 1) (drop (i + 1) ns))
-
 pub puts_then : {at next last : ℕ} {old mid new : List ℕ} (x y : List ℕ) → Puts at x old mid next → Puts next y mid new last
     → Puts at (x ++ y) old new last
 puts_then {at} {next} {last} {old} {mid} {new} x y p q = record {
@@ -72,12 +54,6 @@ put_steps w a b es xs ys total is split so_far =
 
 pub put_done : {A : Type 0} (w : A → List ℕ) (a : List ℕ) (xs : List A) (total : List ℕ) → xs ≡ [] → a ++ flat_map w xs ≡ total → a ≡ total
 put_done w a xs total none so_far = sym (append-nil a) ∙ ap (λ l. a ++ flat_map w l) (sym none) ∙ so_far
-
-pub pairs_next : (lo k i : ℕ) (ns : List ℕ) → i < length ns
-    → map (cell_in lo) (bins_of k (drop i ns)) ≡ map (cell_in lo) (bins_of k (slice_index_or ns i 0 ∷ [])) ++ map (cell_in lo)
-    (bins_of (k + 1) (drop (i + 1) ns))
-pairs_next lo k i ns lt = ap (map (cell_in lo)) (bins_next k i ns lt)
-    ∙ map-append (cell_in lo) (bins_of k (slice_index_or ns i 0 ∷ [])) (bins_of (k + 1) (drop (i + 1) ns))
 
 pub bins_bytes : (k : ℕ) (ns : List ℕ) → length (flat_map bin (bins_of k ns)) ≡ 10 * length (bins_of k ns)
 bins_bytes k ns = bins_long (bins_of k ns)

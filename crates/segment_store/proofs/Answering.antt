@@ -25,19 +25,9 @@ use Rattle.segment_store.specs.Held.{AreHeld, ends_of}
 use Rattle.segment_store.specs.Moments.{StoreValue, IsAt, IsOn}
 use Rattle.segment_store.specs.Resuming.{Walks, EndsWalkAs}
 use Rattle.segment_store.specs.Reading.{IsFound, NoDamage, StartsAt}
-use Rattle.segment_store.specs.Opening.{fault_is, resume_fault_of, IsHeadAnswer, DiskRose, WalksAs, Resumes, IsUnharmed}
+use Rattle.segment_store.specs.Opening.{fault_is, IsHeadAnswer, WalksAs, Resumes, IsUnharmed}
 
 -- ---- faults of the head
-
-pub head_answer_err : (X : Type 0) (f : HeadFault) (o : Option HeadFault) → o ≡ Some f → IsHeadAnswer {X = X} (Err (resume_fault_of f)) o
-head_answer_err X heads.NotAStore o e = e
-head_answer_err X (heads.Version v) o e = e
-head_answer_err X (heads.Differs field kept found) o e = e
-
-pub rose_err : (X : Type 0) (f : HeadFault) (a b : ℕ) → DiskRose {X = X} a b (Err (resume_fault_of f))
-rose_err X heads.NotAStore a b = tt
-rose_err X (heads.Version v) a b = tt
-rose_err X (heads.Differs field kept found) a b = tt
 
 pub head_answer_first : (X Y : Type 0) (f : ResumeFault) (a b : Option HeadFault) → IsHeadAnswer {X = X} (Err f) a
     → IsHeadAnswer {X = Y} (Err f) (option_or a b)
@@ -48,25 +38,8 @@ head_answer_first X Y (Damaged index damage) a b e = e
 head_answer_first X Y DiskFault a b e = tt
 head_answer_first X Y OutOfMemory a b e = tt
 
-pub head_answer_then : {X : Type 0} (r : Result X ResumeFault) (a b : Option HeadFault) → a ≡ None → IsHeadAnswer r b
-    → IsHeadAnswer r (option_or a b)
-head_answer_then r a b e h = subst (λ o. IsHeadAnswer r o) (sym (ap (λ c. option_or c b) e)) h
-
 wider : (a b c d : ℕ) → CountRose b c → a ≤ b → c ≤ d → CountRose a d
 wider a b c d r e f = grind arith
-
-pub rose_wider : (X Y : Type 0) (f : ResumeFault) (a b c d : ℕ) → DiskRose {X = X} b c (Err f) → a ≤ b → c ≤ d
-    → DiskRose {X = Y} a d (Err f)
-rose_wider X Y NotAStore a b c d r e f = tt
-rose_wider X Y (Version v) a b c d r e f = tt
-rose_wider X Y (Differs field kept found) a b c d r e f = tt
-rose_wider X Y (Damaged index damage) a b c d r e f = tt
-rose_wider X Y DiskFault a b c d r e f = wider a b c d r e f
-rose_wider X Y OutOfMemory a b c d r e f = tt
-
-pub rose_all : {X : Type 0} (r : Result X ResumeFault) (a b c d : ℕ) → DiskRose b c r → a ≤ b → c ≤ d → DiskRose a d r
-rose_all (Ok x) a b c d r e f = tt
-rose_all {X} (Err fault) a b c d r e f = rose_wider X X fault a b c d r e f
 
 -- ---- one gauge after the other
 
@@ -152,10 +125,6 @@ on_station h image s bodies leaves same is lt head f held count only =
       place_is = subst (λ (v : HeadValue). s.place ≡ length (head_of v ++ open_bodies v.layout bodies)) (sym same) place;
       durable = only;
     }
-
-pub if_ok2 : {X E : Type 0} (P Q R : X → Type 0) (r : Result X E) → ((x : X) → P x → Q x → R x) → IfOk r P → IfOk r Q → IfOk r R
-if_ok2 P Q R (Ok x) go p q = go x p q
-if_ok2 P Q R (Err e) go p q = tt
 
 pub if_ok3 : {X E : Type 0} (P Q R S : X → Type 0) (r : Result X E) → ((x : X) → P x → Q x → R x → S x) → IfOk r P → IfOk r Q → IfOk r R
     → IfOk r S

@@ -1,9 +1,9 @@
 -- The place of the closed gate stays small.
-use Rattle.std.proofs.Common.{◌≡◌, ℕ, ◌+◌, ◌*◌, ◌^◌, ◌<◌, ◌≤◌, List, length, get_or, replicate, ap, arith}
+use Rattle.std.proofs.Common.{◌≡◌, ℕ, ◌+◌, ◌*◌, ◌^◌, ◌<◌, ◌≤◌, List, length, get_or, ap, arith}
 use Rattle.std.proofs.lemmas.Nat.{mul-le}
-use Rattle.std.proofs.lemmas.List.{length-set, length-replicate}
+use Rattle.std.proofs.lemmas.List.{length-set}
 use Rattle.std.proofs.lemmas.List.Sums.{sum_by-set, sum_by-le}
-use Rattle.std.proofs.lemmas.List.Elements.{All-set, All-replicate}
+use Rattle.std.proofs.lemmas.List.Elements.{All-set}
 use Rattle.calibration.specs.Grid.{GridValue, IsGrid}
 use Rattle.segment_rules.specs.Parts.{PartsValue}
 use Rattle.recording.specs.declared.TheConstants.{MAX_SAMPLES}
@@ -25,13 +25,6 @@ near_step place next ends p known s n =
       each = All-set (λ k. k ≤ MAX_SAMPLES) ends p.name.gauge p.name.to s.to n.each;
       few = omega (arith, length-set ends p.name.gauge p.name.to, n.few);
     }
-
-pub near_start : (gauges : ℕ) → gauges ≤ 32 → IsNear (22 + 40 * gauges) (replicate gauges 0)
-near_start gauges few = record {
-  place_to = omega (arith, few);
-  each = All-replicate (λ k. k ≤ MAX_SAMPLES) gauges 0 (omega arith);
-  few = omega (arith, few, length-replicate {A = ℕ} gauges 0);
-}
 
 -- far below the end of what can be written
 pub near_small : (place : ℕ) (ends : List ℕ) → IsNear place ends → place < 2 ^ 60

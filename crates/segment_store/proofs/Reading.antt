@@ -21,9 +21,6 @@ use Rattle.segment_store.specs.Resuming.{field_at, length_at, bytes_at, kept_at,
 use Rattle.segment_store.proofs.Bodies.{length-with_digest}
 use Rattle.lemmas.proofs.Outcomes.{same_ok}
 
-okay : {E : Type 0} → PartsValue → Result PartsValue E
-okay p = Ok p
-
 -- an image with a body behind an open gate
 module _ (lay : Layout) (setup : Setup) (valid : IsSetup setup) (limit : ℕ) (small : limit < 2 ^ 32) (a t : List ℕ) (at : ℕ)
     (here : at ≡ length a) (ends : List ℕ) (p : PartsValue) (next : IsNext setup ends p) (within : length (body_of lay p) ≤ limit)

@@ -10,7 +10,7 @@ use Rattle.level_crossing.specs.Extremes.{is_extreme}
 use Rattle.lemmas.proofs.Sums.{get_or-le-sum}
 use Rattle.tables.proofs.Counting.{added_at, sum_added, length_added}
 use Rattle.turning_points.proofs.Put.{put_first}
-use Rattle.simple_counts.proofs.PutLists.{range_below, put_agrees, decide_length, mark_length}
+use Rattle.simple_counts.proofs.PutLists.{put_agrees, decide_length, mark_length}
 use Rattle.turning_points.proofs.PutEnds.{case_of, put_ends}
 use Rattle.turning_points.specs.declared.ends.TheConstants.{MAX_POINTS}
 
@@ -99,14 +99,3 @@ pub closed_push : {v : SimpleValue} {e : EndPoints} {d m : List ℕ} (x : ℕ) �
     m ≡ cond (leb 2 v.ends.points && is_extreme v.reference v.ends.before v.ends.last x) (raise v.extremes v.ends.last) v.extremes →
     IsSimple (record { classes = v.classes; reference = v.reference; ends = e; decided = d; extremes = m })
 closed_push {v} {e} {d} {m} x i h p q r s = subst IsSimple (value_same v.classes v.reference _ e _ d _ m q r s) (pushed_counted v x i h p)
-
-pub ranges_within : {v : SimpleValue} → IsSimple v →
-    (range v.ends.before v.ends.last < length v.decided) × (v.ends.last < length v.extremes) × (sum v.decided < 2 ^ 61)
-    × (sum v.extremes < 2 ^ 61)
-ranges_within {v} i =
-    let b = i.ends.below in (
-      omega (arith, i.decided, range_below v.classes v.ends.before v.ends.last b.2 b.3),
-      omega (arith, i.extremes),
-      omega (arith, i.agrees.sum_of, i.few),
-      omega (arith, i.agrees.few, i.few),
-    )

@@ -1,7 +1,7 @@
 -- The lists of a configuration, as the code's loops walk them.
-use Rattle.std.proofs.Common.{◌≡◌, ◌+◌, ◌<◌, ◌≤◌, ◌==◌, ℕ, true, false, List, [], ◌∷◌, length, map, drop, get_or, Some, None, Ok, Err, refl, ap, ◌∙◌}
+use Rattle.std.proofs.Common.{◌≡◌, ◌+◌, ◌<◌, ◌==◌, ℕ, true, false, List, [], ◌∷◌, length, map, drop, get_or, Some, Ok, Err, refl, ap, ◌∙◌}
 use Rattle.std.specs.Cmp.Lexicographic.{pointwise}
-use Rattle.std.proofs.lemmas.List.{at_drop_more, at_drop_all, length-map}
+use Rattle.std.proofs.lemmas.List.{at_drop_more, length-map}
 use Rattle.toml.specs.Data.{Data, as_array}
 use Rattle.toml.specs.View.{view, items_view}
 use Rattle.toml.specs.declared.value.Value.{Value}
@@ -35,7 +35,3 @@ pub place_from-next : {X : Type 0} (f : X → List ℕ) (name : List ℕ) (xs : 
     pointwise ◌==◌ (f (get_or xs i d)) name ≡ false →
     place_from i name (map f (drop i xs)) ≡ place_from (i + 1) name (map f (drop (i + 1) xs))
 place_from-next f name xs i d within other = at_drop_more (λ ys. place_from i name (map f ys)) xs i d within ∙ rw other refl
-
-pub place_from-past : {X : Type 0} (f : X → List ℕ) (name : List ℕ) (xs : List X) (i : ℕ) → length xs ≤ i →
-    place_from i name (map f (drop i xs)) ≡ None
-place_from-past f name xs i past = at_drop_all (λ ys. place_from i name (map f ys)) xs i past

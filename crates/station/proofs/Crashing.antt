@@ -1,18 +1,11 @@
 -- A call replayed on two buffers follows the disk.
-use Rattle.std.proofs.Common.{◌≡◌, ◌≤◌, ℕ, zero, suc, ◌+◌, Bool, true, ◌&&◌, List, [], ◌∷◌, ◌++◌, length, take, drop, refl, sym, ◌∙◌, ap, subst, rules}
-use Rattle.std.proofs.lemmas.Bool.{and_parts, leb-true}
+use Rattle.std.proofs.Common.{◌≡◌, ℕ, zero, suc, ◌+◌, Bool, true, ◌&&◌, List, [], ◌∷◌, ◌++◌, length, take, drop, refl, sym, ◌∙◌, ap, subst, rules}
+use Rattle.std.proofs.lemmas.Bool.{and_parts}
 use Rattle.station.specs.declared.call.Call.{Call}
 use Rattle.station.specs.declared.call.Call.TheVariants.{Other, Write, Sync, Tell}
 use Rattle.station.specs.Station.{Image}
 use Rattle.station.specs.Calls.{Disk, disk_after, have_no_gap, DiskMayLeave}
-use Rattle.station.specs.Replay.{IsPlaced, Replays}
-
-pub placed_head : (call : Call) (rest : List Call) (disk : Disk) (content : Image) → content ≡ disk.seen
-    → have_no_gap disk (call ∷ rest) ≡ true → IsPlaced content call
-placed_head Other rest disk content is placed = tt
-placed_head (Write at bytes) rest disk content is placed = subst (λ l. at ≤ length l) (sym is) (leb-true _ _ (and_parts _ _ placed).0)
-placed_head Sync rest disk content is placed = tt
-placed_head (Tell line) rest disk content is placed = tt
+use Rattle.station.specs.Replay.{Replays}
 
 pub placed_tail : (call : Call) (rest : List Call) (disk : Disk) → have_no_gap disk (call ∷ rest) ≡ true
     → have_no_gap (disk_after disk call) rest ≡ true

@@ -1,13 +1,12 @@
 -- The bytes of one gauge after the other.
-use Rattle.std.proofs.Common.{◌≡◌, ℕ, ◌+◌, ◌-◌, ◌*◌, ◌<◌, ◌≤◌, List, [], ◌∷◌, ◌++◌, length, get_or, take, drop, slice_range, Option, None, refl, sym, ap, subst, ◌∙◌, arith, append_assoc, take-add}
+use Rattle.std.proofs.Common.{◌≡◌, ℕ, ◌+◌, ◌-◌, ◌*◌, ◌<◌, ◌≤◌, List, [], ◌∷◌, ◌++◌, length, get_or, take, drop, slice_range, None, sym, ap, subst, ◌∙◌, arith, append_assoc, take-add}
 use Rattle.std.specs.Prelude.{All}
 use Rattle.std.proofs.lemmas.List.Elements.{All-push}
-use Rattle.std.proofs.lemmas.List.{take_more, take_at, drop_at, drop-drop, length-take, length-drop, append-nil, nil_from_length}
+use Rattle.std.proofs.lemmas.List.{take_more, take_at, drop_at, drop-drop, length-take, append-nil}
 use Rattle.std.specs.Option.{option_or}
 use Rattle.calibration.specs.Gain.{GainValue, IsGain}
 use Rattle.calibration.specs.declared.setup.Setup.{Setup}
 use Rattle.recording.specs.declared.head.Head.{Head}
-use Rattle.store_head.specs.declared.fault.HeadFault.{HeadFault}
 use Rattle.recording.specs.Head.{IsRecorded}
 use Rattle.store_head.specs.Head.{HeadValue, front, gauge, gauges, head_of, start_of}
 use Rattle.store_head.specs.HeadFaults.{gauge_fault, gauge_at, gauges_fault}
@@ -22,11 +21,6 @@ module _ (g : ℕ) (x : GainValue) (gains : List GainValue) (i : ℕ) (image : L
   pub fault_next : gauge_fault g x (gauge_at g image) ≡ None
       → gauges_fault g (drop i gains) image ≡ gauges_fault (g + 1) (drop (i + 1) gains) image
   fault_next e = ap (λ l. gauges_fault g l image) here ∙ ap (λ o. option_or o (gauges_fault (g + 1) (drop (i + 1) gains) image)) e
-
-pub no_gauges : (g : ℕ) (gains : List GainValue) (i : ℕ) (image : List ℕ) (o : Option HeadFault) → length gains ≤ i
-    → gauges_fault g (drop i gains) image ≡ o → o ≡ None
-no_gauges g gains i image o le e = sym e ∙ ap (λ l. gauges_fault g l image)
-    (nil_from_length (drop i gains) (omega (arith, length-drop i gains, le)))
 
 -- the bytes of one gauge more
 pub gauges_more : (hs : List Head) (gs : List GainValue) (h : Head) (g : GainValue) → length hs ≡ length gs

@@ -106,11 +106,6 @@ pub from_later : (lo hi : ℕ) (c : Cell) (cells : List Cell) → Before c.lo c.
     find (is_from lo hi) (c ∷ cells) ≡ find (is_from lo hi) cells
 from_later lo hi c cells h = grind (arith, nat_tests)
 
-pub found_here : (k lo hi a b n : ℕ) (ns : List ℕ) → UpTo lo hi a b → 0 < n →
-    find (is_from lo hi) (cells_from k a b (n ∷ ns)) ≡ Some (record { lo = a; hi = b; n = n })
-found_here k lo hi a b zero ns u h = absurd (omega arith)
-found_here k lo hi a b (suc n) ns u h = from_here lo hi _ _ u
-
 drop_ahead : (k a b lo hi n : ℕ) (ns : List ℕ) → a < b → b < k → place_of k a b < place_of k lo hi →
     drop (place_of k lo hi - place_of k (next_lo k a b) (next_hi k a b)) ns ≡ drop (place_of k lo hi - place_of k a b) (n ∷ ns)
 drop_ahead k a b lo hi n ns o w h =

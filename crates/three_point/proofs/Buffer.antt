@@ -1,20 +1,18 @@
 -- Live points at the first n places of a buffer, the newest last, and what the steps of the standard do to them. The point z is read.
 --   newest_two                   the two newest apart
 --   cycle_live, cycle_counted    X >= Y, and Y doesn't contain the starting point: its two points are dropped, and Y is counted
---   half_live, half_counted      X >= Y, and Y contains the starting point: the second of its points is the start
 --   open_live, open_counted      X < Y, or there are fewer than three points: the point is live, and nothing is counted
---   left_next, left_few          step 6, one range after the other
 --   All-first_few, All-start     what holds of each live point
-use Rattle.std.proofs.Common.{◌≡◌, ℕ, zero, suc, ◌+◌, ◌-◌, ◌<◌, ◌≤◌, ◌⊎◌, inl, inr, List, [], ◌∷◌, ◌++◌, length, take, set, get_or, reverse, sym, ap, ◌∙◌, arith, get_or-take}
+use Rattle.std.proofs.Common.{◌≡◌, ℕ, ◌+◌, ◌-◌, ◌<◌, ◌≤◌, ◌⊎◌, inl, inr, List, [], ◌∷◌, length, take, set, get_or, reverse, sym, ap, ◌∙◌, arith, get_or-take}
 use Rattle.std.specs.Prelude.{All}
 use Rattle.std.proofs.lemmas.List.{take_more_set, reverse-append, length-reverse, length-take, length-take-le}
 use Rattle.std.proofs.lemmas.List.Elements.{All-nil, All-cons}
 use Rattle.std.proofs.lemmas.Bool.{cases_lt}
 use Rattle.std.proofs.Math.Nat.{lt_of_not-le}
-use Rattle.lemmas.proofs.Lists.{take_by_last_two, reverse-take_next}
+use Rattle.lemmas.proofs.Lists.{take_by_last_two}
 use Rattle.turning_points.specs.Pairs.{range}
-use Rattle.three_point.specs.Run.{counted_range, live_after, ranges_counted, ranges_left}
-use Rattle.three_point.proofs.Steps.{live_after_cycle, ranges_counted_cycle, live_after_half, ranges_counted_half, live_after_less, live_after_few, ranges_counted_less, ranges_counted_few, ranges_left_few}
+use Rattle.three_point.specs.Run.{counted_range, live_after, ranges_counted}
+use Rattle.three_point.proofs.Steps.{live_after_cycle, ranges_counted_cycle, live_after_less, live_after_few, ranges_counted_less, ranges_counted_few}
 
 pub newest_two : (s : List ℕ) (n : ℕ) → 2 ≤ n → n ≤ length s →
     reverse (take n s) ≡ get_or s (n - 1) 0 ∷ get_or s (n - 2) 0 ∷ reverse (take (n - 2) s)
@@ -62,43 +60,6 @@ module _ (s : List ℕ) (n z : ℕ) (room : n ≤ length s) where
       none (inl h) = ranges_counted_few z (reverse (take n s)) (omega (arith, length-reverse (take n s), length-take n s))
       none (inr h) = ap (ranges_counted z) (newest_two s n h room) ∙ ranges_counted_less z _ _ (reverse (take (n - 2) s))
           (lt_of_not-le (g h))
-
-pub half_live : (s : List ℕ) (n z : ℕ) → n ≤ length s → n ≡ 2 →
-    range (get_or s (n - 2) 0) (get_or s (n - 1) 0) ≤ range (get_or s (n - 1) 0) z →
-    live_after z (reverse (take 1 (set s 0 (get_or s (n - 1) 0)))) ≡ live_after z (reverse (take n s))
-half_live [] n z room e h = absurd (omega arith)
-half_live (x ∷ []) n z room e h = absurd (omega arith)
-half_live (x ∷ y ∷ s) (suc (suc zero)) z room e h = sym (live_after_half z y x h)
-half_live (x ∷ y ∷ s) zero z room e h = absurd (omega arith)
-half_live (x ∷ y ∷ s) (suc zero) z room e h = absurd (omega arith)
-half_live (x ∷ y ∷ s) (suc (suc (suc n))) z room e h = absurd (omega arith)
-
-pub half_counted : (s : List ℕ) (n z : ℕ) → n ≤ length s → n ≡ 2 →
-    range (get_or s (n - 2) 0) (get_or s (n - 1) 0) ≤ range (get_or s (n - 1) 0) z →
-    ranges_counted z (reverse (take n s)) ≡ counted_range (get_or s (n - 2) 0) (get_or s (n - 1) 0) 1 ∷ ranges_counted z
-    (reverse (take 1 (set s 0 (get_or s (n - 1) 0))))
-half_counted [] n z room e h = absurd (omega arith)
-half_counted (x ∷ []) n z room e h = absurd (omega arith)
-half_counted (x ∷ y ∷ s) (suc (suc zero)) z room e h = ranges_counted_half z y x h
-half_counted (x ∷ y ∷ s) zero z room e h = absurd (omega arith)
-half_counted (x ∷ y ∷ s) (suc zero) z room e h = absurd (omega arith)
-half_counted (x ∷ y ∷ s) (suc (suc (suc n))) z room e h = absurd (omega arith)
-
--- step 6: the range between the places i - 1 and i comes after those between the first i
-pub left_next : (s : List ℕ) (i : ℕ) → 1 ≤ i → i < length s →
-    ranges_left (reverse (take (i + 1) s)) ≡ ranges_left (reverse (take i s)) ++ (counted_range (get_or s (i - 1) 0) (get_or s i 0) 1 ∷ [])
-left_next s (suc j) h r =
-    let f : suc j ≡ j + 1 = omega arith in
-    let e : reverse (take (suc j) s) ≡ get_or s j 0 ∷ reverse (take j s) = ap (λ k. reverse (take k s)) f ∙ reverse-take_next s j
-    (omega arith) in
-    let d : j ≡ suc j - 1 = omega arith in
-    ap ranges_left (reverse-take_next s (suc j) r ∙ ap (λ l. get_or s (suc j) 0 ∷ l) e)
-    ∙ ap (λ l. ranges_left l ++ (counted_range (get_or s j 0) (get_or s (suc j) 0) 1 ∷ [])) (sym e)
-    ∙ ap (λ k. ranges_left (reverse (take (suc j) s)) ++ (counted_range (get_or s k 0) (get_or s (suc j) 0) 1 ∷ [])) d
-left_next s zero h r = absurd (omega arith)
-
-pub left_few : (s : List ℕ) (n : ℕ) → n < 2 → ranges_left (reverse (take n s)) ≡ []
-left_few s n h = ranges_left_few (reverse (take n s)) (omega (arith, length-reverse (take n s), length-take n s))
 
 module _ (k : ℕ) where
   -- of the first n places, those before the m-th

@@ -1,13 +1,9 @@
 -- What a run handed over, beside the points that it read.
---   counted_none    no point was read
 --   counted_next    one point more
 --   counted_all     none is left to read
-use Rattle.std.proofs.Common.{◌≡◌, ℕ, List, [], ◌∷◌, ◌++◌, refl, sym, ap, ◌∙◌, subst, append_assoc, append-nil}
+use Rattle.std.proofs.Common.{◌≡◌, ℕ, List, [], ◌∷◌, ◌++◌, sym, ap, ◌∙◌, subst, append_assoc, append-nil}
 use Rattle.three_point.specs.Run.{CountedRange, live_after, ranges_counted, ranges_left, run}
 use Rattle.three_point.specs.Live.{HasCounted}
-
-pub counted_none : (holds : List CountedRange → Type 0) → holds [] → HasCounted [] [] holds
-counted_none holds h = record { given = []; held = h; whole = λ unread. refl }
 
 pub counted_next : {points live after : List ℕ} {holds then : List CountedRange → Type 0} (z : ℕ) → HasCounted points live holds
     → ((given : List CountedRange) → holds given → then (given ++ ranges_counted z live)) → after ≡ live_after z live →

@@ -4,11 +4,10 @@
 --   live_after_cycle, ranges_counted_cycle   X >= Y, and it does not
 --   live_after_less, ranges_counted_less     X < Y
 --   live_after_few, ranges_counted_few       there are fewer than three points
---   ranges_left_few                    and no range is left to count in the end
 use Rattle.std.proofs.Common.{◌≡◌, ℕ, ◌<◌, ◌≤◌, List, [], ◌∷◌, length, refl, arith}
 use Rattle.std.proofs.lemmas.Bool.Decides.{nat_tests}
 use Rattle.turning_points.specs.Pairs.{range}
-use Rattle.three_point.specs.Run.{counted_range, live_after, ranges_counted, ranges_left}
+use Rattle.three_point.specs.Run.{counted_range, live_after, ranges_counted}
 
 pub live_after_cycle : (z y x w : ℕ) (v : List ℕ) → range x y ≤ range y z → live_after z (y ∷ x ∷ w ∷ v) ≡ live_after z (w ∷ v)
 live_after_cycle z y x w v h = grind (arith, nat_tests)
@@ -40,8 +39,3 @@ pub ranges_counted_few : (z : ℕ) (v : List ℕ) → length v < 2 → ranges_co
 ranges_counted_few z [] h = refl
 ranges_counted_few z (y ∷ []) h = refl
 ranges_counted_few z (y ∷ x ∷ v) h = absurd (omega arith)
-
-pub ranges_left_few : (v : List ℕ) → length v < 2 → ranges_left v ≡ []
-ranges_left_few [] h = refl
-ranges_left_few (y ∷ []) h = refl
-ranges_left_few (y ∷ x ∷ v) h = absurd (omega arith)

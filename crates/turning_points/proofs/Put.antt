@@ -59,10 +59,6 @@ pub put_passed : (x : ℕ) (e : EndPoints) → 3 ≤ e.points → IsBetween x e.
     ends_prepend x e ≡ record { points = e.points; first = x; second = e.second; before = e.before; last = e.last }
 put_passed x e h q = grind (arith, nat_tests)
 
-same_none : (x n a b c d : ℕ) → n ≡ 0 → ends_prepend x (record { points = n; first = a; second = b; before = c; last = d }) ≡ put_before x n
-    (record { points = n; first = a; second = b; before = c; last = d })
-same_none x n a b c d h = rw h refl
-
 pub put_same : (x : ℕ) (e : EndPoints) → ends_prepend x e ≡ put_before x e.points e
 put_same x e = put_as x e e.points refl
   where
