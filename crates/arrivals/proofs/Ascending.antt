@@ -2,31 +2,27 @@
 use Rattle.std.proofs.Common.{◌≡◌, ◌<◌, ◌+◌, ◌*◌, ◌%◌, ◌&&◌, ℕ, zero, suc, List, [], ◌∷◌, ◌++◌, length, sym, subst, arith, Bool, true, false, cond, eqb, ltb}
 use Rattle.std.proofs.lemmas.List.{append-nil}
 use Rattle.segment_rules.specs.declared.name.Name.{Name}
-use Rattle.flow.specs.Kept.{Every, NamesAscend}
-use Rattle.flow.specs.Kept.Every.{none, both}
+use Rattle.flow.specs.Kept.{Each, NamesAscend}
+use Rattle.flow.specs.Kept.Each.{none}
 use Rattle.flow.specs.Kept.NamesAscend.{empty}
-use Rattle.flow.proofs.Counting.{every_append, every_map, ascends_push}
-use Rattle.arrivals.specs.Arrivals.{Round, name_at, fed_to, AreArrivals, through, ArrivalsAscend}
+use Rattle.flow.proofs.Counting.{each_append, each_map, ascends_push, each_cond}
+use Rattle.arrivals.specs.Arrivals.{Round, name_at, fed_to, through, ArrivalsAscend}
 use Rattle.flow.specs.declared.TheConstants.{BLOCKS_PER_WINDOW}
 
-every_cond : {P : Name → Type 0} → (t : Bool) (m : Name) → P m → Every P (cond t (m ∷ []) [])
-every_cond true m p = both p none
-every_cond false m p = none
-
-push_cond : (t : Bool) (l : List Name) (m : Name) → NamesAscend l → Every (λ n. n.from < m.from) l → NamesAscend (l ++ cond t (m ∷ []) [])
+push_cond : (t : Bool) (l : List Name) (m : Name) → NamesAscend l → Each (λ n. n.from < m.from) l → NamesAscend (l ++ cond t (m ∷ []) [])
 push_cond true l m a b = ascends_push l m a b
 push_cond false l m a b = subst NamesAscend (sym (append-nil l)) a
 
 module _ (block workers : ℕ) (r : Round) (pos : 0 < block) where
-  fed_below : (g v k : ℕ) → Every (λ n. n.from < r.at g + k * block) (fed_to block workers r g v k)
+  fed_below : (g v k : ℕ) → Each (λ n. n.from < r.at g + k * block) (fed_to block workers r g v k)
   fed_below g v zero = none
   fed_below g v (suc k) =
       let step : suc k * block ≡ k * block + block = omega arith in
-      every_append (fed_to block workers r g v k)
+      each_append (fed_to block workers r g v k)
       (cond (ltb (r.at g + k * block) (length (r.samples g)) && eqb (k % workers) v) (name_at block workers r g k ∷ []) [])
-      (every_map (fed_to block workers r g v k) (λ n h. omega (arith, h, step)) (fed_below g v k))
-      (every_cond (ltb (r.at g + k * block) (length (r.samples g)) && eqb (k % workers) v) (name_at block workers r g k)
-      (omega (arith, step, pos)))
+      (each_map (fed_to block workers r g v k) (λ n h. omega (arith, h, step)) (fed_below g v k))
+      (each_cond (name_at block workers r g k) [] (ltb (r.at g + k * block) (length (r.samples g)) && eqb (k % workers) v)
+      (λ t. omega (arith, step, pos)) none)
 
   fed_ascends : (g v k : ℕ) → NamesAscend (fed_to block workers r g v k)
   fed_ascends g v zero = empty

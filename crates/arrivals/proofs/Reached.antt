@@ -8,9 +8,9 @@ use Rattle.std.proofs.Math.Bool.{and-false}
 use Rattle.segment_rules.specs.declared.name.Name.{Name}
 use Rattle.flow.specs.Flow.{Flow, Event, name_of_samples, with_value, with_value_at, next, worker_of_next, IsAllowed, after, run, AllAllowed}
 use Rattle.flow.specs.Flow.Event.{Feed, Count, Deposit, Commit, Stop}
-use Rattle.flow.specs.Kept.{Every}
-use Rattle.flow.specs.Kept.Every.{none, both}
-use Rattle.flow.proofs.Counting.{every_append, every_map, every_drop, every_take, changed_same, changed_other, changed_at_same, changed_at_gauge, changed_at_worker, changed_all, changed_at_all}
+use Rattle.flow.specs.Kept.{Each}
+use Rattle.flow.specs.Kept.Each.{none, both}
+use Rattle.flow.proofs.Counting.{each_append, each_map, each_drop, each_take, changed_same, changed_other, changed_at_same, changed_at_gauge, changed_at_worker, changed_all, changed_at_all}
 use Rattle.arrivals.specs.Arrivals.{Round, name_at, fed_to, worker_of, through, AreArrivals, IsRound, start, IsRoundEvent, AreRoundEvents, IsDone, ReachedAreArrivals}
 use Rattle.arrivals.specs.Arrivals.IsRoundEvent.{feed, count, deposit}
 use Rattle.arrivals.specs.Arrivals.AreRoundEvents.{none as no_event, both as one_event}
@@ -23,9 +23,9 @@ module _ (block workers : ℕ) (r : Round) where
     pub few : (g : ℕ) → s.fed g ≤ BLOCKS_PER_WINDOW
     pub line : (g v : ℕ) → v < workers → through block workers r g v s.placed ++ (through block workers r g v (s.counted v) ++ s.rings g v)
         ≡ fed_to block workers r g v (s.fed g)
-    pub rings : (g v : ℕ) → v < workers → Every (λ n. (n.gauge ≡ g) × (worker_of block workers r n ≡ v) × (n.gauge < gauges)) (s.rings g v)
-    pub counted : (v : ℕ) → v < workers → Every (λ n. (worker_of block workers r n ≡ v) × (n.gauge < gauges)) (s.counted v)
-    pub placed : Every (λ n. n.gauge < gauges) s.placed
+    pub rings : (g v : ℕ) → v < workers → Each (λ n. (n.gauge ≡ g) × (worker_of block workers r n ≡ v) × (n.gauge < gauges)) (s.rings g v)
+    pub counted : (v : ℕ) → v < workers → Each (λ n. (worker_of block workers r n ≡ v) × (n.gauge < gauges)) (s.counted v)
+    pub placed : Each (λ n. n.gauge < gauges) s.placed
 
   abbrev passes : ℕ → ℕ → Name → Bool
   passes g v n = eqb n.gauge g && eqb (worker_of block workers r n) v
@@ -39,12 +39,12 @@ module _ (block workers : ℕ) (r : Round) where
   pub test_worker : (a g b v : ℕ) → (b ≡ v → ⊥) → (eqb a g && eqb b v) ≡ false
   test_worker a g b v e = ap (λ t. eqb a g && t) (ne_eqb b v e) ∙ and-false (eqb a g)
 
-  all_pass : (g v : ℕ) (l : List Name) → Every (λ n. passes g v n ≡ true) l → through block workers r g v l ≡ l
+  all_pass : (g v : ℕ) (l : List Name) → Each (λ n. passes g v n ≡ true) l → through block workers r g v l ≡ l
   all_pass g v [] none = refl
   all_pass g v (n ∷ l) (both p d) = ap (λ b. cond b (n ∷ through block workers r g v l) (through block workers r g v l)) p
       ∙ ap (λ m. n ∷ m) (all_pass g v l d)
 
-  none_pass : (g v : ℕ) (l : List Name) → Every (λ n. passes g v n ≡ false) l → through block workers r g v l ≡ []
+  none_pass : (g v : ℕ) (l : List Name) → Each (λ n. passes g v n ≡ false) l → through block workers r g v l ≡ []
   none_pass g v [] none = refl
   none_pass g v (n ∷ l) (both p d) = ap (λ b. cond b (n ∷ through block workers r g v l) (through block workers r g v l)) p
       ∙ none_pass g v l d
@@ -158,9 +158,9 @@ module _ (block workers : ℕ) (r : Round) where
         few = changed_all (λ i k. k ≤ BLOCKS_PER_WINDOW) s.fed g (s.fed g + 1) l.few (omega (arith, below));
         line = λ i v b. fed_or s g w m gauges l is at left i v b (cases_eq i g);
         rings = changed_at_all (λ i j x. j < workers
-            → Every (λ n. (n.gauge ≡ i) × (worker_of block workers r n ≡ j) × (n.gauge < gauges)) x) s.rings g w
+            → Each (λ n. (n.gauge ≡ i) × (worker_of block workers r n ≡ j) × (n.gauge < gauges)) x) s.rings g w
             (s.rings g w ++ m ∷ []) l.rings
-            (λ b. every_append (s.rings g w) (m ∷ []) (l.rings g w b)
+            (λ b. each_append (s.rings g w) (m ∷ []) (l.rings g w b)
             (both (refl, ap (worker_of block workers r) is ∙ worker_is g (s.fed g) pos ∙ at, known) none));
         counted = l.counted;
         placed = l.placed;
@@ -183,7 +183,7 @@ module _ (block workers : ℕ) (r : Round) where
       (drop 1 (s.rings g v)) x y) ≡ through block workers r x y s.placed ++ (through block workers r x y (s.counted y) ++ s.rings x y) in
       let own : through block workers r g v (take 1 (s.rings g v)) ≡ take 1 (s.rings g v) =
       all_pass g v (take 1 (s.rings g v))
-      (every_take (s.rings g v) (every_map (s.rings g v) (λ n p. test_both n.gauge g (worker_of block workers r n) v p.0 p.1)
+      (each_take (s.rings g v) (each_map (s.rings g v) (λ n p. test_both n.gauge g (worker_of block workers r n) v p.0 p.1)
       (l.rings g v w))) in
       subst (λ x. claim x u) (sym e) (subst (λ y. claim g y) (sym f)
       (ap (λ x. through block workers r g v s.placed ++
@@ -199,7 +199,7 @@ module _ (block workers : ℕ) (r : Round) where
       (drop 1 (s.rings g v)) h y) ≡ through block workers r h y s.placed ++ (through block workers r h y (s.counted y) ++ s.rings h y) in
       let other : through block workers r h v (take 1 (s.rings g v)) ≡ [] =
       none_pass h v (take 1 (s.rings g v))
-      (every_take (s.rings g v) (every_map (s.rings g v)
+      (each_take (s.rings g v) (each_map (s.rings g v)
       (λ n p. test_gauge n.gauge h (worker_of block workers r n) v (λ q. e (sym q ∙ p.0))) (l.rings g v w))) in
       subst claim (sym f)
       (ap (λ x. through block workers r h v s.placed ++
@@ -223,12 +223,12 @@ module _ (block workers : ℕ) (r : Round) where
     few = l.few;
     line = λ h u k. count_or gauges s g v w l h u k (cases_eq h g) (cases_eq u v) ∙ l.line h u k;
     rings = changed_at_all (λ i j x. j < workers
-        → Every (λ n. (n.gauge ≡ i) × (worker_of block workers r n ≡ j) × (n.gauge < gauges)) x) s.rings g v (drop 1 (s.rings g v)) l.rings
-        (λ b. every_drop (s.rings g v) (l.rings g v b));
-    counted = changed_all (λ j x. j < workers → Every (λ n. (worker_of block workers r n ≡ j) × (n.gauge < gauges)) x) s.counted v
+        → Each (λ n. (n.gauge ≡ i) × (worker_of block workers r n ≡ j) × (n.gauge < gauges)) x) s.rings g v (drop 1 (s.rings g v)) l.rings
+        (λ b. each_drop (s.rings g v) (l.rings g v b));
+    counted = changed_all (λ j x. j < workers → Each (λ n. (worker_of block workers r n ≡ j) × (n.gauge < gauges)) x) s.counted v
         (s.counted v ++ take 1 (s.rings g v)) l.counted
-        (λ b. every_append (s.counted v) (take 1 (s.rings g v)) (l.counted v b)
-        (every_take (s.rings g v) (every_map (s.rings g v) (λ n p. (p.1, p.2)) (l.rings g v b))));
+        (λ b. each_append (s.counted v) (take 1 (s.rings g v)) (l.counted v b)
+        (each_take (s.rings g v) (each_map (s.rings g v) (λ n p. (p.1, p.2)) (l.rings g v b))));
     placed = l.placed;
   }
 
@@ -253,7 +253,7 @@ module _ (block workers : ℕ) (r : Round) where
   deposit_or gauges s v w l h u k (inr f) =
       let other : through block workers r h u (take 1 (s.counted v)) ≡ [] =
       none_pass h u (take 1 (s.counted v))
-      (every_take (s.counted v) (every_map (s.counted v)
+      (each_take (s.counted v) (each_map (s.counted v)
       (λ n p. test_worker n.gauge h (worker_of block workers r n) u (λ q. f (sym q ∙ p.0))) (l.counted v w))) in
       ap (λ x. through block workers r h u (s.placed ++ take 1 (s.counted v)) ++ (through block workers r h u x ++ s.rings h u))
       (changed_other s.counted v (drop 1 (s.counted v)) u f)
@@ -267,10 +267,10 @@ module _ (block workers : ℕ) (r : Round) where
     few = l.few;
     line = λ h u k. deposit_or gauges s v w l h u k (cases_eq u v) ∙ l.line h u k;
     rings = l.rings;
-    counted = changed_all (λ j x. j < workers → Every (λ n. (worker_of block workers r n ≡ j) × (n.gauge < gauges)) x) s.counted v
-        (drop 1 (s.counted v)) l.counted (λ b. every_drop (s.counted v) (l.counted v b));
-    placed = every_append s.placed (take 1 (s.counted v)) l.placed
-        (every_take (s.counted v) (every_map (s.counted v) (λ n p. p.1) (l.counted v w)));
+    counted = changed_all (λ j x. j < workers → Each (λ n. (worker_of block workers r n ≡ j) × (n.gauge < gauges)) x) s.counted v
+        (drop 1 (s.counted v)) l.counted (λ b. each_drop (s.counted v) (l.counted v b));
+    placed = each_append s.placed (take 1 (s.counted v)) l.placed
+        (each_take (s.counted v) (each_map (s.counted v) (λ n p. p.1) (l.counted v w)));
   }
 
   step : (gauges : ℕ) (s : Flow) (e : Event) → 0 < block → 0 < workers → IsRound block workers r gauges → IsRoundEvent e → Line gauges s

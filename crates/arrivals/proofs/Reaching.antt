@@ -6,8 +6,8 @@ use Rattle.std.proofs.Math.Nat.{mul-le-mul_right}
 use Rattle.segment_rules.specs.declared.name.Name.{Name}
 use Rattle.flow.specs.Flow.{Flow, Event, with_value, with_value_at, IsAllowed, after, run, AllAllowed}
 use Rattle.flow.specs.Flow.Event.{Feed, Count, Deposit}
-use Rattle.flow.specs.Kept.{Every}
-use Rattle.flow.specs.Kept.Every.{none, both}
+use Rattle.flow.specs.Kept.{Each}
+use Rattle.flow.specs.Kept.Each.{none, both}
 use Rattle.flow.proofs.Counting.{changed_same, changed_other, changed_at_same, changed_at_gauge, changed_at_worker}
 use Rattle.arrivals.specs.Arrivals.{Round, fed_to, worker_of, through, AreArrivals, IsRound, start, feeds_of, feeds, counts, IsDone, ArrivalsAreReached}
 use Rattle.arrivals.proofs.Reached.{Line, step_feed, line_at_start, past_end, test_both, test_gauge, test_worker}
@@ -223,7 +223,7 @@ module _ (block workers : ℕ) (r : Round) where
         },
       )
 
-  leave : (gauges : ℕ) (l before : List Name) (s : Flow) → 0 < workers → Every (λ n. n.gauge < gauges) l → Leaving gauges before l s →
+  leave : (gauges : ℕ) (l before : List Name) (s : Flow) → 0 < workers → Each (λ n. n.gauge < gauges) l → Leaving gauges before l s →
       AllAllowed block workers (counts block workers r l) s × ((run block workers (counts block workers r l) s).placed ≡ before ++ l)
       × IsDone gauges workers (run block workers (counts block workers r l) s)
   leave gauges [] before s many none h = (

@@ -12,7 +12,7 @@ use Rattle.segment_rules.specs.declared.name.Name.{Name}
 use Rattle.block_pool.specs.Units.{FilledValue}
 use Rattle.flow.specs.Flow.{Flow, Event, name_of_samples, run, AllAllowed}
 use Rattle.flow.specs.Flow.Event.{Feed, Count, Deposit}
-use Rattle.flow.specs.Kept.{Every, NamesAscend}
+use Rattle.flow.specs.Kept.{Each, NamesAscend}
 use Rattle.flow.specs.declared.TheConstants.{BLOCKS_PER_WINDOW}
 
 abbrev pub names_of : List FilledValue → List Name
@@ -44,7 +44,7 @@ module _ (block workers : ℕ) (r : Round) where
   through g v l = filter (λ n. eqb n.gauge g && eqb (worker_of n) v) l
 
   pub record AreArrivals (gauges : ℕ) (l : List Name) : Type 0 where
-    pub known : Every (λ n. n.gauge < gauges) l
+    pub known : Each (λ n. n.gauge < gauges) l
     -- each block once, and in order
     pub through : (g v : ℕ) → g < gauges → v < workers → through g v l ≡ fed_to g v BLOCKS_PER_WINDOW
 

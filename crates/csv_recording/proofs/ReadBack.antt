@@ -5,7 +5,7 @@ use Rattle.std.proofs.lemmas.Option.{same_Some}
 use Rattle.std.specs.Str.Parse.{digits_value}
 use Rattle.csv.specs.Records.{field_at}
 use Rattle.std.proofs.lemmas.Bool.Decides.{nat_tests}
-use Rattle.std.specs.Prelude.{⊤, zero, suc, nat_lt, nat_le, ◌==◌, if◌then◌else◌, FitsSigned, Result, Ok, Err, Option, Some, None, neg_ℤ, option_map}
+use Rattle.std.specs.Prelude.{⊤, zero, suc, nat_lt, nat_le, ◌==◌, if◌then◌else◌, FitsSigned, Result, Ok, Err, Option, Some, None, neg_ℤ, option_map, ok_or}
 use Rattle.std.specs.Int.{w32, to_le_bytes}
 use Rattle.std.proofs.lemmas.Int.{fits_signed_from_abs}
 use Rattle.std.proofs.lemmas.List.{take_at, drop_at, length-append}
@@ -17,7 +17,7 @@ use Rattle.recording.specs.declared.head.Head.{Head}
 use Rattle.recording.specs.declared.head.HeadFault.TheVariants.{Short}
 use Rattle.recording.proofs.Groups.{samples-group, torn_bytes-group, bytes_of, length-bytes_of, sample-bytes_of}
 use Rattle.csv_recording.specs.Cells.{missing, magnitude, reading_in, cell_sample, means_missing, without_blanks}
-use Rattle.csv_recording.specs.Column.{◌>>=◌, value_or_fault, place_of, records_of, column_in, samples_of_rows, sample_of_row}
+use Rattle.csv_recording.specs.Column.{◌>>=◌, place_of, records_of, column_in, samples_of_rows, sample_of_row}
 use Rattle.csv_recording.specs.Recording.{recording_bytes, ReadsAs, ReadsAsWritten}
 use Rattle.csv_recording.specs.declared.columns.ColumnFault.{ColumnFault}
 use Rattle.csv_recording.specs.declared.columns.ColumnFault.TheVariants.{NoColumn, ShortRow, Cell}
@@ -118,11 +118,11 @@ cell-fits cell v is = go (means_missing (without_blanks cell)) is
 row-fits : (place row : ℕ) (fields : List (List ℕ)) (v : ℤ) → sample_of_row place row fields ≡ Ok v → FitsSigned w32 v
 row-fits place row fields v is = go (field_at fields place) is
   where
-    by_cell : (cell : List ℕ) (m : Option ℤ) → cell_sample cell ≡ m → value_or_fault m (Cell row) ≡ Ok v → FitsSigned w32 v
+    by_cell : (cell : List ℕ) (m : Option ℤ) → cell_sample cell ≡ m → ok_or m (Cell row) ≡ Ok v → FitsSigned w32 v
     by_cell cell None none is = absurd (cc)
     by_cell cell (Some x) some is = subst (λ (y : ℤ). FitsSigned w32 y) (same_ok refl is) (cell-fits cell x some)
 
-    go : (f : Option (List ℕ)) → (value_or_fault f (ShortRow row (length fields)) >>= λ cell. value_or_fault (cell_sample cell)
+    go : (f : Option (List ℕ)) → (ok_or f (ShortRow row (length fields)) >>= λ cell. ok_or (cell_sample cell)
         (Cell row)) ≡ Ok v →
         FitsSigned w32 v
     go None is = absurd (cc)
@@ -145,7 +145,7 @@ column-fits : (name : List ℕ) (records : List (List (List ℕ))) (w : List ℤ
 column-fits name [] w is = absurd (cc)
 column-fits name (header ∷ rows) w is = go (place_of name header) is
   where
-    go : (p : Option ℕ) → (value_or_fault p NoColumn >>= λ place. samples_of_rows place 0 rows) ≡ Ok w → AllFit w
+    go : (p : Option ℕ) → (ok_or p NoColumn >>= λ place. samples_of_rows place 0 rows) ≡ Ok w → AllFit w
     go None is = absurd (cc)
     go (Some place) is = rows-fit place 0 rows w is
 

@@ -3,7 +3,7 @@
 --                order mark is no part of the first
 --   place_of     where a record has a field of this name first
 --   column_of    the samples in the column of a name
-use Rattle.std.specs.Prelude.{ℕ, ℤ, ◌≡◌, ◌+◌, List, [], ◌∷◌, length, Option, Some, None, option_map, Result, Ok, Err, if◌then◌else◌, ⊤}
+use Rattle.std.specs.Prelude.{ℕ, ℤ, ◌≡◌, ◌+◌, List, [], ◌∷◌, length, Option, Some, None, option_map, Result, Ok, Err, if◌then◌else◌, ⊤, ok_or}
 use Rattle.std.specs.Str.{bytes_eq}
 use Rattle.csv.specs.Reading.{records, default_config, strip_bom}
 use Rattle.csv.specs.Records.{field_at}
@@ -23,15 +23,11 @@ abbrev pub ◌>>=◌ : {A B : Type 0} → Result A ColumnFault → (A → Result
 Ok x >>= f = f x
 Err fault >>= f = Err fault
 
-abbrev pub value_or_fault : {A : Type 0} → Option A → ColumnFault → Result A ColumnFault
-value_or_fault (Some x) fault = Ok x
-value_or_fault None fault = Err fault
-
 -- the sample that the row of this number has at this place
 abbrev pub sample_of_row : ℕ → ℕ → List (List ℕ) → Result ℤ ColumnFault
 sample_of_row place row fields = do
-  cell ← value_or_fault (field_at fields place) (ShortRow row (length fields))
-  value_or_fault (cell_sample cell) (Cell row)
+  cell ← ok_or (field_at fields place) (ShortRow row (length fields))
+  ok_or (cell_sample cell) (Cell row)
 
 -- those of rows, the first of which has this number
 unfoldable pub samples_of_rows : ℕ → ℕ → List (List (List ℕ)) → Result (List ℤ) ColumnFault
@@ -45,7 +41,7 @@ samples_of_rows place row (fields ∷ rows) = do
 abbrev pub column_in : List ℕ → List (List (List ℕ)) → Result (List ℤ) ColumnFault
 column_in name [] = Err NoColumn
 column_in name (header ∷ rows) = do
-  place ← value_or_fault (place_of name header) NoColumn
+  place ← ok_or (place_of name header) NoColumn
   samples_of_rows place 0 rows
 
 abbrev pub column_of : List ℕ → List ℕ → Result (List ℤ) ColumnFault

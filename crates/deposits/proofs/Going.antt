@@ -13,8 +13,9 @@ use Rattle.block_pool.specs.Units.{CountedValue, PoolValue}
 use Rattle.flow.specs.Flow.{hits_of_name, hits}
 use Rattle.flow.proofs.Counting.{hits-append, hits_of_name_inside}
 use Rattle.board.specs.Board.{BoardValue, CarriesSamples, StandsIn, SameBoard, Fits}
-use Rattle.deposits.specs.Deposited.{Each, unit_name, unit_names, IsOfPool, IsGood, SamePool, UnitStands, UnitsArePlaced, DepositsUnit, DepositsUnits}
-use Rattle.deposits.specs.Deposited.Each.{none, both}
+use Rattle.deposits.specs.Deposited.{unit_name, unit_names, IsOfPool, IsGood, SamePool, UnitStands, UnitsArePlaced, DepositsUnit, DepositsUnits}
+use Rattle.flow.specs.Kept.Each.{none, both}
+use Rattle.flow.specs.Kept.{Each}
 
 -- the front of a list, and its last item
 pub each_before : {A : Type 0} {P : A → Type 0} → (l : List A) (x : A) → Each P (l ++ x ∷ []) → Each P l × P x

@@ -5,10 +5,9 @@ use Rattle.std.proofs.lemmas.Bool.{cases_eq}
 use Rattle.std.proofs.lemmas.List.{append-nil}
 use Rattle.segment_rules.specs.declared.name.Name.{Name}
 use Rattle.flow.specs.Flow.{hits_of_name, hits, with_value}
-use Rattle.flow.specs.Kept.{over}
-use Rattle.flow.proofs.Counting.{over_one, over_none, hits-append, changed_same, changed_other}
-use Rattle.deposits.specs.Deposited.{Each}
-use Rattle.deposits.specs.Deposited.Each.{none, both}
+use Rattle.flow.specs.Kept.{over, Each}
+use Rattle.flow.proofs.Counting.{over_one, over_none, hits-append, changed_same, changed_other, each_append}
+use Rattle.flow.specs.Kept.Each.{none, both}
 use Rattle.deposits.specs.Mixed.{IsMixOf}
 use Rattle.deposits.proofs.Going.{each_before}
 use Rattle.deposits.specs.Mixed.IsMixOf.{nothing, next}
@@ -88,10 +87,6 @@ mixed_long n h _ (next {f = f} {l = l} x v m k same others) =
     over_one n v (λ u. length (h u)) (λ u. length (f u)) m (λ u d. ap length (others u d)) in
     omega (arith, before, more, here, one)
 
-each_end : {A : Type 0} {P : A → Type 0} → (l : List A) (x : A) → Each P l → P x → Each P (l ++ x ∷ [])
-each_end [] x none p = both p none
-each_end (y ∷ l) x (both q d) p = both q (each_end l x d p)
-
 each_still : {A : Type 0} {P : A → Type 0} → (f h : ℕ → List A) (x : A) (v u : ℕ) → Each P (h u) → h v ≡ f v ++ x ∷ []
     → ((w : ℕ) → w ≢ v → h w ≡ f w) → ((u ≡ v) ⊎ (u ≡ v → ⊥)) → Each P (f u)
 each_still {P = P} f h x v u d same others (inl e) =
@@ -103,8 +98,8 @@ pub mixed_each : {A : Type 0} {P : A → Type 0} → (n : ℕ) (f : ℕ → List
     → Each P l
 mixed_each n f [] (nothing e) all = none
 mixed_each {P = P} n h _ (next {f = f} {l = l} x v m k same others) all =
-    each_end l x (mixed_each n f l k (λ u w. each_still f h x v u (all u w) same others (cases_eq u v)))
-    (each_before (f v) x (subst (Each P) same (all v m))).1
+    each_append l (x ∷ []) (mixed_each n f l k (λ u w. each_still f h x v u (all u w) same others (cases_eq u v)))
+    (both (each_before (f v) x (subst (Each P) same (all v m))).1 none)
 
 -- there is nothing beyond the workers' lists
 pub mixed_beyond : {A : Type 0} → (n u : ℕ) (f : ℕ → List A) (l : List A) → IsMixOf n f l → n ≤ u → f u ≡ []

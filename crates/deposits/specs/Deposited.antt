@@ -1,5 +1,4 @@
 -- What the deposit of a list of units does to a board and a pool.
---   Each            a fact of each item
 --   unit_name       the name of a unit, and the names of units
 --   IsGood          the units are blocks of the board's windows and of the pool, and no sample is named twice
 --   UnitStands      a unit's segment stands for the samples that its name names
@@ -12,11 +11,8 @@ use Rattle.segment_rules.specs.declared.name.Name.{Name}
 use Rattle.segment.specs.Name.{name_of}
 use Rattle.block_pool.specs.Units.{CountedValue, PoolValue}
 use Rattle.flow.specs.Flow.{hits}
+use Rattle.flow.specs.Kept.{Each}
 use Rattle.board.specs.Board.{BoardValue, CarriesSamples, StandsIn, SameBoard, Fits}
-
-pub data Each {A : Type 0} (P : A → Type 0) : List A → Type 0 where
-  none : Each P []
-  both : {x : A} {l : List A} → P x → Each P l → Each P (x ∷ l)
 
 abbrev pub unit_name : CountedValue → Name
 unit_name u = name_of u.segment

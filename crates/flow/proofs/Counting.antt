@@ -6,8 +6,8 @@ use Rattle.std.proofs.lemmas.Bool.{cases_eq, eq-eqb, ne_eqb}
 use Rattle.segment_rules.specs.declared.name.Name.{Name}
 use Rattle.flow.specs.Flow.{hits_of_name, hits, In, with_value, with_value_at, is_left_over}
 use Rattle.flow.specs.Flow.In.{here, there}
-use Rattle.flow.specs.Kept.{Every, NamesAscend, over, between}
-use Rattle.flow.specs.Kept.Every.{none, both}
+use Rattle.flow.specs.Kept.{Each, NamesAscend, over, between}
+use Rattle.flow.specs.Kept.Each.{none, both}
 use Rattle.flow.specs.Kept.NamesAscend.{empty, step}
 
 pub hits-append : (g i : ℕ) (k l : List Name) → hits g i (k ++ l) ≡ hits g i k + hits g i l
@@ -19,43 +19,43 @@ pub hits-split : (g i : ℕ) (l : List Name) → hits g i (take 1 l) + hits g i 
 hits-split g i [] = omega arith
 hits-split g i (n ∷ l) = omega arith
 
-pub every_append : {P : Name → Type 0} → (k l : List Name) → Every P k → Every P l → Every P (k ++ l)
-every_append [] l none e = e
-every_append (n ∷ k) l (both p d) e = both p (every_append k l d e)
+pub each_append : {A : Type 0} {P : A → Type 0} → (k l : List A) → Each P k → Each P l → Each P (k ++ l)
+each_append [] l none e = e
+each_append (n ∷ k) l (both p d) e = both p (each_append k l d e)
 
-pub every_map : {P Q : Name → Type 0} → (l : List Name) → ((n : Name) → P n → Q n) → Every P l → Every Q l
-every_map [] f none = none
-every_map (n ∷ l) f (both p d) = both (f n p) (every_map l f d)
+pub each_map : {A : Type 0} {P Q : A → Type 0} → (l : List A) → ((n : A) → P n → Q n) → Each P l → Each Q l
+each_map [] f none = none
+each_map (n ∷ l) f (both p d) = both (f n p) (each_map l f d)
 
-pub every_both : {P Q R : Name → Type 0} → (l : List Name) → ((n : Name) → P n → Q n → R n) → Every P l → Every Q l → Every R l
-every_both [] f none none = none
-every_both (n ∷ l) f (both p d) (both q e) = both (f n p q) (every_both l f d e)
+pub each_both : {A : Type 0} {P Q R : A → Type 0} → (l : List A) → ((n : A) → P n → Q n → R n) → Each P l → Each Q l → Each R l
+each_both [] f none none = none
+each_both (n ∷ l) f (both p d) (both q e) = both (f n p q) (each_both l f d e)
 
-pub every_drop : {P : Name → Type 0} → (l : List Name) → Every P l → Every P (drop 1 l)
-every_drop [] none = none
-every_drop (n ∷ l) (both p d) = d
+pub each_drop : {A : Type 0} {P : A → Type 0} → (l : List A) → Each P l → Each P (drop 1 l)
+each_drop [] none = none
+each_drop (n ∷ l) (both p d) = d
 
-pub every_take : {P : Name → Type 0} → (l : List Name) → Every P l → Every P (take 1 l)
-every_take [] none = none
-every_take (n ∷ l) (both p d) = both p none
+pub each_take : {A : Type 0} {P : A → Type 0} → (l : List A) → Each P l → Each P (take 1 l)
+each_take [] none = none
+each_take (n ∷ l) (both p d) = both p none
 
-pub every_in : {P : Name → Type 0} → {n : Name} → {l : List Name} → Every P l → In n l → P n
-every_in none i = elim i [ ]
-every_in (both p d) here = p
-every_in (both p d) (there i) = every_in d i
+pub each_in : {P : Name → Type 0} → {n : Name} → {l : List Name} → Each P l → In n l → P n
+each_in none i = elim i [ ]
+each_in (both p d) here = p
+each_in (both p d) (there i) = each_in d i
 
 pub ascends_drop : (l : List Name) → NamesAscend l → NamesAscend (drop 1 l)
 ascends_drop [] empty = empty
 ascends_drop (n ∷ l) (step p d) = d
 
-pub ascends_push : (l : List Name) (m : Name) → NamesAscend l → Every (λ n. n.from < m.from) l → NamesAscend (l ++ m ∷ [])
+pub ascends_push : (l : List Name) (m : Name) → NamesAscend l → Each (λ n. n.from < m.from) l → NamesAscend (l ++ m ∷ [])
 ascends_push [] m empty none = step none empty
-ascends_push (n ∷ l) m (step p d) (both q e) = step (every_append l (m ∷ []) p (both q none)) (ascends_push l m d e)
+ascends_push (n ∷ l) m (step p d) (both q e) = step (each_append l (m ∷ []) p (both q none)) (ascends_push l m d e)
 
 pub hits_of_name_other : (g i : ℕ) (n : Name) → n.gauge ≢ g → hits_of_name g i n ≡ 0
 hits_of_name_other g i n h = grind (arith, nat_tests)
 
-pub hits_other : (g i : ℕ) (l : List Name) → Every (λ n. n.gauge ≢ g) l → hits g i l ≡ 0
+pub hits_other : (g i : ℕ) (l : List Name) → Each (λ n. n.gauge ≢ g) l → hits g i l ≡ 0
 hits_other g i [] none = refl
 hits_other g i (n ∷ l) (both p d) = omega (arith, hits_of_name_other g i n p, hits_other g i l d)
 
@@ -63,7 +63,7 @@ pub hits_of_name_past : (g i : ℕ) (n : Name) → (n.gauge ≡ g → i < n.from
 hits_of_name_past g i n h = grind (arith, nat_tests)
 
 -- names that begin behind a sample do not name it
-pub hits_past : (g i : ℕ) (l : List Name) → Every (λ n. n.gauge ≡ g → i < n.from) l → hits g i l ≡ 0
+pub hits_past : (g i : ℕ) (l : List Name) → Each (λ n. n.gauge ≡ g → i < n.from) l → hits g i l ≡ 0
 hits_past g i [] none = refl
 hits_past g i (n ∷ l) (both p d) = omega (arith, hits_of_name_past g i n p, hits_past g i l d)
 
@@ -107,14 +107,13 @@ hits_filter g e h i (n ∷ l) p =
     (is_left_over_more g e h i n (is_left_over g e n) refl p)
 
 -- what stays has P, where each that stays has it
-every_cond : {P : Name → Type 0} → (n : Name) (k : List Name) (b : Bool) → (b ≡ true → P n) → Every P k → Every P (cond b (n ∷ k) k)
-every_cond n k true p d = both (p refl) d
-every_cond n k false p d = d
+pub each_cond : {A : Type 0} {P : A → Type 0} → (n : A) (k : List A) (b : Bool) → (b ≡ true → P n) → Each P k → Each P (cond b (n ∷ k) k)
+each_cond n k true p d = both (p refl) d
+each_cond n k false p d = d
 
-pub every_filter : {P Q : Name → Type 0} → (f : Name → Bool) (l : List Name) → ((n : Name) → P n → f n ≡ true → Q n) → Every P l
-    → Every Q (filter f l)
-every_filter f [] h none = none
-every_filter f (n ∷ l) h (both p d) = every_cond n (filter f l) (f n) (h n p) (every_filter f l h d)
+pub each_filter : {A : Type 0} {P Q : A → Type 0} → (f : A → Bool) (l : List A) → ((n : A) → P n → f n ≡ true → Q n) → Each P l → Each Q (filter f l)
+each_filter f [] h none = none
+each_filter f (n ∷ l) h (both p d) = each_cond n (filter f l) (f n) (h n p) (each_filter f l h d)
 
 -- sums over workers
 pub over_same : (n : ℕ) (f g : ℕ → ℕ) → ((v : ℕ) → v < n → f v ≡ g v) → over n f ≡ over n g

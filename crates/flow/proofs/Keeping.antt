@@ -6,10 +6,10 @@ use Rattle.std.proofs.Math.Nat.{mul-le-mul_right}
 use Rattle.segment_rules.specs.declared.name.Name.{Name}
 use Rattle.flow.specs.Flow.{Flow, Event, hits_of_name, hits, with_value, with_value_at, NamesCover, EndsAt, is_left_over, next, worker_of_next, IsAllowed, AllAllowed, IsStart, after, run}
 use Rattle.flow.specs.Flow.Event.{Feed, Count, Deposit, Commit, Stop}
-use Rattle.flow.specs.Kept.{Every, NamesAscend, over, between, everywhere, IsBlock, IsDealt, IsLine, MeetsInvariant, IsThrough}
-use Rattle.flow.specs.Kept.Every.{none, both}
+use Rattle.flow.specs.Kept.{Each, NamesAscend, over, between, everywhere, IsBlock, IsDealt, IsLine, MeetsInvariant, IsThrough}
+use Rattle.flow.specs.Kept.Each.{none, both}
 use Rattle.flow.specs.Kept.NamesAscend.{empty}
-use Rattle.flow.proofs.Counting.{hits-append, hits-split, every_append, every_map, every_drop, every_take, every_in, ascends_drop, ascends_push, hits_other, hits_past, hits_of_name_inside, found, hits_filter, every_filter, every_both, over_same, over_one, over_at, over_none, changed_same, changed_other, changed_at_same, changed_at_gauge, changed_at_worker, changed_all, changed_at_all, between_parts, hits_of_name_between, between_one, nothing_between}
+use Rattle.flow.proofs.Counting.{hits-append, hits-split, each_append, each_map, each_drop, each_take, each_in, ascends_drop, ascends_push, hits_other, hits_past, hits_of_name_inside, found, hits_filter, each_filter, each_both, over_same, over_one, over_at, over_none, changed_same, changed_other, changed_at_same, changed_at_gauge, changed_at_worker, changed_all, changed_at_all, between_parts, hits_of_name_between, between_one, nothing_between}
 
 module _ (block workers : ℕ) where
   -- a block stays one where nothing is stored and no less is read
@@ -27,13 +27,13 @@ module _ (block workers : ℕ) where
   -- what the number of blocks fed tells is kept where none is fed
   line_kept : (s t : Flow) (i : ℕ) (h : IsLine block workers s i) → s.stored i ≤ t.stored i → t.read i ≡ s.read i
       → t.samples i ≡ s.samples i → t.fed i ≡ s.fed i
-      → ((v : ℕ) → v < workers → Every (IsDealt block workers h.start (s.fed i) v) (t.rings i v)) → IsLine block workers t i
+      → ((v : ℕ) → v < workers → Each (IsDealt block workers h.start (s.fed i) v) (t.rings i v)) → IsLine block workers t i
   line_kept s t i h a b c d rings = record {
     start = h.start;
     stored = omega (arith, h.stored, a);
     read = b ∙ h.read ∙ ap (λ l. min (h.start + s.fed i * block) (length l)) (sym c)
         ∙ ap (λ k. min (h.start + k * block) (length (t.samples i))) (sym d);
-    rings = λ v w. subst (λ k. Every (IsDealt block workers h.start k v) (t.rings i v)) (sym d) (rings v w);
+    rings = λ v w. subst (λ k. Each (IsDealt block workers h.start k v) (t.rings i v)) (sym d) (rings v w);
   }
 
   line_fed : (s : Flow) (g : ℕ) → IsLine block workers s g → s.read g < length (s.samples g)
@@ -57,11 +57,11 @@ module _ (block workers : ℕ) where
         read = changed_same s.read g m.to ∙ omega (arith, end, at, longer)
             ∙ ap (λ k. min (h.start + k * block) (length (s.samples g))) (sym one_more);
         rings = λ u w. changed_at_all
-            (λ i j x. i ≡ g → j < workers → Every (IsDealt block workers h.start (t.fed g) j) x) s.rings g v ring
+            (λ i j x. i ≡ g → j < workers → Each (IsDealt block workers h.start (t.fed g) j) x) s.rings g v ring
             (λ i j e k. subst
-            (λ y. Every (IsDealt block workers h.start (t.fed g) j) (s.rings y j)) (sym e)
-            (every_map (s.rings g j) (dealt j) (h.rings j k)))
-            (λ e k. every_append (s.rings g v) (m ∷ []) (every_map (s.rings g v) (dealt v) (h.rings v k)) (both new none)) g u refl w;
+            (λ y. Each (IsDealt block workers h.start (t.fed g) j) (s.rings y j)) (sym e)
+            (each_map (s.rings g j) (dealt j) (h.rings j k)))
+            (λ e k. each_append (s.rings g v) (m ∷ []) (each_map (s.rings g v) (dealt v) (h.rings v k)) (both new none)) g u refl w;
       }
 
   line_or : (s : Flow) (g i : ℕ) → ((i : ℕ) → IsLine block workers s i) → s.read g < length (s.samples g) → ((i ≡ g) ⊎ (i ≡ g → ⊥))
@@ -73,7 +73,7 @@ module _ (block workers : ℕ) where
       let ring = s.rings g v ++ m ∷ [] in
       line_kept s (after block workers s (Feed g)) i (h i) (omega arith) (changed_other s.read g m.to i q) refl
       (changed_other s.fed g (s.fed g + 1) i q)
-      (λ u w. subst (Every (IsDealt block workers (h i).start (s.fed i) u)) (sym (changed_at_gauge s.rings g v ring i u q))
+      (λ u w. subst (Each (IsDealt block workers (h i).start (s.fed i) u)) (sym (changed_at_gauge s.rings g v ring i u q))
       ((h i).rings u w))
 
   -- one block more is fed
@@ -148,8 +148,8 @@ module _ (block workers : ℕ) where
         once = λ i j. fed_or s g j v m i h w refl refl (omega (arith, long)) (cases_eq i g);
         rings = changed_at_all
             (λ i j x. j < workers
-            → Every (IsBlock block t i) x) s.rings g v (s.rings g v ++ m ∷ []) (λ i j q. every_map (s.rings i j) (up i) (h.rings i j q))
-            (λ q. every_append (s.rings g v) (m ∷ []) (every_map (s.rings g v) (up g) (h.rings g v w))
+            → Each (IsBlock block t i) x) s.rings g v (s.rings g v ++ m ∷ []) (λ i j q. each_map (s.rings i j) (up i) (h.rings i j q))
+            (λ q. each_append (s.rings g v) (m ∷ []) (each_map (s.rings g v) (up g) (h.rings g v w))
             (both (record {
               gauge = refl;
               number = k.0;
@@ -160,10 +160,10 @@ module _ (block workers : ℕ) where
                   omega (arith, changed_same s.read g m.to);
             }) none));
         ascend = changed_at_all (λ i j x. NamesAscend x) s.rings g v (s.rings g v ++ m ∷ []) h.ascend
-            (ascends_push (s.rings g v) m (h.ascend g v) (every_map (s.rings g v)
+            (ascends_push (s.rings g v) m (h.ascend g v) (each_map (s.rings g v)
             (λ n b. omega (arith, b.some, b.read)) (h.rings g v w)));
-        counted = λ j q. every_map (s.counted j) (λ n b. up n.gauge n b) (h.counted j q);
-        placed = every_map s.placed (λ n b. up n.gauge n b) h.placed;
+        counted = λ j q. each_map (s.counted j) (λ n b. up n.gauge n b) (h.counted j q);
+        placed = each_map s.placed (λ n b. up n.gauge n b) h.placed;
         stored = λ i. omega (arith, h.stored i, more i);
         read = changed_all (λ i r. r ≤ length (s.samples i)) s.read g m.to h.read within;
         whole = changed_all (λ i r. (r ≡ length (s.samples i)) ⊎ ((k : ℕ) × (r ≡ s.stored i + k * block))) s.read g m.to h.whole
@@ -197,7 +197,7 @@ module _ (block workers : ℕ) where
       + hits h i (take 1 (s.rings g v)) = ap (hits h i) (changed_same s.counted v (s.counted v ++ take 1 (s.rings g v)))
       ∙ hits-append h i (s.counted v) (take 1 (s.rings g v)) in
       let z : hits h i (take 1 (s.rings g v)) ≡ 0 =
-      hits_other h i (take 1 (s.rings g v)) (every_take (s.rings g v) (every_map (s.rings g v)
+      hits_other h i (take 1 (s.rings g v)) (each_take (s.rings g v) (each_map (s.rings g v)
       (λ n b q. e (sym q ∙ b.gauge)) (is.rings g v w))) in
       subst claim (sym f) (omega (arith, r, c, z))
   count_same s g v h i u w is e (inr f) =
@@ -220,27 +220,27 @@ module _ (block workers : ℕ) where
             ∙ h.once i j;
         rings = changed_at_all
             (λ i j x. j < workers
-            → Every (IsBlock block t i) x) s.rings g v (drop 1 (s.rings g v)) (λ i j q. every_map (s.rings i j) (up i) (h.rings i j q))
-            (λ q. every_drop (s.rings g v) (every_map (s.rings g v) (up g) (h.rings g v w)));
+            → Each (IsBlock block t i) x) s.rings g v (drop 1 (s.rings g v)) (λ i j q. each_map (s.rings i j) (up i) (h.rings i j q))
+            (λ q. each_drop (s.rings g v) (each_map (s.rings g v) (up g) (h.rings g v w)));
         ascend = changed_at_all
             (λ i j x. NamesAscend x) s.rings g v (drop 1 (s.rings g v)) h.ascend (ascends_drop (s.rings g v) (h.ascend g v));
         counted =
             changed_all
             (λ j x. j < workers
-            → Every (λ n. IsBlock block t n.gauge n) x) s.counted v (s.counted v ++ take 1 (s.rings g v))
-            (λ j q. every_map (s.counted j) (λ n b. up n.gauge n b) (h.counted j q))
-            (λ q. every_append (s.counted v) (take 1 (s.rings g v)) (every_map (s.counted v)
-            (λ n b. up n.gauge n b) (h.counted v w)) (every_take (s.rings g v) (every_map (s.rings g v) own (h.rings g v w))));
-        placed = every_map s.placed (λ n b. up n.gauge n b) h.placed;
+            → Each (λ n. IsBlock block t n.gauge n) x) s.counted v (s.counted v ++ take 1 (s.rings g v))
+            (λ j q. each_map (s.counted j) (λ n b. up n.gauge n b) (h.counted j q))
+            (λ q. each_append (s.counted v) (take 1 (s.rings g v)) (each_map (s.counted v)
+            (λ n b. up n.gauge n b) (h.counted v w)) (each_take (s.rings g v) (each_map (s.rings g v) own (h.rings g v w))));
+        placed = each_map s.placed (λ n b. up n.gauge n b) h.placed;
         stored = h.stored;
         read = h.read;
         whole = h.whole;
         line = λ i. line_kept s t i (h.line i) (omega arith) refl refl refl
             (λ u q. changed_at_all
             (λ j k x. k < workers
-            → Every (IsDealt block workers (h.line j).start (s.fed j) k) x) s.rings g v (drop 1 (s.rings g v))
+            → Each (IsDealt block workers (h.line j).start (s.fed j) k) x) s.rings g v (drop 1 (s.rings g v))
             (λ j k r. (h.line j).rings k r)
-            (λ r. every_drop (s.rings g v) ((h.line g).rings v r)) i u q);
+            (λ r. each_drop (s.rings g v) ((h.line g).rings v r)) i u q);
       }
 
   pub deposit : (s : Flow) (v : ℕ) → v < workers → MeetsInvariant block workers s →
@@ -264,16 +264,16 @@ module _ (block workers : ℕ) where
             let longer : hits i j (s.placed ++ take 1 (s.counted v)) ≡ hits i j s.placed + hits i j (take 1 (s.counted v)) =
             hits-append i j s.placed (take 1 (s.counted v)) in
             omega (arith, one, new, was, split, longer);
-        rings = λ i j q. every_map (s.rings i j) (λ n b. grown s t i n refl refl (omega arith) b) (h.rings i j q);
+        rings = λ i j q. each_map (s.rings i j) (λ n b. grown s t i n refl refl (omega arith) b) (h.rings i j q);
         ascend = h.ascend;
         counted =
             changed_all
             (λ j x. j < workers
-            → Every (λ n. IsBlock block t n.gauge n) x) s.counted v (drop 1 (s.counted v))
-            (λ j q. every_map (s.counted j) up (h.counted j q))
-            (λ q. every_drop (s.counted v) (every_map (s.counted v) up (h.counted v w)));
-        placed = every_append s.placed (take 1 (s.counted v)) (every_map s.placed up h.placed)
-            (every_take (s.counted v) (every_map (s.counted v) up (h.counted v w)));
+            → Each (λ n. IsBlock block t n.gauge n) x) s.counted v (drop 1 (s.counted v))
+            (λ j q. each_map (s.counted j) up (h.counted j q))
+            (λ q. each_drop (s.counted v) (each_map (s.counted v) up (h.counted v w)));
+        placed = each_append s.placed (take 1 (s.counted v)) (each_map s.placed up h.placed)
+            (each_take (s.counted v) (each_map (s.counted v) up (h.counted v w)));
         stored = h.stored;
         read = h.read;
         whole = h.whole;
@@ -320,8 +320,8 @@ module _ (block workers : ℕ) where
       grown s (after block workers s (Commit g e)) i n (changed_other s.stored g e i q) refl (omega arith) b
 
   -- where no sample before the end is named, each name of the gauge ends behind it
-  clear : (s : Flow) (g e : ℕ) (l : List Name) → Every (λ n. IsBlock block s n.gauge n) l
-      → ((x : ℕ) → s.stored g ≤ x → x < e → hits g x l ≡ 0) → Every (λ n. IsBlock block s n.gauge n × (n.gauge ≡ g → e < n.to)) l
+  clear : (s : Flow) (g e : ℕ) (l : List Name) → Each (λ n. IsBlock block s n.gauge n) l
+      → ((x : ℕ) → s.stored g ≤ x → x < e → hits g x l ≡ 0) → Each (λ n. IsBlock block s n.gauge n × (n.gauge ≡ g → e < n.to)) l
   clear s g e [] none h = none
   clear s g e (n ∷ l) (both p d) h =
       let begins : n.gauge ≡ g → s.stored g ≤ n.from = λ q. let at : s.stored n.gauge ≡ s.stored g =
@@ -348,17 +348,17 @@ module _ (block workers : ℕ) where
 
   -- the names of a ring, which are all of its gauge
   rings_move : (s t : Flow) (g e i v : ℕ) → ((i : ℕ) (n : Name) → IsBlock block s i n → (i ≡ g → e < n.to) → IsBlock block t i n)
-      → Every (IsBlock block s i) (s.rings i v) →
+      → Each (IsBlock block s i) (s.rings i v) →
       ((x : ℕ) → s.stored g ≤ x → x < e → hits g x (s.rings g v) + hits g x (s.counted v) ≡ 0) → ((i ≡ g) ⊎ (i ≡ g → ⊥))
-      → Every (IsBlock block t i) (s.rings i v)
+      → Each (IsBlock block t i) (s.rings i v)
   rings_move s t g e i v move h zero (inl q) =
-      let own : Every (IsBlock block s g) (s.rings g v) = subst (λ j. Every (IsBlock block s j) (s.rings j v)) q h in
-      let mixed : Every (λ n. IsBlock block s n.gauge n) (s.rings g v) =
-      every_map (s.rings g v) (λ n b. subst (λ j. IsBlock block s j n) (sym b.gauge) b) own in
+      let own : Each (IsBlock block s g) (s.rings g v) = subst (λ j. Each (IsBlock block s j) (s.rings j v)) q h in
+      let mixed : Each (λ n. IsBlock block s n.gauge n) (s.rings g v) =
+      each_map (s.rings g v) (λ n b. subst (λ j. IsBlock block s j n) (sym b.gauge) b) own in
       let past = clear s g e (s.rings g v) mixed (λ x a b. omega (arith, zero x a b)) in
-      subst (λ j. Every (IsBlock block t j) (s.rings j v)) (sym q) (every_both (s.rings g v) (λ n b c. move g n b
+      subst (λ j. Each (IsBlock block t j) (s.rings j v)) (sym q) (each_both (s.rings g v) (λ n b c. move g n b
       (λ r. c.1 b.gauge)) own past)
-  rings_move s t g e i v move h zero (inr q) = every_map (s.rings i v) (λ n b. move i n b (λ r. absurd (q r))) h
+  rings_move s t g e i v move h zero (inr q) = each_map (s.rings i v) (λ n b. move i n b (λ r. absurd (q r))) h
 
   whole_at : (s : Flow) (g e : ℕ) (m : Name) → IsBlock block s g m → m.to ≡ e → e ≤ s.read g → s.read g ≤ length (s.samples g) → 0 < block
       → (k : ℕ) × (s.read g ≡ s.stored g + k * block) → (s.read g ≡ length (s.samples g)) ⊎ ((k : ℕ) × (s.read g ≡ e + k * block))
@@ -379,7 +379,7 @@ module _ (block workers : ℕ) where
   commit s g e pos h later ends covers =
       let t = after block workers s (Commit g e) in
       let m = ends.name in
-      let last : IsBlock block s g m = subst (λ i. IsBlock block s i m) ends.gauge (every_in h.placed ends.among) in
+      let last : IsBlock block s g m = subst (λ i. IsBlock block s i m) ends.gauge (each_in h.placed ends.among) in
       let within : e ≤ s.read g = omega (arith, last.read, ends.to) in
       let f : ℕ → ℕ → ℕ → ℕ = λ i x u. hits i x (s.rings i u) + hits i x (s.counted u) in
       let was : (i x : ℕ) → over workers (f i x) + hits i x s.placed ≡ between (s.stored i) (s.read i) x = h.once in
@@ -389,8 +389,8 @@ module _ (block workers : ℕ) where
       λ v w x a b. omega (arith, empty_before x a b, over_at workers v (f g x) w) in
       let move : (i : ℕ) (n : Name) → IsBlock block s i n → (i ≡ g → e < n.to) → IsBlock block t i n =
       λ i n b q. moved_or s g e m pos last ends.to (h.read g) i n b q (cases_eq i g) in
-      let left : Every (λ n. IsBlock block t n.gauge n) t.placed =
-      every_filter (is_left_over g e) s.placed (λ n b q. move n.gauge n b (is_left_over_means g e n q)) h.placed in
+      let left : Each (λ n. IsBlock block t n.gauge n) t.placed =
+      each_filter (is_left_over g e) s.placed (λ n b q. move n.gauge n b (is_left_over_means g e n q)) h.placed in
       let at : t.stored g ≡ e = changed_same s.stored g e in
       record {
         once = λ i x. elim (cases_eq i g) [
@@ -398,7 +398,7 @@ module _ (block workers : ℕ) where
               elim (cases_lt x e) [
                 | inl few ↦ (
                     let gone : hits g x t.placed ≡ 0 =
-                    hits_past g x t.placed (every_map t.placed
+                    hits_past g x t.placed (each_map t.placed
                     (λ n b r. let k : t.stored n.gauge ≡ t.stored g = ap t.stored r in omega (arith, b.from, k, at, few)) left) in
                     let zero : over workers (f g x) ≡ 0 =
                     elim (cases_lt x (s.stored g)) [
@@ -427,7 +427,7 @@ module _ (block workers : ℕ) where
         rings = λ i v w. rings_move s t g e i v move (h.rings i v w) (none_there v w) (cases_eq i g);
         ascend = h.ascend;
         counted =
-            λ v w. every_map (s.counted v)
+            λ v w. each_map (s.counted v)
             (λ n b. move n.gauge n b.0 b.1) (clear s g e (s.counted v) (h.counted v w) (λ x a b. omega (arith, none_there v w x a b)));
         placed = left;
         stored = changed_all (λ i r. r ≤ s.read i) s.stored g e h.stored within;
@@ -483,10 +483,10 @@ module _ (block workers : ℕ) where
         let none_between : between (s.stored i) (s.read i) x ≡ 0 = ap (λ r. between (s.stored i) r x) (h.read i)
         ∙ nothing_between (s.stored i) x in
         omega (arith, zero, p, none_between);
-    rings = λ i v w. subst (Every (IsBlock block s i)) (sym (h.rings i v)) none;
+    rings = λ i v w. subst (Each (IsBlock block s i)) (sym (h.rings i v)) none;
     ascend = λ i v. subst NamesAscend (sym (h.rings i v)) empty;
-    counted = λ v w. subst (Every (λ n. IsBlock block s n.gauge n)) (sym (h.counted v)) none;
-    placed = subst (Every (λ n. IsBlock block s n.gauge n)) (sym h.placed) none;
+    counted = λ v w. subst (Each (λ n. IsBlock block s n.gauge n)) (sym (h.counted v)) none;
+    placed = subst (Each (λ n. IsBlock block s n.gauge n)) (sym h.placed) none;
     stored = λ i. omega (arith, h.read i);
     read = λ i. omega (arith, h.read i, h.stored i);
     whole = λ i. inr (0, omega (arith, h.read i));
@@ -494,7 +494,7 @@ module _ (block workers : ℕ) where
       start = s.stored i;
       stored = omega arith;
       read = omega (arith, h.read i, h.stored i, h.fed i) ∙ ap (λ k. min (s.stored i + k * block) (length (s.samples i))) (sym (h.fed i));
-      rings = λ v w. subst (Every (IsDealt block workers (s.stored i) (s.fed i) v)) (sym (h.rings i v)) none;
+      rings = λ v w. subst (Each (IsDealt block workers (s.stored i) (s.fed i) v)) (sym (h.rings i v)) none;
     };
   }
 
@@ -529,7 +529,7 @@ module _ (block workers : ℕ) where
           l,
           (
               let f = found g (n - 1) s.placed (covers (n - 1) (omega (arith, l)) (omega (arith, l))) in
-              let b : IsBlock block s g f.name = subst (λ i. IsBlock block s i f.name) f.gauge (every_in h.placed f.among) in
+              let b : IsBlock block s g f.name = subst (λ i. IsBlock block s i f.name) f.gauge (each_in h.placed f.among) in
               record { name = f.name; among = f.among; gauge = f.gauge; to = omega (arith, f.to, b.read, done.read, l) }),
           covers,
         )

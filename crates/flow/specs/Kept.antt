@@ -1,5 +1,5 @@
 -- What every list of events keeps of the flow of blocks.
---   Every, NamesAscend   a fact of each name; each begins behind the one before it
+--   Each, NamesAscend  a fact of each item; each name begins behind the one before it
 --   everywhere         how many names in rings, counted and placed lists name a sample
 --   IsBlock, IsDealt   a whole block of its gauge; and what the number of blocks fed tells of its ring
 --   MeetsInvariant     the invariant
@@ -11,14 +11,14 @@ use Rattle.flow.specs.Flow.{Flow, Event, IsAllowed, after, run, AllAllowed, IsSt
 use Rattle.flow.specs.Flow.Event.{Commit}
 use Rattle.flow.specs.declared.TheConstants.{BLOCKS_PER_WINDOW}
 
-pub data Every (P : Name → Type 0) : List Name → Type 0 where
-  none : Every P []
-  both : {n : Name} {l : List Name} → P n → Every P l → Every P (n ∷ l)
+pub data Each {A : Type 0} (P : A → Type 0) : List A → Type 0 where
+  none : Each P []
+  both : {x : A} {l : List A} → P x → Each P l → Each P (x ∷ l)
 
 -- each name begins behind the one before it
 pub data NamesAscend : List Name → Type 0 where
   empty : NamesAscend []
-  step : {n : Name} {l : List Name} → Every (λ m. n.from < m.from) l → NamesAscend l → NamesAscend (n ∷ l)
+  step : {n : Name} {l : List Name} → Each (λ m. n.from < m.from) l → NamesAscend l → NamesAscend (n ∷ l)
 
 -- the sum over the workers
 abbrev pub over : ℕ → (ℕ → ℕ) → ℕ
@@ -54,15 +54,15 @@ pub record IsLine (block workers : ℕ) (s : Flow) (g : ℕ) : Type 0 where
   pub start : ℕ
   pub stored : start ≤ s.stored g
   pub read : s.read g ≡ min (start + s.fed g * block) (length (s.samples g))
-  pub rings : (v : ℕ) → v < workers → Every (IsDealt block workers start (s.fed g) v) (s.rings g v)
+  pub rings : (v : ℕ) → v < workers → Each (IsDealt block workers start (s.fed g) v) (s.rings g v)
 
 pub record MeetsInvariant (block workers : ℕ) (s : Flow) : Type 0 where
   -- the names of a gauge cover the samples from the last stored to the last read, once each
   pub once : (g i : ℕ) → everywhere workers s g i ≡ between (s.stored g) (s.read g) i
-  pub rings : (g v : ℕ) → v < workers → Every (IsBlock block s g) (s.rings g v)
+  pub rings : (g v : ℕ) → v < workers → Each (IsBlock block s g) (s.rings g v)
   pub ascend : (g v : ℕ) → NamesAscend (s.rings g v)
-  pub counted : (v : ℕ) → v < workers → Every (λ n. IsBlock block s n.gauge n) (s.counted v)
-  pub placed : Every (λ n. IsBlock block s n.gauge n) s.placed
+  pub counted : (v : ℕ) → v < workers → Each (λ n. IsBlock block s n.gauge n) (s.counted v)
+  pub placed : Each (λ n. IsBlock block s n.gauge n) s.placed
   pub stored : (g : ℕ) → s.stored g ≤ s.read g
   pub read : (g : ℕ) → s.read g ≤ length (s.samples g)
   pub whole : (g : ℕ) → (s.read g ≡ length (s.samples g)) ⊎ ((k : ℕ) × (s.read g ≡ s.stored g + k * block))
@@ -73,7 +73,7 @@ pub record MeetsInvariant (block workers : ℕ) (s : Flow) : Type 0 where
 pub record IsThrough (workers : ℕ) (s : Flow) (g : ℕ) : Type 0 where
   pub read : s.read g ≡ length (s.samples g)
   pub rings : (v : ℕ) → v < workers → s.rings g v ≡ []
-  pub counted : (v : ℕ) → v < workers → Every (λ n. n.gauge ≢ g) (s.counted v)
+  pub counted : (v : ℕ) → v < workers → Each (λ n. n.gauge ≢ g) (s.counted v)
 
 abbrev pub EachEventKeeps : Type 0
 EachEventKeeps = (block workers : ℕ) (s : Flow) (e : Event) → 0 < block → 0 < workers → MeetsInvariant block workers s →

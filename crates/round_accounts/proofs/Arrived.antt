@@ -2,18 +2,17 @@
 use Rattle.std.proofs.Common.{◌≡◌, ◌≢◌, ◌⊎◌, inl, inr, ◌≤◌, ◌<◌, ◌+◌, ◌*◌, ◌-◌, ◌/◌, ◌%◌, ℕ, zero, suc, List, [], ◌∷◌, ◌++◌, length, refl, sym, ap, ◌∙◌, subst, arith, Bool, true, false, cond, eqb}
 use Rattle.std.specs.Prelude.{◌&&◌}
 use Rattle.std.specs.List.{filter}
-use Rattle.std.proofs.lemmas.Bool.{cases_eq, cases_lt, eq-eqb, ne_eqb}
+use Rattle.std.proofs.lemmas.Bool.{cases_eq, cases_lt, eq-eqb, ne_eqb, eqb-true}
 use Rattle.std.proofs.lemmas.List.{append-nil}
 use Rattle.std.proofs.Math.Nat.{mul-div_cancel}
 use Rattle.std.proofs.Math.Bool.{and-false}
 use Rattle.calibration.specs.Grid.{GridValue}
 use Rattle.segment_rules.specs.declared.name.Name.{Name}
-use Rattle.flow.specs.Kept.{Every}
-use Rattle.flow.specs.Kept.Every.{none as no_name, both as name_and}
-use Rattle.flow.proofs.Counting.{every_map, every_append}
+use Rattle.flow.specs.Kept.{Each}
+use Rattle.flow.proofs.Counting.{each_map, each_append, each_cond}
 use Rattle.block_pool.specs.Units.{FilledValue, CountedValue}
-use Rattle.deposits.specs.Deposited.{Each, unit_names}
-use Rattle.deposits.specs.Deposited.Each.{none as no_unit, both}
+use Rattle.deposits.specs.Deposited.{unit_names}
+use Rattle.flow.specs.Kept.Each.{none as no_item, both}
 use Rattle.deposits.proofs.Mixing.{mixed_filter, mixed_beyond, filter_both}
 use Rattle.arrivals.specs.Arrivals.{Round as RoundOfFlow, names_of, fed_to, worker_of, AreArrivals}
 use Rattle.arrivals.proofs.Reached.{past_end}
@@ -23,7 +22,7 @@ use Rattle.block_workers.specs.Reading.{AreBlocks}
 use Rattle.block_workers.specs.Reading.AreBlocks.{none, last, more}
 use Rattle.round_accounts.proofs.Lists.{in_turn}
 use Rattle.round_accounts.proofs.Names.{blocks_of_worker_names}
-use Rattle.round_accounts.proofs.Taken.{AreTaken, blocks_reach, every_name, list_names, mixed_names, taken_known}
+use Rattle.round_accounts.proofs.Taken.{AreTaken, blocks_reach, each_name, list_names, mixed_names, taken_known}
 use Rattle.flow.specs.declared.TheConstants.{BLOCKS_PER_WINDOW}
 
 -- a name of a gauge, and of a block that a worker gets
@@ -39,37 +38,35 @@ number_of block workers r g k x pos e f =
     ap (λ z. (z / block) % workers) over_start ∙ ap (λ z. z % workers) (mul-div_cancel k pos)
 
 of_cond : (P : FilledValue → Type 0) (k v n : ℕ) (u : FilledValue) (l : List FilledValue) → ((k % n ≡ v) → P u) → Each P l
-    → ((k % n ≡ v) ⊎ (k % n ≡ v → ⊥)) → Each P (cond (eqb (k % n) v) (u ∷ l) l)
-of_cond P k v n u l p d (inl e) = subst (λ t. Each P (cond t (u ∷ l) l)) (sym (eq-eqb (k % n) v e)) (both (p e) d)
-of_cond P k v n u l p d (inr o) = subst (λ t. Each P (cond t (u ∷ l) l)) (sym (ne_eqb (k % n) v o)) d
+    → Each P (cond (eqb (k % n) v) (u ∷ l) l)
+of_cond P k v n u l p d = each_cond u l (eqb (k % n) v) (λ t. p (eqb-true (k % n) v t)) d
 
 -- the blocks of a lane that a worker is dealt
 pub blocks_of_worker_of : (block workers : ℕ) (r : RoundOfFlow) (v k : ℕ) (d : Desk) (a b : ℕ) (us : List FilledValue) → 0 < block →
     d.block ≡ block
     → AreBlocks d a us b → a ≡ r.at d.gauge + k * block →
     Each (λ u. IsOf block workers r d.gauge v u.name) (blocks_of_worker workers v k us)
-blocks_of_worker_of block workers r v k d a b [] pos s none e = no_unit
+blocks_of_worker_of block workers r v k d a b [] pos s none e = no_item
 blocks_of_worker_of block workers r v k d a b (u ∷ []) pos s (last i) e =
     let gauge : u.name.gauge ≡ d.gauge = ap (λ x. x.gauge) i.name in let from : u.name.from ≡ a = ap (λ x. x.from) i.name in
     of_cond (λ x. IsOf block workers r d.gauge v x.name) k v workers u []
-    (λ q. record { gauge = gauge; worker = number_of block workers r d.gauge k u.name pos gauge (from ∙ e) ∙ q }) no_unit
-    (cases_eq (k % workers) v)
+    (λ q. record { gauge = gauge; worker = number_of block workers r d.gauge k u.name pos gauge (from ∙ e) ∙ q }) no_item
 blocks_of_worker_of block workers r v k d a b (u ∷ us) pos s (more i h) e =
     let gauge : u.name.gauge ≡ d.gauge = ap (λ x. x.gauge) i.name in let from : u.name.from ≡ a = ap (λ x. x.from) i.name in
     let next : a + d.block ≡ r.at d.gauge + (k + 1) * block = let m : (k + 1) * block ≡ k * block + block = omega arith in
     omega (arith, e, s, m) in
     of_cond (λ x. IsOf block workers r d.gauge v x.name) k v workers u (blocks_of_worker workers v (k + 1) us)
     (λ q. record { gauge = gauge; worker = number_of block workers r d.gauge k u.name pos gauge (from ∙ e) ∙ q })
-    (blocks_of_worker_of block workers r v (k + 1) d (a + d.block) b us pos s h next) (cases_eq (k % workers) v)
+    (blocks_of_worker_of block workers r v (k + 1) d (a + d.block) b us pos s h next)
 
 -- lists that pass a test, and lists that do not
-pub filter_all : (t : Name → Bool) (l : List Name) → Every (λ x. t x ≡ true) l → filter t l ≡ l
-filter_all t [] no_name = refl
-filter_all t (x ∷ l) (name_and p d) = ap (λ b. cond b (x ∷ filter t l) (filter t l)) p ∙ ap (λ m. x ∷ m) (filter_all t l d)
+pub filter_all : (t : Name → Bool) (l : List Name) → Each (λ x. t x ≡ true) l → filter t l ≡ l
+filter_all t [] no_item = refl
+filter_all t (x ∷ l) (both p d) = ap (λ b. cond b (x ∷ filter t l) (filter t l)) p ∙ ap (λ m. x ∷ m) (filter_all t l d)
 
-pub filter_none : (t : Name → Bool) (l : List Name) → Every (λ x. t x ≡ false) l → filter t l ≡ []
-filter_none t [] no_name = refl
-filter_none t (x ∷ l) (name_and p d) = ap (λ b. cond b (x ∷ filter t l) (filter t l)) p ∙ filter_none t l d
+pub filter_none : (t : Name → Bool) (l : List Name) → Each (λ x. t x ≡ false) l → filter t l ≡ []
+filter_none t [] no_item = refl
+filter_none t (x ∷ l) (both p d) = ap (λ b. cond b (x ∷ filter t l) (filter t l)) p ∙ filter_none t l d
 
 turn_filter : (t : Name → Bool) (n g : ℕ) (f : ℕ → List Name) → g < n → ((h : ℕ) → h < n → h ≢ g → filter t (f h) ≡ [])
     → filter t (in_turn n f) ≡ filter t (f g)
@@ -95,12 +92,12 @@ module _ (block : ℕ) (kind : GridValue) (n workers : ℕ) (at to : ℕ → ℕ
   abbrev test : ℕ → ℕ → Name → Bool
   test g v x = eqb x.gauge g && eqb (worker_of block workers r x) v
 
-  ring_names : (g v : ℕ) → g < n → Every (IsOf block workers r g v) (names_of (blocks_of_worker workers v 0 (given g)))
+  ring_names : (g v : ℕ) → g < n → Each (IsOf block workers r g v) (names_of (blocks_of_worker workers v 0 (given g)))
   ring_names g v l =
       let z : at g ≡ r.at (desk g).gauge + 0 * block = let e : r.at (desk g).gauge ≡ at g = ap r.at (h.gauge g l) ∙ starts g l in
       omega (arith, e) in
-      subst (λ j. Every (IsOf block workers r j v) (names_of (blocks_of_worker workers v 0 (given g)))) (h.gauge g l)
-      (every_name (blocks_of_worker workers v 0 (given g))
+      subst (λ j. Each (IsOf block workers r j v) (names_of (blocks_of_worker workers v 0 (given g)))) (h.gauge g l)
+      (each_name (blocks_of_worker workers v 0 (given g))
       (blocks_of_worker_of block workers r v 0 (desk g) (at g) (to g) (given g) h.some.0 (h.size g l) (h.blocks g l) z))
 
   passes : (g v : ℕ) (x : Name) → IsOf block workers r g v x → test g v x ≡ true
@@ -120,26 +117,26 @@ module _ (block : ℕ) (kind : GridValue) (n workers : ℕ) (at to : ℕ → ℕ
       ap (filter (test g v)) (list_names block kind n workers at to desk given lists units h v m)
       ∙ turn_filter (test g v) n g (λ k. names_of (blocks_of_worker workers v 0 (given k))) l
       (λ k q o. filter_none (test g v) (names_of (blocks_of_worker workers v 0 (given k)))
-      (every_map (names_of (blocks_of_worker workers v 0 (given k))) (λ x i. fails_gauge g v k v x o i) (ring_names k v q)))
+      (each_map (names_of (blocks_of_worker workers v 0 (given k))) (λ x i. fails_gauge g v k v x o i) (ring_names k v q)))
       ∙ filter_all (test g v) (names_of (blocks_of_worker workers v 0 (given g)))
-      (every_map (names_of (blocks_of_worker workers v 0 (given g))) (passes g v) (ring_names g v l))
+      (each_map (names_of (blocks_of_worker workers v 0 (given g))) (passes g v) (ring_names g v l))
 
   of_other : (g v u : ℕ) → u < workers → u ≢ v → filter (test g v) (unit_names (lists u)) ≡ []
   of_other g v u m o =
       ap (filter (test g v)) (list_names block kind n workers at to desk given lists units h u m)
-      ∙ filter_none (test g v) (in_turn n (λ k. names_of (blocks_of_worker workers u 0 (given k)))) (turn_every (test g v) n u)
+      ∙ filter_none (test g v) (in_turn n (λ k. names_of (blocks_of_worker workers u 0 (given k)))) (turn_fails (test g v) n u)
     where
-      turn_some : (j : ℕ) → j ≤ n → Every (λ x. test g v x ≡ false) (in_turn j (λ k. names_of (blocks_of_worker workers u 0 (given k))))
-      turn_some zero q = no_name
-      turn_some (suc j) q = every_append (in_turn j (λ k. names_of (blocks_of_worker workers u 0 (given k))))
+      turn_some : (j : ℕ) → j ≤ n → Each (λ x. test g v x ≡ false) (in_turn j (λ k. names_of (blocks_of_worker workers u 0 (given k))))
+      turn_some zero q = no_item
+      turn_some (suc j) q = each_append (in_turn j (λ k. names_of (blocks_of_worker workers u 0 (given k))))
           (names_of (blocks_of_worker workers u 0 (given j)))
           (turn_some j (omega (arith, q)))
-          (every_map (names_of (blocks_of_worker workers u 0 (given j))) (λ x i. fails_worker g v j u x o i)
+          (each_map (names_of (blocks_of_worker workers u 0 (given j))) (λ x i. fails_worker g v j u x o i)
           (ring_names j u (omega (arith, q))))
 
-      turn_every : (t : Name → Bool) (j w : ℕ) →
-          Every (λ x. test g v x ≡ false) (in_turn n (λ k. names_of (blocks_of_worker workers u 0 (given k))))
-      turn_every t j w = turn_some n (omega arith)
+      turn_fails : (t : Name → Bool) (j w : ℕ) →
+          Each (λ x. test g v x ≡ false) (in_turn n (λ k. names_of (blocks_of_worker workers u 0 (given k))))
+      turn_fails t j w = turn_some n (omega arith)
 
   of_others : (g v u : ℕ) → u ≢ v → ((u < workers) ⊎ (workers ≤ u)) → filter (test g v) (unit_names (lists u)) ≡ []
   of_others g v u o (inl m) = of_other g v u m o

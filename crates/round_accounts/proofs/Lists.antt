@@ -3,12 +3,11 @@ use Rattle.std.proofs.Common.{◌≡◌, ◌⊎◌, inl, inr, ◌≤◌, ◌<◌
 use Rattle.std.proofs.lemmas.Bool.{cases_lt}
 use Rattle.segment_rules.specs.declared.name.Name.{Name}
 use Rattle.flow.specs.Flow.{hits}
-use Rattle.flow.specs.Kept.{over}
-use Rattle.flow.proofs.Counting.{over_same, over_none, hits-append, over_sum}
+use Rattle.flow.specs.Kept.{over, Each}
+use Rattle.flow.proofs.Counting.{over_same, over_none, hits-append, over_sum, each_append}
 use Rattle.block_pool.specs.Units.{FilledValue}
 use Rattle.arrivals.specs.Arrivals.{names_of}
-use Rattle.deposits.specs.Deposited.{Each}
-use Rattle.deposits.specs.Deposited.Each.{none, both}
+use Rattle.flow.specs.Kept.Each.{none}
 use Rattle.block_workers.specs.Dealing.{blocks_of_worker}
 use Rattle.block_workers.proofs.Accounts.{one_worker}
 
@@ -34,13 +33,9 @@ turn_long zero f = refl
 turn_long (suc n) f = let e : length (in_turn n f ++ f n) ≡ length (in_turn n f) + length (f n) = length-append (in_turn n f) (f n) in
     let r = turn_long n f in omega (arith, e, r)
 
-each_both : {A : Type 0} {P : A → Type 0} → (k l : List A) → Each P k → Each P l → Each P (k ++ l)
-each_both [] l none d = d
-each_both (x ∷ k) l (both p c) d = both p (each_both k l c d)
-
 pub turn_each : {A : Type 0} {P : A → Type 0} → (n : ℕ) (f : ℕ → List A) → ((g : ℕ) → g < n → Each P (f g)) → Each P (in_turn n f)
 turn_each zero f h = none
-turn_each (suc n) f h = each_both (in_turn n f) (f n) (turn_each n f (λ g l. h g (omega arith))) (h n (omega arith))
+turn_each (suc n) f h = each_append (in_turn n f) (f n) (turn_each n f (λ g l. h g (omega arith))) (h n (omega arith))
 
 pub names_append : (k l : List FilledValue) → names_of (k ++ l) ≡ names_of k ++ names_of l
 names_append [] l = refl

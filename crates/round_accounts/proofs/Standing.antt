@@ -1,13 +1,13 @@
 -- The units of a lane hold the samples of its recording, and their counts stand for them.
-use Rattle.std.proofs.Common.{◌≡◌, ◌+◌, ◌-◌, ◌%◌, ℕ, List, [], ◌∷◌, ◌++◌, length, take, drop, refl, sym, ap, ◌∙◌, subst, arith, append_assoc, Bool, true, false, cond, eqb}
+use Rattle.std.proofs.Common.{◌≡◌, ◌+◌, ◌-◌, ◌%◌, ℕ, List, [], ◌∷◌, ◌++◌, length, take, drop, refl, sym, ap, ◌∙◌, subst, arith, append_assoc, eqb}
 use Rattle.std.specs.Prelude.{ℤ, slice_range}
 use Rattle.std.proofs.lemmas.List.{drop-drop, append-nil, drop_at, take_at}
 use Rattle.calibration.specs.Gain.{GainValue}
 use Rattle.segment_rules.specs.declared.name.Name.{Name}
 use Rattle.segment.specs.Segment.{Stands}
 use Rattle.block_pool.specs.Units.{FilledValue, CountedValue, IsCountOf}
-use Rattle.deposits.specs.Deposited.{Each, UnitStands, unit_names}
-use Rattle.deposits.specs.Deposited.Each.{none as no_unit, both}
+use Rattle.deposits.specs.Deposited.{UnitStands, unit_names}
+use Rattle.flow.specs.Kept.Each.{none as no_item, both}
 use Rattle.arrivals.specs.Arrivals.{names_of}
 use Rattle.block_workers.specs.declared.desk.Desk.{Desk}
 use Rattle.block_workers.specs.Dealing.{blocks_of_worker}
@@ -15,6 +15,8 @@ use Rattle.block_workers.specs.Reading.{IsUnit, AreBlocks, samples_of}
 use Rattle.block_workers.specs.Reading.AreBlocks.{none, last, more}
 use Rattle.block_workers.specs.Working.{AreCounts}
 use Rattle.block_workers.specs.Working.AreCounts.{nil, one}
+use Rattle.flow.specs.Kept.{Each}
+use Rattle.flow.proofs.Counting.{each_cond}
 
 -- the unit has the gain of its gauge, and the samples that its name names
 pub record FromLanes (gain : ℕ → GainValue) (w : ℕ → List ℤ) (u : FilledValue) : Type 0 where
@@ -38,9 +40,9 @@ from_unit d gain w a b u rest i g e =
 -- the blocks of a lane, whose samples stand behind those that were read before
 pub from_lane : (d : Desk) (gain : ℕ → GainValue) (w : ℕ → List ℤ) (a b : ℕ) (us : List FilledValue) (rest : List ℤ) → AreBlocks d a us b
     → d.gain ≡ gain d.gauge → drop a (w d.gauge) ≡ samples_of us ++ rest → Each (FromLanes gain w) us
-from_lane d gain w a b [] rest none g e = no_unit
+from_lane d gain w a b [] rest none g e = no_item
 from_lane d gain w a b (u ∷ []) rest (last i) g e =
-    both (from_unit d gain w a b u rest i g (e ∙ ap (λ l. l ++ rest) (append-nil u.samples))) no_unit
+    both (from_unit d gain w a b u rest i g (e ∙ ap (λ l. l ++ rest) (append-nil u.samples))) no_item
 from_lane d gain w a b (u ∷ us) rest (more i r) g e =
     let split : drop a (w d.gauge) ≡ u.samples ++ (samples_of us ++ rest) = e ∙ append_assoc u.samples (samples_of us) rest in
     let size : length u.samples ≡ d.block = let l = i.long in omega (arith, l) in
@@ -49,13 +51,9 @@ from_lane d gain w a b (u ∷ us) rest (more i r) g e =
     ∙ drop_at u.samples (samples_of us ++ rest) d.block size in
     both (from_unit d gain w a (a + d.block) u (samples_of us ++ rest) i g split) (from_lane d gain w (a + d.block) b us rest r g next)
 
-each_cond : {A : Type 0} {P : A → Type 0} → (b : Bool) (x : A) (l : List A) → P x → Each P l → Each P (cond b (x ∷ l) l)
-each_cond true x l p d = both p d
-each_cond false x l p d = d
-
 pub each_dealt : {P : FilledValue → Type 0} → (n v k : ℕ) (us : List FilledValue) → Each P us → Each P (blocks_of_worker n v k us)
-each_dealt n v k [] no_unit = no_unit
-each_dealt n v k (u ∷ us) (both p d) = each_cond (eqb (k % n) v) u (blocks_of_worker n v (k + 1) us) p (each_dealt n v (k + 1) us d)
+each_dealt n v k [] no_item = no_item
+each_dealt n v k (u ∷ us) (both p d) = each_cond u (blocks_of_worker n v (k + 1) us) (eqb (k % n) v) (λ t. p) (each_dealt n v (k + 1) us d)
 
 -- what was counted of a unit stands for the samples of its gauge that its name names
 pub count_stands : (gain : ℕ → GainValue) (w : ℕ → List ℤ) (f : FilledValue) (c : CountedValue) → IsCountOf f c → FromLanes gain w f
@@ -68,7 +66,7 @@ count_stands gain w f c h p =
 -- a fact of each unit, and so of each count
 pub each_count : {P : FilledValue → Type 0} {Q : CountedValue → Type 0} → (fs : List FilledValue) (cs : List CountedValue)
     → ((f : FilledValue) (c : CountedValue) → IsCountOf f c → P f → Q c) → AreCounts fs cs → Each P fs → Each Q cs
-each_count [] [] k nil no_unit = no_unit
+each_count [] [] k nil no_item = no_item
 each_count [] (c ∷ cs) k h e = elim h [ ]
 each_count (f ∷ fs) [] k h e = elim h [ ]
 each_count (f ∷ fs) (c ∷ cs) k (one h d) (both p e) = both (k f c h p) (each_count fs cs k d e)

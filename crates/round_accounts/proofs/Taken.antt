@@ -6,14 +6,13 @@ use Rattle.calibration.specs.Gain.{GainValue}
 use Rattle.calibration.specs.Grid.{GridValue}
 use Rattle.segment_rules.specs.declared.name.Name.{Name}
 use Rattle.flow.specs.Flow.{hits}
-use Rattle.flow.specs.Kept.{over, between, Every}
-use Rattle.flow.specs.Kept.Every.{none as no_name, both as name_and}
-use Rattle.flow.proofs.Counting.{over_same, hits_other}
+use Rattle.flow.specs.Kept.{over, between, Each}
+use Rattle.flow.proofs.Counting.{over_same, hits_other, each_map}
 use Rattle.block_pool.specs.Units.{FilledValue, CountedValue, IsCountOf}
 use Rattle.board.specs.Board.{IsBlockOf}
 use Rattle.board.proofs.Counts.{over_only}
-use Rattle.deposits.specs.Deposited.{Each, unit_name, unit_names, UnitStands}
-use Rattle.deposits.specs.Deposited.Each.{none as no_unit, both}
+use Rattle.deposits.specs.Deposited.{unit_name, unit_names, UnitStands}
+use Rattle.flow.specs.Kept.Each.{none as no_item, both}
 use Rattle.deposits.specs.Mixed.{IsMixOf}
 use Rattle.deposits.proofs.Mixing.{mixed_map, mixed_hits, mixed_long, mixed_each}
 use Rattle.arrivals.specs.Arrivals.{names_of}
@@ -39,10 +38,6 @@ pub record AreTaken (block : ℕ) (kind : GridValue) (n workers : ℕ) (at to : 
   pub blocks : (g : ℕ) → g < n → AreBlocks (desk g) (at g) (given g) (to g)
   pub counts : (v : ℕ) → v < workers → AreCounts (in_turn n (λ g. blocks_of_worker workers v 0 (given g))) (lists v)
   pub mixed : IsMixOf workers lists units
-
-pub each_map : {A : Type 0} {P Q : A → Type 0} → (l : List A) → ((x : A) → P x → Q x) → Each P l → Each Q l
-each_map [] f no_unit = no_unit
-each_map (x ∷ l) f (both p d) = both (f x p) (each_map l f d)
 
 -- the blocks of a lane, as units of its desk and blocks of its window
 pub record IsBlockAt (block n start : ℕ) (d : Desk) (u : FilledValue) : Type 0 where
@@ -80,8 +75,8 @@ block_at block n start k d a b u i e s l few =
 
 pub blocks_at : (block n start k : ℕ) (d : Desk) (a b : ℕ) (us : List FilledValue) → AreBlocks d a us b → a ≡ start + k * block
     → d.block ≡ block → d.gauge < n → k + length us ≤ BLOCKS_PER_WINDOW → Each (IsBlockAt block n start d) us
-blocks_at block n start k d a b [] none e s l few = no_unit
-blocks_at block n start k d a b (u ∷ []) (last i) e s l few = both (block_at block n start k d a b u i e s l (omega (arith, few))) no_unit
+blocks_at block n start k d a b [] none e s l few = no_item
+blocks_at block n start k d a b (u ∷ []) (last i) e s l few = both (block_at block n start k d a b u i e s l (omega (arith, few))) no_item
 blocks_at block n start k d a b (u ∷ us) (more i r) e s l few =
     let next : a + d.block ≡ start + (k + 1) * block = let m : (k + 1) * block ≡ k * block + block = omega arith in
     omega (arith, e, s, m) in
@@ -95,13 +90,13 @@ blocks_reach d a b (u ∷ []) (last i) = let s = i.short in let m : (length (u �
 blocks_reach d a b (u ∷ us) (more i r) = let h = blocks_reach d (a + d.block) b us r in
     let m : length (u ∷ us) * d.block ≡ length us * d.block + d.block = omega arith in omega (arith, h, m)
 
-pub every_name : {P : Name → Type 0} → (us : List FilledValue) → Each (λ u. P u.name) us → Every P (names_of us)
-every_name [] no_unit = no_name
-every_name (u ∷ us) (both p d) = name_and p (every_name us d)
+pub each_name : {P : Name → Type 0} → (us : List FilledValue) → Each (λ u. P u.name) us → Each P (names_of us)
+each_name [] no_item = no_item
+each_name (u ∷ us) (both p d) = both p (each_name us d)
 
-every_counted : {P : Name → Type 0} → (us : List CountedValue) → Each (λ u. P (unit_name u)) us → Every P (unit_names us)
-every_counted [] no_unit = no_name
-every_counted (u ∷ us) (both p d) = name_and p (every_counted us d)
+each_counted : {P : Name → Type 0} → (us : List CountedValue) → Each (λ u. P (unit_name u)) us → Each P (unit_names us)
+each_counted [] no_item = no_item
+each_counted (u ∷ us) (both p d) = both p (each_counted us d)
 
 module _ (block : ℕ) (kind : GridValue) (n workers : ℕ) (at to : ℕ → ℕ) (desk : ℕ → Desk) (given : ℕ → List FilledValue) (lists : ℕ
     → List CountedValue) (units : List CountedValue) (h : AreTaken block kind n workers at to desk given lists units) where
@@ -148,7 +143,7 @@ module _ (block : ℕ) (kind : GridValue) (n workers : ℕ) (at to : ℕ → ℕ
 
   others_hits : (g i k : ℕ) → k < n → k ≢ g → hits g i (names_of (given k)) ≡ 0
   others_hits g i k l o = hits_other g i (names_of (given k))
-      (every_name (given k) (each_map (given k) (λ u b e. o (sym (h.gauge k l) ∙ sym b.gauge ∙ e)) (each_block k l)))
+      (each_name (given k) (each_map (given k) (λ u b e. o (sym (h.gauge k l) ∙ sym b.gauge ∙ e)) (each_block k l)))
 
   -- each sample that a lane gave is named once, and no other
   pub taken_once : (g i : ℕ) → g < n → hits g i (unit_names units) ≡ between (at g) (to g) i
@@ -167,8 +162,8 @@ module _ (block : ℕ) (kind : GridValue) (n workers : ℕ) (at to : ℕ → ℕ
   taken_kind = each_taken {P = λ f. (f.block ≡ block) × (f.grid ≡ kind)} (λ f c i p. (i.block ∙ p.0, i.grid ∙ p.1))
       (λ g l. each_map (given g) (λ u b. (b.size ∙ h.size g l, b.grid ∙ h.grid g l)) (each_block g l))
 
-  pub taken_known : Every (λ x. x.gauge < n) (unit_names units)
-  taken_known = every_counted units (each_map units (λ u b. b.known) taken_fit)
+  pub taken_known : Each (λ x. x.gauge < n) (unit_names units)
+  taken_known = each_counted units (each_map units (λ u b. b.known) taken_fit)
 
   -- the units stand for the samples of recordings that have what the lanes gave
   pub taken_stand : (gain : ℕ → GainValue) (w : ℕ → List ℤ) → ((g : ℕ) → g < n → (desk g).gain ≡ gain g)

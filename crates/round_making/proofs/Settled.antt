@@ -14,7 +14,7 @@ use Rattle.gauge_ring.specs.Ends.{fed, taken, AreOneRing}
 use Rattle.segment_rules.specs.declared.name.Name.{Name}
 use Rattle.flow.specs.Flow.{hits}
 use Rattle.flow.specs.Kept.{over, between}
-use Rattle.flow.proofs.Counting.{over_same, over_sum, hits_other, every_map}
+use Rattle.flow.proofs.Counting.{over_same, over_sum, hits_other, each_map}
 use Rattle.block_pool.specs.Units.{FilledValue, PoolValue, IsBlank}
 use Rattle.board.specs.Board.{BoardValue, IsBegun, IsBlockOf, start_of, IsFront, CarriesSamples}
 use Rattle.board.proofs.Counts.{over_most}
@@ -40,7 +40,7 @@ use Rattle.lane_loans.specs.Lent.{CanRound, at_of}
 use Rattle.round_making.specs.Round.{LaneDone, FrontDone, RingDone, RoundDone, flow_of}
 use Rattle.lane_loans.proofs.Walking.{map_at, some_of}
 use Rattle.round_accounts.proofs.Lists.{in_turn, turn_same, choose, chosen}
-use Rattle.round_accounts.proofs.Taken.{AreTaken, taken_long, taken_once, taken_fit, taken_kind, taken_known, each_map, taken_stand, blocks_reach}
+use Rattle.round_accounts.proofs.Taken.{AreTaken, taken_long, taken_once, taken_fit, taken_kind, taken_known, taken_stand, blocks_reach}
 use Rattle.round_making.proofs.Ran.{LaneRan, lane_ran, WorkerRan, worker_ran}
 use Rattle.std.specs.Prelude.{ℤ, pos, replicate, slice_range}
 use Rattle.std.proofs.lemmas.Option.{same_Some}
@@ -262,7 +262,7 @@ module _ {C : Type 0} (tells : Type 0) (left : C → List ℕ) (faults : C → �
   once_by g i (inr b) =
       let e : hits g i (unit_names s.collected.units) ≡ 0 =
       hits_other g i (unit_names s.collected.units)
-      (every_map (unit_names s.collected.units) (λ x known q. absurd (omega (arith, known, q, b)))
+      (each_map (unit_names s.collected.units) (λ x known q. absurd (omega (arith, known, q, b)))
       (taken_known p0.block p0.grid n workers (at_of ls0) to desk given s.collected.lists s.collected.units are_taken)) in
       omega (arith, e)
 

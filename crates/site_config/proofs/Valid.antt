@@ -4,7 +4,7 @@
 --   details_named               the names of details that were read, which are on gauges
 --   config_in-valid             the whole
 use Rattle.std.proofs.Common.{◌≡◌, ◌≢◌, ◌+◌, ◌-◌, ◌<◌, ◌≤◌, ◌⊎◌, inl, inr, ℕ, zero, suc, ℤ, pos, negsuc, Bool, if◌then◌else◌, true, false, List, [], ◌∷◌, ◌++◌, length, map, get_or, Option, Some, None, Result, Ok, Err, refl, sym, ap, subst, ◌∙◌, ◌==◌, arith}
-use Rattle.std.specs.Prelude.{int_lt, unsigned_abs, nat_lt, nat_le}
+use Rattle.std.specs.Prelude.{int_lt, unsigned_abs, nat_lt, nat_le, ok_or}
 use Rattle.std.specs.Cmp.Lexicographic.{pointwise, same_text, other_text}
 use Rattle.std.proofs.lemmas.Bool.{cases_lt, cases_eq}
 use Rattle.std.proofs.lemmas.Bool.Decides.{nat_tests}
@@ -26,7 +26,7 @@ use Rattle.site_config.specs.declared.fault.ConfigFault.{ConfigFault}
 use Rattle.site_config.specs.declared.fault.Key.{Key}
 use Rattle.site_config.specs.declared.fault.Part.{Part}
 use Rattle.site_config.specs.declared.limits.TheConstants.{MAX_GAUGES, MAX_DETAILS, MAX_BLOCK, DEFAULT_BLOCK, MAX_WORKERS, DEFAULT_WORKERS}
-use Rattle.site_config.specs.Fields.{Gives, ◌>>=◌, or_fault, within_limits, is_in_limits, is_name, name_at, file_at, text_at, number_at, natural_at, minus, items_list, natural_or, number_or, number_if, number_in, is_within, place_from, place_of, unless_taken, unless_taken_before, items_in}
+use Rattle.site_config.specs.Fields.{Gives, ◌>>=◌, within_limits, is_in_limits, is_name, name_at, file_at, text_at, number_at, natural_at, minus, items_list, natural_or, number_or, number_if, number_in, is_within, place_from, place_of, unless_taken, unless_taken_before, items_in}
 use Rattle.site_config.specs.Configuration.{Gauges, gauge_in, gauges_after, gauges_in, gauge_names, curve_in, detail_names, grid_in, detail_in, details_after, details_part, details_if, details_in, count_part, count_if, count_in, config_in, config_of_bytes}
 use Rattle.site_config.specs.Valid.{IsConfig, name_of, no_gauge}
 
@@ -136,7 +136,7 @@ gauge_read : (before : List Gauge) (value : Data) (x : Gauge × GainValue) → g
 unfolding gauge_in
 gauge_read before value x e =
     let i = length before in
-    let part = both_ok (or_fault (as_table value) (WrongKind (gauge_key i key.Itself))) _ x e in
+    let part = both_ok (ok_or (as_table value) (WrongKind (gauge_key i key.Itself))) _ x e in
     let name = both_ok (name_at (gauge_key i key.Name) part.value) _ x part.second in
     let file = both_ok (file_at (gauge_key i key.File) part.value) _ x name.second in
     let num = both_ok (number_at (gauge_key i key.Num) (minus MAX_NUM) (pos MAX_NUM) part.value) _ x file.second in
@@ -172,7 +172,7 @@ items_within : (part : Part) (low high : ℕ) (value : Data) (ds : List Data) �
 unfolding items_in
 items_within part low high value ds e =
     let at : Key = record { part = part; index = 0; name = key.Itself } in
-    let items = both_ok (or_fault (as_array value) (WrongKind at)) _ ds e in
+    let items = both_ok (ok_or (as_array value) (WrongKind at)) _ ds e in
     let p = passes (is_in_limits low high (length (items_list items.value))) at (items_list items.value) ds items.second in
     let within = subst (λ l. is_in_limits low high (length l) ≡ true) p.1 p.0 in
     (grind (arith, nat_tests, within), grind (arith, nat_tests, within))
@@ -186,7 +186,7 @@ record AreGauges (g : Gauges) : Type 0 where
 gauges_named : (ms : Members) (g : Gauges) → gauges_in ms ≡ Ok g → AreGauges g
 unfolding gauges_in
 gauges_named ms g e =
-    let value = both_ok (or_fault (get_member (codes "gauge") ms) (Missing (gauge_key 0 key.Itself))) _ g e in
+    let value = both_ok (ok_or (get_member (codes "gauge") ms) (Missing (gauge_key 0 key.Itself))) _ g e in
     let values = both_ok (items_in parts.Gauge 1 MAX_GAUGES value.value) _ g value.second in
     let within = items_within parts.Gauge 1 MAX_GAUGES value.value values.value values.first in
     let are = gauges_read (record { names = []; gains = [] }) values.value g none_named refl values.second in
@@ -208,7 +208,7 @@ place_below (other ∷ names) name i place e =
     by_case (inl same) next = omega (arith, same)
     by_case (inr is) next = omega (arith, next is)
 
-placed : (o : Option ℕ) (fault : ConfigFault) (place : ℕ) → or_fault o fault ≡ Ok place → o ≡ Some place
+placed : (o : Option ℕ) (fault : ConfigFault) (place : ℕ) → ok_or o fault ≡ Ok place → o ≡ Some place
 placed None fault place e = absurd (cc)
 placed (Some x) fault place e = ap Some (same_ok x place e)
 
@@ -222,11 +222,11 @@ detail_read : (gauges : List Gauge) (before : List NamedDetail) (value : Data) (
 unfolding detail_in
 detail_read gauges before value d e =
     let i = length before in
-    let part = both_ok (or_fault (as_table value) (WrongKind (detail_key i key.Itself))) _ d e in
+    let part = both_ok (ok_or (as_table value) (WrongKind (detail_key i key.Itself))) _ d e in
     let name = both_ok (name_at (detail_key i key.Name) part.value) _ d part.second in
     let gauge = both_ok (text_at (detail_key i key.Gauge) part.value) _ d name.second in
     let detail = both_ok (curve_in i part.value) _ d gauge.second in
-    let place = both_ok (or_fault (place_of gauge.value (gauge_names gauges)) (NoSuchGauge i)) _ d detail.second in
+    let place = both_ok (ok_or (place_of gauge.value (gauge_names gauges)) (NoSuchGauge i)) _ d detail.second in
     let again = both_ok (unless_taken_before parts.Detail i (detail_names before) name.value) _ d place.second in
     let is = same_ok (record { name = again.value; gauge = place.value; detail = detail.value }) d again.second in
     let at = placed (place_of gauge.value (gauge_names gauges)) (NoSuchGauge i) place.value place.first in
@@ -293,7 +293,7 @@ number_within : (low high : ℕ) (k : Key) (value : Data) (n : ℤ) → number_i
     → (low ≤ unsigned_abs n) × (unsigned_abs n ≤ high)
 unfolding number_in
 number_within low high k value n e =
-    let number = both_ok (or_fault (as_integer value) (WrongKind k)) _ n e in
+    let number = both_ok (ok_or (as_integer value) (WrongKind k)) _ n e in
     let p = passes (is_within (pos low) (pos high) number.value) k number.value n number.second in
     is_within_limits low high n (subst (λ m. is_within (pos low) (pos high) m ≡ true) p.1 p.0)
 
@@ -318,7 +318,7 @@ record IsCount (c : ℕ × ℕ) : Type 0 where
 count_part-within : (value : Data) (c : ℕ × ℕ) → count_part value ≡ Ok c → IsCount c
 unfolding count_part
 count_part-within value c e =
-    let part = both_ok (or_fault (as_table value) (WrongKind (count_key key.Itself))) _ c e in
+    let part = both_ok (ok_or (as_table value) (WrongKind (count_key key.Itself))) _ c e in
     let block = both_ok (natural_or DEFAULT_BLOCK (count_key key.Block) 1 MAX_BLOCK part.value) _ c part.second in
     let workers = both_ok (natural_or DEFAULT_WORKERS (count_key key.Workers) 1 MAX_WORKERS part.value) _ c block.second in
     subst (λ x. IsCount x) (same_ok (block.value, workers.value) c workers.second)

@@ -4,7 +4,7 @@
 --   config_of_bytes                            the whole
 -- The grid comes first, then the count, then each gauge, then each detail; within a part its keys come in the order in
 -- which they stand here.
-use Rattle.std.specs.Prelude.{◌-◌, ◌/◌, ◌++◌, if◌then◌else◌, ℕ, pos, List, [], ◌∷◌, length, map, codes, Option, Some, None, Result, Ok, Err, nat_lt, ◌==◌}
+use Rattle.std.specs.Prelude.{◌-◌, ◌/◌, ◌++◌, if◌then◌else◌, ℕ, pos, List, [], ◌∷◌, length, map, codes, Option, Some, None, Result, Ok, Err, nat_lt, ◌==◌, ok_or}
 use Rattle.std.specs.Str.{is_utf8}
 use Rattle.std.specs.Cmp.Lexicographic.{pointwise}
 use Rattle.toml.specs.Data.{Data, as_table, Members, get_member}
@@ -18,7 +18,7 @@ use Rattle.calibration.specs.declared.grid.TheConstants.{MIN_CLASSES, MAX_CLASSE
 use Rattle.calibration.specs.declared.gain.TheConstants.{MAX_NUM, MAX_DEN, MAX_OFFSET}
 use Rattle.site_config.specs.declared.limits.TheConstants.{MAX_BYTES, MAX_GAUGES, MAX_DETAILS, MAX_BLOCK, DEFAULT_BLOCK, MAX_WORKERS, DEFAULT_WORKERS}
 use Rattle.site_config.specs.Keys.{grid_key, count_key, gauge_key, detail_key}
-use Rattle.site_config.specs.Fields.{◌>>=◌, minus, or_fault, within_limits, number_at, number_or, natural_at, natural_or, text_at, name_at, file_at, place_of, unless_taken_before, items_in}
+use Rattle.site_config.specs.Fields.{◌>>=◌, minus, within_limits, number_at, number_or, natural_at, natural_or, text_at, name_at, file_at, place_of, unless_taken_before, items_in}
 use Rattle.site_config.specs.declared.config.Config.{Config}
 use Rattle.site_config.specs.declared.config.Gauge.{Gauge}
 use Rattle.site_config.specs.declared.config.NamedDetail.{NamedDetail}
@@ -31,8 +31,8 @@ use Rattle.site_config.specs.declared.fault.ConfigFault.TheVariants.{Missing, Ki
 -- The grid: the limits are those of `calibration`. The span's limit is told as one of the width.
 unfoldable pub grid_in : Members → Result GridValue ConfigFault
 grid_in ms = do
-  value ← or_fault (get_member (codes "grid") ms) (Missing (grid_key key.Itself))
-  part ← or_fault (as_table value) (WrongKind (grid_key key.Itself))
+  value ← ok_or (get_member (codes "grid") ms) (Missing (grid_key key.Itself))
+  part ← ok_or (as_table value) (WrongKind (grid_key key.Itself))
   classes ← natural_at (grid_key key.Classes) MIN_CLASSES MAX_CLASSES part
   width ← natural_at (grid_key key.Width) 1 (MAX_SPAN / (classes - 1)) part
   low ← number_at (grid_key key.Low) (minus MAX_LOW_KPA) (pos MAX_LOW_KPA) part
@@ -42,7 +42,7 @@ grid_in ms = do
 -- How it is counted: samples per block and workers, each with a default.
 unfoldable pub count_part : Data → Result (ℕ × ℕ) ConfigFault
 count_part value = do
-  part ← or_fault (as_table value) (WrongKind (count_key key.Itself))
+  part ← ok_or (as_table value) (WrongKind (count_key key.Itself))
   block ← natural_or DEFAULT_BLOCK (count_key key.Block) 1 MAX_BLOCK part
   workers ← natural_or DEFAULT_WORKERS (count_key key.Workers) 1 MAX_WORKERS part
   Ok (block, workers)
@@ -65,7 +65,7 @@ gauge_names gauges = map (λ g. g.name) gauges
 -- a table, behind those of the gauges before it
 unfoldable pub gauge_in : List Gauge → Data → Result (Gauge × GainValue) ConfigFault
 gauge_in before value = do
-  part ← or_fault (as_table value) (WrongKind (gauge_key (length before) key.Itself))
+  part ← ok_or (as_table value) (WrongKind (gauge_key (length before) key.Itself))
   name ← name_at (gauge_key (length before) key.Name) part
   file ← file_at (gauge_key (length before) key.File) part
   num ← number_at (gauge_key (length before) key.Num) (minus MAX_NUM) (pos MAX_NUM) part
@@ -81,7 +81,7 @@ gauges_after before (value ∷ values) = gauge_in before.names value >>=
 
 unfoldable pub gauges_in : Members → Result Gauges ConfigFault
 gauges_in ms = do
-  value ← or_fault (get_member (codes "gauge") ms) (Missing (gauge_key 0 key.Itself))
+  value ← ok_or (get_member (codes "gauge") ms) (Missing (gauge_key 0 key.Itself))
   values ← items_in parts.Gauge 1 MAX_GAUGES value
   gauges_after (record { names = []; gains = [] }) values
 
@@ -93,7 +93,7 @@ kind_named text = if pointwise ◌==◌ text (codes "normal") then Some Normal
 unfoldable pub kind_at : Key → Members → Result Kind ConfigFault
 kind_at key ms = do
   text ← text_at key ms
-  or_fault (kind_named text) (Limit key)
+  ok_or (kind_named text) (Limit key)
 
 -- one of the numbers of a list
 unfoldable pub choice_at : Key → List ℕ → Members → Result ℕ ConfigFault
@@ -113,11 +113,11 @@ detail_names details = map (λ d. d.name) details
 
 unfoldable pub detail_in : List Gauge → List NamedDetail → Data → Result NamedDetail ConfigFault
 detail_in gauges before value = do
-  part ← or_fault (as_table value) (WrongKind (detail_key (length before) key.Itself))
+  part ← ok_or (as_table value) (WrongKind (detail_key (length before) key.Itself))
   name ← name_at (detail_key (length before) key.Name) part
   gauge ← text_at (detail_key (length before) key.Gauge) part
   detail ← curve_in (length before) part
-  place ← or_fault (place_of gauge (gauge_names gauges)) (NoSuchGauge (length before))
+  place ← ok_or (place_of gauge (gauge_names gauges)) (NoSuchGauge (length before))
   name ← unless_taken_before parts.Detail (length before) (detail_names before) name
   Ok (record { name = name; gauge = place; detail = detail })
 
@@ -140,7 +140,7 @@ details_in gauges ms = details_if gauges (get_member (codes "detail") ms)
 
 -- the table that bytes spell
 unfoldable pub document : List ℕ → Result Members ConfigFault
-document bytes = if is_utf8 bytes then or_fault (parse_document bytes) NotToml else Err NotToml
+document bytes = if is_utf8 bytes then ok_or (parse_document bytes) NotToml else Err NotToml
 
 -- the configuration of a table
 unfoldable pub config_in : Members → Result Config ConfigFault

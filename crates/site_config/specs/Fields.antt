@@ -1,10 +1,9 @@
 -- The rule of one key: it is missing, of another kind, outside its limits, or its value.
---   or_fault       what is there, or a fault
 --   number_at      a number within limits           number_or    the same with a default
 --   natural_at     the same of a natural number     natural_or
 --   text_at        a text                           name_at, file_at
 --   Gives          what a function of the code returns, beside its definition
-use Rattle.std.specs.Prelude.{◌≡◌, ◌||◌, ◌&&◌, ◌==◌, ◌+◌, if◌then◌else◌, ℕ, ℤ, pos, negsuc, ◌-◌, Bool, true, false, List, [], ◌∷◌, length, Option, Some, None, Result, Ok, Err, nat_le, int_lt, unsigned_abs}
+use Rattle.std.specs.Prelude.{◌≡◌, ◌||◌, ◌&&◌, ◌==◌, ◌+◌, if◌then◌else◌, ℕ, ℤ, pos, negsuc, ◌-◌, Bool, true, false, List, [], ◌∷◌, length, Option, Some, None, Result, Ok, Err, nat_le, int_lt, unsigned_abs, ok_or}
 use Rattle.std.specs.List.{list_all}
 use Rattle.std.specs.Cmp.Lexicographic.{pointwise}
 use Rattle.toml.specs.Data.{Data, as_integer, as_str, as_array, Items, no_items, item, Members, get_member}
@@ -30,17 +29,13 @@ abbrev pub Gives : {X Y : Type 0} → (X → Y) → Result X ConfigFault → Res
 Gives see (Ok x) given = given ≡ Ok (see x)
 Gives see (Err fault) given = GivesFault fault given
 
-abbrev pub or_fault : {X : Type 0} → Option X → ConfigFault → Result X ConfigFault
-or_fault None fault = Err fault
-or_fault (Some x) fault = Ok x
-
 -- the value, where it passes
 abbrev pub within_limits : {X : Type 0} → Bool → Key → X → Result X ConfigFault
 within_limits passes key x = if passes then Ok x else Err (Limit key)
 
 -- the value at a key that has to be there
 unfoldable pub value_at : Key → Members → Result Data ConfigFault
-value_at key ms = or_fault (get_member (name_text key.name) ms) (Missing key)
+value_at key ms = ok_or (get_member (name_text key.name) ms) (Missing key)
 
 -- a number below 0, by its size
 abbrev pub minus : ℕ → ℤ
@@ -52,7 +47,7 @@ is_within low high n = if int_lt n low then false else if int_lt high n then fal
 
 unfoldable pub number_in : Key → ℤ → ℤ → Data → Result ℤ ConfigFault
 number_in key low high value = do
-  n ← or_fault (as_integer value) (Kind key)
+  n ← ok_or (as_integer value) (Kind key)
   within_limits (is_within low high n) key n
 
 unfoldable pub number_at : Key → ℤ → ℤ → Members → Result ℤ ConfigFault
@@ -79,7 +74,7 @@ natural_or default key low high ms = do
 unfoldable pub text_at : Key → Members → Result (List ℕ) ConfigFault
 text_at key ms = do
   value ← value_at key ms
-  or_fault (as_str value) (Kind key)
+  ok_or (as_str value) (Kind key)
 
 -- ASCII letters, digits, - or _
 abbrev pub is_in_limits : ℕ → ℕ → ℕ → Bool
@@ -126,6 +121,6 @@ items_list (item d ds) = d ∷ items_list ds
 -- the tables of a part, a number of them from low to high
 unfoldable pub items_in : Part → ℕ → ℕ → Data → Result (List Data) ConfigFault
 items_in part low high value = do
-  items ← or_fault (as_array value) (Kind (record { part = part; index = 0; name = Itself }))
+  items ← ok_or (as_array value) (Kind (record { part = part; index = 0; name = Itself }))
   within_limits (is_in_limits low high (length (items_list items))) (record { part = part; index = 0; name = Itself })
       (items_list items)

@@ -1,6 +1,6 @@
 -- A call replayed on two buffers follows the disk.
-use Rattle.std.proofs.Common.{◌≡◌, ℕ, zero, suc, ◌+◌, Bool, true, ◌&&◌, List, [], ◌∷◌, ◌++◌, length, take, drop, refl, sym, ◌∙◌, ap, subst, rules}
-use Rattle.std.proofs.lemmas.Bool.{and_parts}
+use Rattle.std.proofs.Common.{◌≡◌, ℕ, zero, suc, ◌+◌, true, List, [], ◌∷◌, ◌++◌, length, take, drop, refl, sym, ◌∙◌, ap, subst}
+use Rattle.std.proofs.lemmas.Bool.{and_parts, and_from}
 use Rattle.station.specs.declared.call.Call.{Call}
 use Rattle.station.specs.declared.call.Call.TheVariants.{Other, Write, Sync, Tell}
 use Rattle.station.specs.Station.{Image}
@@ -28,9 +28,6 @@ placed_front calls zero disk placed = refl
 placed_front [] (suc n) disk placed = refl
 placed_front (Other ∷ calls) (suc n) disk placed = placed_front calls n disk placed
 placed_front (Write at bytes ∷ calls) (suc n) disk placed =
-    both _ _ _ placed (λ rest. placed_front calls n (disk_after disk (Write at bytes)) rest)
-  where
-    both : (a b c : Bool) → (a && b) ≡ true → (b ≡ true → c ≡ true) → (a && c) ≡ true
-    both a b c h k = search rules
+    let p = and_parts _ _ placed in and_from _ _ p.0 (placed_front calls n (disk_after disk (Write at bytes)) p.1)
 placed_front (Sync ∷ calls) (suc n) disk placed = placed_front calls n (disk_after disk Sync) placed
 placed_front (Tell line ∷ calls) (suc n) disk placed = placed_front calls n disk placed

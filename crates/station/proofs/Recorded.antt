@@ -1,5 +1,6 @@
 -- One call more joins those of a station in memory.
-use Rattle.std.proofs.Common.{◌≡◌, ◌≤◌, ◌⊎◌, inl, inr, ⊎_elim, ℕ, suc, zero, ◌+◌, Bool, true, false, ◌&&◌, List, [], ◌∷◌, ◌++◌, length, take, IsTrue, Vec, Global, refl, sym, ◌∙◌, ap, subst, arith, append_assoc, length-append, rules}
+use Rattle.std.proofs.Common.{◌≡◌, ◌≤◌, ◌⊎◌, inl, inr, ⊎_elim, ℕ, suc, zero, ◌+◌, Bool, true, false, List, [], ◌∷◌, ◌++◌, length, take, IsTrue, Vec, Global, refl, sym, ◌∙◌, ap, subst, arith, append_assoc, length-append}
+use Rattle.std.proofs.lemmas.Bool.{and_parts, and_from}
 use Rattle.std.proofs.lemmas.List.{take_all, append-nil}
 use Rattle.station.specs.declared.call.Call.{Call}
 use Rattle.station.specs.declared.call.Call.TheVariants.{Other, Write, Sync, Tell}
@@ -31,10 +32,7 @@ pub placed_push : (calls : List Call) (d : Disk) (call : Call) → have_no_gap d
 placed_push [] d call so_far here = here
 placed_push (Other ∷ calls) d call so_far here = placed_push calls d call so_far here
 placed_push (Write at bytes ∷ calls) d call so_far here =
-    both _ _ _ so_far (λ rest. placed_push calls (disk_after d (Write at bytes)) call rest here)
-  where
-    both : (a b c : Bool) → (a && b) ≡ true → (b ≡ true → c ≡ true) → (a && c) ≡ true
-    both a b c h k = search rules
+    let p = and_parts _ _ so_far in and_from _ _ p.0 (placed_push calls (disk_after d (Write at bytes)) call p.1 here)
 placed_push (Sync ∷ calls) d call so_far here = placed_push calls (disk_after d Sync) call so_far here
 placed_push (Tell line ∷ calls) d call so_far here = placed_push calls d call so_far here
 
