@@ -19,6 +19,7 @@ use Rattle.status.specs.declared.status.StoreFault.TheVariants.{NotEmpty}
 use Rattle.status.specs.declared.status.Status.{Status}
 use Rattle.status.specs.declared.status.Status.TheVariants.{Done, Config as BadConfig, Store, Recording, ReadFault, DiskFault, OutOfMemory}
 use Rattle.init_command.specs.Heads.{AreHeads, AreSound, HasFault}
+use Rattle.store_head.specs.declared.setup.TheConstants.{FRONT_LENGTH}
 
 abbrev pub init_line : ℕ → List ℕ
 init_line gauges = codes "init " ++ decimal gauges ++ codes "\n"
@@ -33,7 +34,7 @@ IsNewStore c files image = (heads : List Head) × AreHeads c files heads × (ima
 
 -- too short for a head, without an open ready byte, or the new store
 abbrev pub IsBegun : Config → Files → Image → Type 0
-IsBegun c files image = (length image < 22) ⊎ ((slice_index image 0 ≢ 1) ⊎ IsNewStore c files image)
+IsBegun c files image = (length image < FRONT_LENGTH) ⊎ ((slice_index image 0 ≢ 1) ⊎ IsNewStore c files image)
 
 abbrev pub InMaking : Config → Files → IsMoment
 InMaking c files lines image = IsBegun c files image

@@ -15,6 +15,7 @@ use Rattle.segment_bytes.specs.Decoding.{IsBodyOf}
 use Rattle.segment_bytes.proofs.Lengths.{segment_small}
 use Rattle.segment_store.specs.Image.{ends_after}
 use Rattle.segment_store.specs.Places.{IsNear, IsStep}
+use Rattle.segment_store.specs.declared.filling.TheConstants.{FRAME_LENGTH}
 
 pub near_step : (place next : ℕ) (ends : List ℕ) (p : PartsValue) → p.name.gauge < length ends → IsStep ends place p next
     → IsNear place ends → IsNear next (ends_after ends p)
@@ -35,7 +36,7 @@ near_small place ends n =
 
 -- a stored body, by its samples
 pub step_is : (l : Layout) (g : GridValue) (ends bytes : List ℕ) (at next : ℕ) (p : PartsValue) → IsGrid g → IsBodyOf l g p bytes
-    → p.name.from ≡ get_or ends p.name.gauge 0 → p.name.from < p.name.to → next ≡ at + 37 + length bytes → IsStep ends at p next
+    → p.name.from ≡ get_or ends p.name.gauge 0 → p.name.from < p.name.to → next ≡ at + FRAME_LENGTH + length bytes → IsStep ends at p next
 step_is l g ends bytes at next p grid is joins some e =
     let b = segment_small l g p grid is.segment in
     record {

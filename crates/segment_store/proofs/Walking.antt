@@ -15,6 +15,7 @@ use Rattle.segment_store.specs.declared.damage.Stop.TheVariants as stops
 use Rattle.segment_store.specs.Image.{ends_after}
 use Rattle.segment_store.specs.Resuming.{length_at, Finds, TellsAs, Walks, EndsWalkAs, damaged, more}
 use Rattle.segment_store.specs.Reading.{NoDamage}
+use Rattle.segment_store.specs.declared.filling.TheConstants.{FRAME_LENGTH}
 
 pub on_ok : {E : Type 0} (r : Result (Unit {0}) E) (P : Type 0) → is_err r ≡ false → OnOk r P → P
 on_ok (Ok u) P is h = h
@@ -35,11 +36,11 @@ module _ (lay : Layout) (setup : Setup) (limit limit2 : ℕ) (image image2 : Ima
   moved r f = subst (λ i. Finds lay setup limit i ends at r) same
       (subst (λ l. Finds lay setup l image2 ends at r) limit_same (subst (λ e. Finds lay setup limit2 image2 e at r) ends_same f))
 
-  pub step : (p : PartsValue) (next : ℕ) → Finds lay setup limit2 image2 ends2 at (Ok p) → next ≡ at + length_at image2 at + 37
+  pub step : (p : PartsValue) (next : ℕ) → Finds lay setup limit2 image2 ends2 at (Ok p) → next ≡ at + length_at image2 at + FRAME_LENGTH
       → (r : Result (ℕ × List ℕ) (ℕ × Damage)) → Walks lay setup limit image (index + 1) next (ends_after ends p) r
       → Walks lay setup limit image index at ends r
   step p next f is r w = more gate (moved (Ok p) f) (subst (λ n. Walks lay setup limit image (index + 1) n (ends_after ends p) r) (is
-      ∙ ap (λ i. at + length_at i at + 37) same) w)
+      ∙ ap (λ i. at + length_at i at + FRAME_LENGTH) same) w)
 
   pub stops_here : (W : Result (ℕ × List ℕ) (ℕ × Damage) → Type 0) (see : ℕ × ℕ → ℕ × List ℕ) (stop : Stop)
       → TellsAs (λ (x : SegmentValue × ℕ). parts_of x.0) (Finds lay setup limit2 image2 ends2 at) (Err stop)

@@ -4,10 +4,11 @@ use Rattle.outside.specs.Fault.{CountRose}
 use Rattle.station.specs.Station.{Image, Lines, IsMoment}
 use Rattle.segment_store.specs.declared.fault.InitFault.{InitFault}
 use Rattle.segment_store.specs.declared.fault.InitFault.TheVariants.{NotEmpty, DiskFault, OutOfMemory}
+use Rattle.store_head.specs.declared.setup.TheConstants.{FRONT_LENGTH}
 
 -- too short for a head, without an open ready byte, or these bytes
 abbrev pub IsBegunAs : List ℕ → Image → Type 0
-IsBegunAs bytes c = (length c < 22) ⊎ ((slice_index c 0 ≢ 1) ⊎ (c ≡ bytes))
+IsBegunAs bytes c = (length c < FRONT_LENGTH) ⊎ ((slice_index c 0 ≢ 1) ⊎ (c ≡ bytes))
 
 abbrev pub InInit : Lines → List ℕ → IsMoment
 InInit told bytes lines c = (lines ≡ told) × IsBegunAs bytes c

@@ -13,6 +13,7 @@ use Rattle.segment_store.specs.Held.{AreHeld, ends_of}
 use Rattle.segment_store.specs.Moments.{StoreValue}
 use Rattle.segment_store.specs.Places.{IsNear}
 use Rattle.segment_bytes.specs.declared.layout.TheConstants.{MAX_CLASSES_ONE}
+use Rattle.segment_store.specs.declared.filling.TheConstants.{FRAME_LENGTH}
 
 abbrev pub see_state : State → StoreValue
 see_state s = record { head = see_head s.layout s.head; held = s.held; count = s.count; place = s.place; shut = s.shut }
@@ -20,7 +21,7 @@ see_state s = record { head = see_head s.layout s.head; held = s.held; count = s
 pub record IsKept (s : State) : Type 0 where
   pub near : IsNear s.place (ends_of s.held)
   pub count : s.count ≤ s.place
-  pub room : 37 + max_body s.layout s.head.setup.grid.classes ≤ vec_len s.buf
+  pub room : FRAME_LENGTH + max_body s.layout s.head.setup.grid.classes ≤ vec_len s.buf
   pub gauges : length s.held ≡ length s.head.setup.gains
   pub joined : (bodies : List PartsValue) × AreHeld s.head.setup.grid bodies s.held
   pub narrow : s.layout ≡ One → s.head.setup.grid.classes ≤ MAX_CLASSES_ONE

@@ -23,6 +23,7 @@ use Rattle.segment_store.specs.declared.damage.Damage.{Damage}
 use Rattle.segment_store.specs.declared.damage.Damage.TheVariants as damages
 use Rattle.segment_store.specs.declared.damage.Stop.{Stop}
 use Rattle.segment_store.specs.declared.damage.Stop.TheVariants as stops
+use Rattle.segment_store.specs.declared.filling.TheConstants.{FRAME_LENGTH}
 
 -- the body whose gate stands there: its length, its bytes, its digest
 abbrev pub field_at : Image → ℕ → List ℕ
@@ -45,7 +46,7 @@ pub record IsWhole (limit : ℕ) (image : Image) (at : ℕ) : Type 0 where
   pub field : at + 5 ≤ length image
   pub spelled : to_be_bytes w32 (length_at image at) ≡ field_at image at
   pub within : length_at image at ≤ limit
-  pub reaches : at + length_at image at + 38 ≤ length image
+  pub reaches : at + length_at image at + (FRAME_LENGTH + 1) ≤ length image
 
 -- what these bytes are, where each gauge is held up to its end
 pub data Checks (l : Layout) (setup : Setup) (ends : List ℕ) (bytes kept found : List ℕ) : Result PartsValue Damage →
@@ -71,7 +72,8 @@ pub data Finds (l : Layout) (setup : Setup) (limit : ℕ) (image : Image) (ends 
   no_length : length image < at + 5 → Finds l setup limit image ends at (Err (damages.Cut (length image)))
   too_long : at + 5 ≤ length image → limit < length_at image at
       → Finds l setup limit image ends at (Err (damages.Length (length_at image at)))
-  no_gate : at + 5 ≤ length image → length_at image at ≤ limit → length image < at + length_at image at + 38
+  no_gate : at + 5 ≤ length image → length_at image at ≤ limit
+      → length image < at + length_at image at + (FRAME_LENGTH + 1)
       → Finds l setup limit image ends at (Err (damages.Cut (length image)))
   whole : {r : Result PartsValue Damage} → IsWhole limit image at
       → Checks l setup ends (bytes_at image at) (kept_at image at) (found_at image at) r →
@@ -89,7 +91,7 @@ pub data Walks (l : Layout) (setup : Setup) (limit : ℕ) (image : Image) : ℕ 
   more : {index at : ℕ} {ends : List ℕ} {p : PartsValue} {r : Result (ℕ × List ℕ) (ℕ × Damage)} →
       slice_index image at ≡ 1
       → Finds l setup limit image ends at (Ok p) →
-      Walks l setup limit image (index + 1) (at + length_at image at + 37) (ends_after ends p) r →
+      Walks l setup limit image (index + 1) (at + length_at image at + FRAME_LENGTH) (ends_after ends p) r →
       Walks l setup limit image index at ends r
 
 -- what a call answered is one of these, unless memory ran out or the disk failed

@@ -24,10 +24,14 @@ ghost use Rattle.segment_bytes.specs.Sizes.{max_body, max_body_of};
 ghost use Rattle.segment_bytes.specs.declared.layout.Layout.TheVariants.{One};
 ghost use Rattle.segment_store.specs.Image.{with_length, with_digest};
 ghost use Rattle.segment_bytes.specs.declared.layout.TheConstants.{MAX_CLASSES_ONE};
+ghost use Rattle.segment_store.specs.declared.filling.TheConstants.{FRAME_LENGTH};
 
 use segment::Segment;
 use segment_bytes::{Layout, encode};
 use sha2::{Digest, Sha256};
+
+/// The bytes around a body of a store: its gate, its length and its SHA-256.
+pub const FRAME_LENGTH: usize = 37;
 
 // Writes the digest of the front behind it, and a closed gate.
 fn seal(buf: &mut [u8], n: usize) -> usize
@@ -63,13 +67,13 @@ fn sign(layout: Layout, buf: &mut [u8], segment: &Segment) -> usize
 // Writes what stands behind the gate of a body, and the next gate, closed.
 fn fill(layout: Layout, buf: &mut [u8], segment: &Segment) -> usize
     requires narrow { layout ≡ One → segment.now.grid.classes ≤ MAX_CLASSES_ONE }
-    requires room { 37 + max_body layout segment.now.grid.classes ≤ length buf.old }
+    requires room { FRAME_LENGTH + max_body layout segment.now.grid.classes ≤ length buf.old }
     ensures filled { take result buf.new ≡
         with_digest (body_of layout (parts_of segment.now)) ++ 0 ∷ [] }
-    ensures len { result ≡ 37 + length (body_of layout (parts_of segment.now)) }
-    ensures bound { result ≤ 37 + max_body layout segment.now.grid.classes }
+    ensures len { result ≡ FRAME_LENGTH + length (body_of layout (parts_of segment.now)) }
+    ensures bound { result ≤ FRAME_LENGTH + max_body layout segment.now.grid.classes }
     ensures by_samples { result ≤
-        37 + max_body_of segment.now.grid.classes (segment.now.to - segment.now.from) }
+        FRAME_LENGTH + max_body_of segment.now.grid.classes (segment.now.to - segment.now.from) }
 {
     let n = sign(layout, buf, segment);
     seal(buf, n)
@@ -78,13 +82,13 @@ fn fill(layout: Layout, buf: &mut [u8], segment: &Segment) -> usize
 // The same in a `Vec`.
 pub(crate) fn stage(layout: Layout, buf: &mut Vec<u8>, segment: &Segment) -> usize
     requires narrow { layout ≡ One → segment.now.grid.classes ≤ MAX_CLASSES_ONE }
-    requires room { 37 + max_body layout segment.now.grid.classes ≤ vec_len buf.old }
+    requires room { FRAME_LENGTH + max_body layout segment.now.grid.classes ≤ vec_len buf.old }
     ensures filled { take result buf.new.items ≡
         with_digest (body_of layout (parts_of segment.now)) ++ 0 ∷ [] }
-    ensures len { result ≡ 37 + length (body_of layout (parts_of segment.now)) }
-    ensures bound { result ≤ 37 + max_body layout segment.now.grid.classes }
+    ensures len { result ≡ FRAME_LENGTH + length (body_of layout (parts_of segment.now)) }
+    ensures bound { result ≤ FRAME_LENGTH + max_body layout segment.now.grid.classes }
     ensures by_samples { result ≤
-        37 + max_body_of segment.now.grid.classes (segment.now.to - segment.now.from) }
+        FRAME_LENGTH + max_body_of segment.now.grid.classes (segment.now.to - segment.now.from) }
     ensures same_room { vec_len buf.new ≡ vec_len buf.old }
 {
     fill(layout, buf, segment)

@@ -19,6 +19,7 @@ ghost use Rattle.store_head.specs.Head.{
   front,
   gauge as gauge_bytes,
   gauges as gauges_bytes,
+  start_of,
 };
 ghost use Rattle.store_head.specs.HeadFaults.{
   start_fault,
@@ -31,6 +32,7 @@ ghost use Rattle.segment_store.specs.Opening.{IsHeadAnswer, DiskRose, resume_fau
 ghost use Rattle.segment_store.specs.Quiet.{IsQuiet};
 ghost use Rattle.calibration.specs.declared.limits.TheConstants.{MAX_GAUGES};
 ghost use Rattle.segment_bytes.specs.declared.layout.TheConstants.{MAX_CLASSES_ONE};
+ghost use Rattle.store_head.specs.declared.setup.TheConstants.{FRONT_LENGTH};
 
 use crate::fault::ResumeFault;
 use calibration::{Gain, Gains, Setup};
@@ -39,7 +41,10 @@ use recording::Head;
 use segment_bytes::Layout;
 use station::Station;
 use std::alloc::Global;
-use store_head::{HeadFault, Heads, StoreHead, front_fault, gauge_fault, layout_of, recording_in};
+use store_head::{
+    FRONT_LENGTH, GAUGE_LENGTH, HeadFault, Heads, StoreHead, front_fault, gauge_fault, layout_of,
+    recording_in,
+};
 
 // Bytes are below 256.
 fn fit(bytes: &[u8])
@@ -68,20 +73,21 @@ pub(crate) fn check_front<K: Station>(
     requires size { K.tells → size ≡ length (K.seen station.old) }
     ensures answer { K.tells → IsHeadAnswer result (start_fault setup.now (K.seen station.old)) }
     ensures front { K.tells → IfOk result (λ l.
-        slice_range (K.seen station.old) 0 22 ≡ front l setup.now) }
+        slice_range (K.seen station.old) 0 FRONT_LENGTH ≡ front l setup.now) }
     ensures layout { K.tells → IfOk result (λ l. l ≡ layout_in (K.seen station.old)) }
     ensures narrow { IfOk result (λ l. l ≡ One → setup.now.grid.classes ≤ MAX_CLASSES_ONE) }
-    ensures size { IfOk result (λ l. 23 + 40 * length setup.now.gains ≤ size) }
+    ensures size { IfOk result (λ l.
+        start_of setup.now + 1 ≤ size) }
     ensures disk { DiskRose (K.faults station.old) (K.faults station.new) result }
     ensures later { K.faults station.old ≤ K.faults station.new }
     ensures quiet { K.tells → IsQuiet (K.clock station.old) (K.moments station.old)
         (K.clock station.new) (K.moments station.new) (K.told station.old) (K.told station.new)
         (K.seen station.old) (K.seen station.new) (K.leaves station.old) (K.leaves station.new) }
 {
-    if size < 22 {
+    if size < FRONT_LENGTH as u64 {
         return Err(ResumeFault::NotAStore);
     }
-    let mut bytes = [0u8; 22];
+    let mut bytes = [0u8; FRONT_LENGTH];
     station.read_at(0, &mut bytes)?;
     fit(&bytes);
     match front_fault(setup, size, &bytes) {
@@ -106,8 +112,11 @@ fn read_gauge<K: Station>(station: &mut K, gauge: u16, gain: &Gain) -> Result<He
         (K.seen station.old) (K.seen station.new) (K.leaves station.old) (K.leaves station.new) }
 {
     let _den = gain.den();
-    let mut bytes = [0u8; 40];
-    station.read_at(22 + 40 * gauge as u64, &mut bytes)?;
+    let mut bytes = [0u8; GAUGE_LENGTH];
+    station.read_at(
+        (FRONT_LENGTH + GAUGE_LENGTH * gauge as usize) as u64,
+        &mut bytes,
+    )?;
     fit(&bytes);
     match gauge_fault(gauge, gain, &bytes) {
         Some(fault) => Err(resume_fault_of(fault)),
@@ -125,7 +134,7 @@ pub(crate) fn read_gauges<K: Station>(
     ensures answer { K.tells → IsHeadAnswer result
         (gauges_fault 0 setup.now.gains (K.seen station.old)) }
     ensures bytes { K.tells → IfOk result (λ h.
-        slice_range (K.seen station.old) 22 (22 + 40 * length setup.now.gains)
+        slice_range (K.seen station.old) FRONT_LENGTH (start_of setup.now)
         ≡ gauges_bytes h.heads setup.now.gains) }
     ensures setup { IfOk result (λ h. h.setup ≡ setup.now) }
     ensures gauges { IfOk result (λ h. length h.heads ≡ length setup.now.gains) }

@@ -39,6 +39,7 @@ ghost use Rattle.segment_bytes.specs.declared.layout.TheConstants.{MAX_CLASSES_O
 
 use crate::damage::Stop;
 use crate::fault::ResumeFault;
+use crate::filling::FRAME_LENGTH;
 use crate::heads::{check_front, read_gauges};
 use crate::held::Held;
 use crate::putting::State;
@@ -48,7 +49,7 @@ use outside::Failed;
 use segment_bytes::{Layout, max_body};
 use station::Station;
 use std::alloc::Global;
-use store_head::StoreHead;
+use store_head::{FRONT_LENGTH, GAUGE_LENGTH, StoreHead};
 
 fn fault_of(index: u64, stop: Stop) -> ResumeFault
     ensures fault { result ≡ fault_is index stop }
@@ -127,8 +128,8 @@ fn open_bodies<K: Station>(
     let gauges = head.setup.gains.as_slice().len();
     let limit = max_body(layout, head.setup.grid.classes());
     let mut held = Held::new(alloc, &head.setup.grid, gauges as u16)?;
-    let mut buf = vec![in alloc; 0u8; limit + 37]?;
-    let start = 22 + 40 * gauges as u64;
+    let mut buf = vec![in alloc; 0u8; limit + FRAME_LENGTH]?;
+    let start = (FRONT_LENGTH + GAUGE_LENGTH * gauges) as u64;
     match walk(
         alloc,
         station,

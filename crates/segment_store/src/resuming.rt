@@ -26,9 +26,11 @@ ghost use Rattle.segment_store.specs.Reading.{StartsAt, NoDamage, IsFound};
 ghost use Rattle.segment_store.specs.Places.{IsStep, IsNear};
 ghost use Rattle.std.specs.Int.{w32, to_be_bytes, from_be_bytes};
 ghost use Rattle.segment_bytes.specs.declared.layout.TheConstants.{MAX_CLASSES_ONE};
+ghost use Rattle.segment_store.specs.declared.filling.TheConstants.{FRAME_LENGTH};
 
 use crate::checking::{check, digest_of};
 use crate::damage::{Damage, Stop};
+use crate::filling::FRAME_LENGTH;
 use crate::held::Held;
 use calibration::Setup;
 use outside::Failed;
@@ -67,7 +69,7 @@ fn next_body<K: Station>(
     ensures finds { K.tells → TellsAs (λ x. parts_of x.0)
         (Finds layout setup.now limit (K.seen station.old) (ends_of held.now) at) result }
     ensures gate { K.tells → IfOk result (λ x.
-        x.1 ≡ at + length_at (K.seen station.old) at + 37) }
+        x.1 ≡ at + length_at (K.seen station.old) at + FRAME_LENGTH) }
     ensures ahead { IfOk result (λ x. (at < x.1) × (x.1 < size)) }
     ensures over { IfOk result (λ x. x.0.grid ≡ setup.now.grid) }
     ensures gauge { IfOk result (λ x. x.0.gauge < length held.now) }
@@ -89,7 +91,7 @@ fn next_body<K: Station>(
     if len as usize > limit {
         return Err(Stop::Damaged(Damage::Length(len)));
     }
-    if size - at < len as u64 + 38 {
+    if size - at < len as u64 + (FRAME_LENGTH + 1) as u64 {
         return Err(Stop::Damaged(Damage::Cut { size }));
     }
     let (body, _) = buf.split_at_mut(len as usize);
@@ -98,7 +100,7 @@ fn next_body<K: Station>(
     station.read_at(at + 5 + len as u64, &mut kept)?;
     let found = digest_of(&field, body);
     match check(alloc, layout, setup, held, body, kept, found) {
-        Ok(segment) => Ok((segment, at + 37 + len as u64)),
+        Ok(segment) => Ok((segment, at + FRAME_LENGTH as u64 + len as u64)),
         Err(stop) => Err(stop),
     }
 }

@@ -23,8 +23,9 @@ use Rattle.store_head.specs.declared.fault.Field.{Field}
 use Rattle.store_head.specs.declared.fault.HeadFault.{HeadFault}
 use Rattle.calibration.specs.declared.setup.Setup.{Setup}
 use Rattle.recording.specs.Head.{IsRecorded}
-use Rattle.store_head.specs.Head.{IsSetup, version_of, front, numbers, gauge}
+use Rattle.store_head.specs.Head.{IsSetup, version_of, front, numbers, gauge, gauge_place, start_of}
 use Rattle.store_head.specs.HeadFaults.{number, signed_number, differs, is_version, layout_of, front_fault, gauge_fault, recording_in}
+use Rattle.store_head.specs.declared.setup.TheConstants.{FRONT_LENGTH, GAUGE_LENGTH}
 
 -- ---- tests
 
@@ -135,8 +136,8 @@ one_back v e = by (eqb v 1) refl
 narrow_is : (a : Bool) (n k : ℕ) → not (a && ltb 128 n) ≡ true → a ≡ true → n ≡ k → k ≤ 128
 narrow_is a n k e f g = grind (arith, nat_tests)
 
-pub front_is : (s : Setup) (size : ℕ) (b : List ℕ) → length b ≡ 22 → IsBytes b → front_fault s size b ≡ None
-    → (b ≡ front (layout_of (get_or b 5 0)) s) × (23 + 40 * length s.gains ≤ size) × (layout_of (get_or b 5 0) ≡ One → s.grid.classes ≤ 128)
+pub front_is : (s : Setup) (size : ℕ) (b : List ℕ) → length b ≡ FRONT_LENGTH → IsBytes b → front_fault s size b ≡ None
+    → (b ≡ front (layout_of (get_or b 5 0)) s) × (start_of s + 1 ≤ size) × (layout_of (get_or b 5 0) ≡ One → s.grid.classes ≤ 128)
 front_is s size b long fits none =
     let a = both_none _ _ none in
     let v = both_none _ _ a.1 in
@@ -151,7 +152,7 @@ front_is s size b long fits none =
     let m2 = and_parts _ _ m.1 in
     let d20 : drop 20 b ≡ to_be_bytes w16 s.grid.reference =
     step16 b 20 s.grid.reference (omega (arith, long)) fits (same_number _ _ _ l.1)
-    ∙ ends_here b 22 (to_be_bytes w16 s.grid.reference) long in
+    ∙ ends_here b FRONT_LENGTH (to_be_bytes w16 s.grid.reference) long in
     let d12 = step64 b 12 s.grid.low_kpa (omega (arith, long)) fits (same_of _ _ _ l.0)
     ∙ ap (λ (r : List ℕ). to_be_bytes w64 (cast_unsigned w64 s.grid.low_kpa) ++ r) d20 in
     let d10 = step16 b 10 s.grid.w2 (omega (arith, long)) fits (same_number _ _ _ w.0)
@@ -188,19 +189,20 @@ is_one : (l : Layout) → is_version (version_of l) ≡ true
 is_one One = refl
 is_one Two = refl
 
-whole_true : (l : Layout) (gauges size classes : ℕ) → 23 + 40 * gauges ≤ size → classes < 2 ^ 16 → (l ≡ One → classes ≤ 128)
-    → (leb (23 + 40 * gauges) size && not (eqb (version_of l) 1 && ltb 128 (from_be_bytes w16 (to_be_bytes w16 classes)))) ≡ true
-whole_true l gauges size classes le k narrow = ap (λ n. leb (23 + 40 * gauges) size && not (eqb (version_of l) 1 && ltb 128 n))
+whole_true : (l : Layout) (gauges size classes : ℕ) → gauge_place gauges + 1 ≤ size → classes < 2 ^ 16 → (l ≡ One → classes ≤ 128)
+    → (leb (gauge_place gauges + 1) size && not (eqb (version_of l) 1 && ltb 128 (from_be_bytes w16 (to_be_bytes w16 classes)))) ≡ true
+whole_true l gauges size classes le k narrow = ap (λ n. leb (gauge_place gauges + 1) size && not (eqb (version_of l) 1 && ltb 128 n))
     (from_be_bytes-to_be_bytes_2 classes k) ∙ by l narrow
   where
     below : (n : ℕ) → n ≤ 128 → ltb 128 n ≡ false
     below n h = grind (arith, nat_tests)
 
-    by : (l : Layout) → (l ≡ One → classes ≤ 128) → (leb (23 + 40 * gauges) size && not (eqb (version_of l) 1 && ltb 128 classes)) ≡ true
-    by One h = ap (λ b. leb (23 + 40 * gauges) size && not b) (below classes (h refl)) ∙ ap (λ b. b && true) (le-leb _ _ le)
+    by : (l : Layout) → (l ≡ One → classes ≤ 128)
+        → (leb (gauge_place gauges + 1) size && not (eqb (version_of l) 1 && ltb 128 classes)) ≡ true
+    by One h = ap (λ b. leb (gauge_place gauges + 1) size && not b) (below classes (h refl)) ∙ ap (λ b. b && true) (le-leb _ _ le)
     by Two h = ap (λ b. b && true) (le-leb _ _ le)
 
-pub is_front : (l : Layout) (s : Setup) (size : ℕ) → IsSetup s → (l ≡ One → s.grid.classes ≤ 128) → 23 + 40 * length s.gains ≤ size
+pub is_front : (l : Layout) (s : Setup) (size : ℕ) → IsSetup s → (l ≡ One → s.grid.classes ≤ 128) → start_of s + 1 ≤ size
     → front_fault s size (front l s) ≡ None
 is_front l s size i narrow le =
     let g = i.grid in
@@ -220,12 +222,13 @@ is_front l s size i narrow le =
 
 -- ---- a gauge
 
-pub gauge_is : (g : ℕ) (x : GainValue) (b : List ℕ) → length b ≡ 40 → IsBytes b → gauge_fault g x b ≡ None → b ≡ gauge (recording_in b) x
+pub gauge_is : (g : ℕ) (x : GainValue) (b : List ℕ) → length b ≡ GAUGE_LENGTH → IsBytes b → gauge_fault g x b ≡ None
+    → b ≡ gauge (recording_in b) x
 gauge_is g x b long fits none =
     let a = both_none _ _ none in
     let d = both_none _ _ a.1 in
     let d32 = step64 b 32 x.offset (omega (arith, long)) fits (same_of _ _ _ d.1)
-    ∙ ends_here b 40 (to_be_bytes w64 (cast_unsigned w64 x.offset)) long in
+    ∙ ends_here b GAUGE_LENGTH (to_be_bytes w64 (cast_unsigned w64 x.offset)) long in
     let d28 = step32 b 28 x.den (omega (arith, long)) fits (same_number _ _ _ d.0) ∙ ap (λ (r : List ℕ). to_be_bytes w32 x.den ++ r) d32 in
     let d20 = step64 b 20 x.num (omega (arith, long)) fits (same_of _ _ _ a.0)
     ∙ ap (λ (r : List ℕ). to_be_bytes w64 (cast_unsigned w64 x.num) ++ r) d28 in

@@ -8,8 +8,9 @@ use Rattle.calibration.specs.Gain.{GainValue, IsGain}
 use Rattle.calibration.specs.declared.setup.Setup.{Setup}
 use Rattle.recording.specs.declared.head.Head.{Head}
 use Rattle.recording.specs.Head.{IsRecorded}
-use Rattle.store_head.specs.Head.{HeadValue, front, gauge, gauges, head_of, start_of}
+use Rattle.store_head.specs.Head.{HeadValue, front, gauge, gauges, head_of, start_of, gauge_place}
 use Rattle.store_head.specs.HeadFaults.{gauge_fault, gauge_at, gauges_fault}
+use Rattle.store_head.specs.declared.setup.TheConstants.{FRONT_LENGTH, GAUGE_LENGTH}
 
 -- what stands between two parts
 pub slice_range-middle : (x y z : List ℕ) (i j : ℕ) → i ≡ length x → j ≡ length x + length y → slice_range (x ++ (y ++ z)) i j ≡ y
@@ -41,23 +42,25 @@ slice_more image i j k a b =
     sum_is i j a = omega (arith, a)
 
 pub bytes_more : (image : List ℕ) (hs : List Head) (gains : List GainValue) (h : Head) (g : GainValue) (i : ℕ) → length hs ≡ i
-    → i < length gains → take (i + 1) gains ≡ take i gains ++ g ∷ [] → slice_range image 22 (22 + 40 * i) ≡ gauges hs (take i gains)
+    → i < length gains → take (i + 1) gains ≡ take i gains ++ g ∷ []
+    → slice_range image FRONT_LENGTH (gauge_place i) ≡ gauges hs (take i gains)
     → gauge_at i image ≡ gauge h g
-    → slice_range image 22 (22 + 40 * (i + 1)) ≡ gauges (hs ++ h ∷ []) (take (i + 1) gains)
+    → slice_range image FRONT_LENGTH (gauge_place (i + 1)) ≡ gauges (hs ++ h ∷ []) (take (i + 1) gains)
 bytes_more image hs gains h g i long lt more so_far one =
-    let e : 22 + 40 * (i + 1) ≡ 22 + 40 * i + 40 = omega arith in
+    let e : gauge_place (i + 1) ≡ gauge_place i + GAUGE_LENGTH = omega arith in
     let same : length hs ≡ length (take i gains) = omega (arith, long, lt, length-take i gains) in
-    ap (λ n. slice_range image 22 n) e ∙ slice_more image 22 (22 + 40 * i) (22 + 40 * i + 40) (omega arith) (omega arith)
+    ap (λ n. slice_range image FRONT_LENGTH n) e
+    ∙ slice_more image FRONT_LENGTH (gauge_place i) (gauge_place i + GAUGE_LENGTH) (omega arith) (omega arith)
     ∙ ap (λ (l : List ℕ). l ++ gauge_at i image) so_far ∙ ap (λ (l : List ℕ). gauges hs (take i gains) ++ l) one
     ∙ sym (gauges_more hs (take i gains) h g same) ∙ ap (gauges (hs ++ h ∷ [])) (sym more)
 
 -- the head, from its two parts
-pub head_is : (image : List ℕ) (s : Setup) (h : HeadValue) → h.setup ≡ s → slice_range image 0 22 ≡ front h.layout s
-    → slice_range image 22 (start_of s) ≡ gauges h.heads s.gains → take (start_of s) image ≡ head_of h
+pub head_is : (image : List ℕ) (s : Setup) (h : HeadValue) → h.setup ≡ s → slice_range image 0 FRONT_LENGTH ≡ front h.layout s
+    → slice_range image FRONT_LENGTH (start_of s) ≡ gauges h.heads s.gains → take (start_of s) image ≡ head_of h
 head_is image s h same a b =
     let e : start_of s ≡ start_of s - 0 = omega arith in
-    ap (λ n. take n image) e ∙ slice_more image 0 22 (start_of s) (omega arith) (omega arith)
-    ∙ ap (λ (l : List ℕ). l ++ slice_range image 22 (start_of s)) a ∙ ap (λ (l : List ℕ). front h.layout s ++ l) b
+    ap (λ n. take n image) e ∙ slice_more image 0 FRONT_LENGTH (start_of s) (omega arith) (omega arith)
+    ∙ ap (λ (l : List ℕ). l ++ slice_range image FRONT_LENGTH (start_of s)) a ∙ ap (λ (l : List ℕ). front h.layout s ++ l) b
     ∙ ap (λ (v : Setup). front h.layout v ++ gauges h.heads v.gains) (sym same)
 
 -- so far for the first i gauges, and for one more, which is read from equal lists

@@ -9,17 +9,19 @@ use Rattle.recording.specs.declared.head.Head.{Head}
 use Rattle.segment_bytes.specs.declared.layout.Layout.{Layout}
 use Rattle.segment_bytes.specs.declared.layout.Layout.TheVariants.{One, Two}
 use Rattle.recording.specs.Head.{IsRecorded}
-use Rattle.store_head.specs.Head.{HeadValue, IsHead, version_of, front, numbers, gauge, gauges, head_of, start_of}
+use Rattle.store_head.specs.Head.{HeadValue, IsHead, version_of, front, numbers, gauge, gauges, head_of, start_of, gauge_place}
 use Rattle.store_head.specs.HeadFaults.{front_fault, gauge_fault, gauge_at, gauges_fault, head_fault, layout_in, recording_in}
 use Rattle.lemmas.proofs.Outcomes.{none_both}
 use Rattle.segment_rules.proofs.Chosen.{kept_none}
 use Rattle.store_head.proofs.Faultless.{is_front, is_gauge}
 use Rattle.store_head.proofs.Gauges.{slice_range-middle}
+use Rattle.store_head.specs.declared.setup.TheConstants.{FRONT_LENGTH, GAUGE_LENGTH}
 
-gauge_long : (h : Head) (x : GainValue) → IsRecorded h → length (gauge h x) ≡ 40
+gauge_long : (h : Head) (x : GainValue) → IsRecorded h → length (gauge h x) ≡ GAUGE_LENGTH
 gauge_long h x r = omega (arith, length-append h.id (numbers h x), r.id)
 
-gauges_long : (hs : List Head) (gs : List GainValue) → length hs ≡ length gs → All IsRecorded hs → length (gauges hs gs) ≡ 40 * length gs
+gauges_long : (hs : List Head) (gs : List GainValue) → length hs ≡ length gs → All IsRecorded hs
+    → length (gauges hs gs) ≡ GAUGE_LENGTH * length gs
 gauges_long [] [] e r = refl
 gauges_long (h ∷ hs) (x ∷ gs) e r =
     omega (
@@ -33,15 +35,16 @@ gauges_long [] (x ∷ gs) e r = absurd (omega (arith, e))
 gauges_long (h ∷ hs) [] e r = absurd (omega (arith, e))
 
 gauges_pass : (g : ℕ) (hs : List Head) (gs : List GainValue) (a rest : List ℕ) (image : List ℕ) → image ≡ a ++ (gauges hs gs ++ rest)
-    → length a ≡ 22 + 40 * g → length hs ≡ length gs → All IsRecorded hs → All IsGain gs → gauges_fault g gs image ≡ None
+    → length a ≡ gauge_place g → length hs ≡ length gs → All IsRecorded hs → All IsGain gs → gauges_fault g gs image ≡ None
 gauges_pass g hs [] a rest image is here e r i = refl
 gauges_pass g [] (x ∷ gs) a rest image is here e r i = absurd (omega (arith, e))
 gauges_pass g (h ∷ hs) (x ∷ gs) a rest image is here e r i =
     let long = gauge_long h x (All-head IsRecorded h hs r) in
     let grouped : image ≡ a ++ (gauge h x ++ (gauges hs gs ++ rest)) = is
     ∙ ap (λ (l : List ℕ). a ++ l) (append_assoc (gauge h x) (gauges hs gs) rest) in
-    let at : gauge_at g image ≡ gauge h x = ap (λ (l : List ℕ). slice_range l (22 + 40 * g) (22 + 40 * g + 40)) grouped
-    ∙ slice_range-middle a (gauge h x) (gauges hs gs ++ rest) (22 + 40 * g) (22 + 40 * g + 40) (sym here) (omega (arith, here, long)) in
+    let at : gauge_at g image ≡ gauge h x = ap (λ (l : List ℕ). slice_range l (gauge_place g) (gauge_place g + GAUGE_LENGTH)) grouped
+    ∙ slice_range-middle a (gauge h x) (gauges hs gs ++ rest) (gauge_place g) (gauge_place g + GAUGE_LENGTH) (sym here)
+    (omega (arith, here, long)) in
     let one = is_gauge g h x (All-head IsRecorded h hs r) (All-head IsGain x gs i) in
     let next : image ≡ (a ++ gauge h x) ++ (gauges hs gs ++ rest) = grouped ∙ sym (append_assoc a (gauge h x) (gauges hs gs ++ rest)) in
     none_both _ _ (ap (gauge_fault g x) at ∙ one.0)
@@ -70,10 +73,11 @@ no_fault h rest image is whole some =
     let s = h.setup in
     let l = h.layout in
     let long = head_long h is in
-    let size : 23 + 40 * length s.gains ≤ length image = omega (arith, ap length whole, length-append (head_of h) rest, long, some) in
+    let size : start_of s + 1 ≤ length image = omega (arith, ap length whole, length-append (head_of h) rest, long, some) in
     let grouped : image ≡ front l s ++ (gauges h.heads s.gains ++ rest) = whole ∙ append_assoc (front l s) (gauges h.heads s.gains) rest in
-    let first : slice_range image 0 22 ≡ front l s = ap (take 22) grouped ∙ take_at (front l s) (gauges h.heads s.gains ++ rest) 22 refl in
-    none_both _ _ (none_both _ _ (kept_none _ _ (le-leb 22 (length image) (omega (arith, size))))
+    let first : slice_range image 0 FRONT_LENGTH ≡ front l s = ap (take FRONT_LENGTH) grouped
+    ∙ take_at (front l s) (gauges h.heads s.gains ++ rest) FRONT_LENGTH refl in
+    none_both _ _ (none_both _ _ (kept_none _ _ (le-leb FRONT_LENGTH (length image) (omega (arith, size))))
     (ap (front_fault s (length image)) first ∙ is_front l s (length image) is.setup is.narrow size))
     (gauges_pass 0 h.heads s.gains (front l s) rest image grouped refl is.same is.each is.setup.gains)
 
@@ -93,11 +97,11 @@ heads_told (h ∷ hs) (h2 ∷ hs2) (x ∷ gs) t t2 e e2 r r2 i same =
     let long = gauge_long h x rh in
     let long2 = gauge_long h2 x rh2 in
     let one : gauge h x ≡ gauge h2 x =
-    sym (take_at (gauge h x) (gauges hs gs ++ t) 40 long) ∙ ap (take 40) grouped
-    ∙ take_at (gauge h2 x) (gauges hs2 gs ++ t2) 40 long2 in
+    sym (take_at (gauge h x) (gauges hs gs ++ t) GAUGE_LENGTH long) ∙ ap (take GAUGE_LENGTH) grouped
+    ∙ take_at (gauge h2 x) (gauges hs2 gs ++ t2) GAUGE_LENGTH long2 in
     let rest : gauges hs gs ++ t ≡ gauges hs2 gs ++ t2 =
-    sym (drop_at (gauge h x) (gauges hs gs ++ t) 40 long) ∙ ap (drop 40) grouped
-    ∙ drop_at (gauge h2 x) (gauges hs2 gs ++ t2) 40 long2 in
+    sym (drop_at (gauge h x) (gauges hs gs ++ t) GAUGE_LENGTH long) ∙ ap (drop GAUGE_LENGTH) grouped
+    ∙ drop_at (gauge h2 x) (gauges hs2 gs ++ t2) GAUGE_LENGTH long2 in
     let first : h ≡ h2 = sym (is_gauge 0 h x rh ix).1 ∙ ap recording_in one ∙ (is_gauge 0 h2 x rh2 ix).1 in
     let others = heads_told hs hs2 gs t t2 (omega (arith, e)) (omega (arith, e2)) (All-tail IsRecorded h hs r)
     (All-tail IsRecorded h2 hs2 r2)

@@ -16,6 +16,7 @@ use Rattle.calibration.specs.declared.setup.Setup.{Setup}
 use Rattle.store_head.specs.declared.setup.StoreHead.{StoreHead}
 use Rattle.calibration.specs.declared.limits.TheConstants.{MAX_GAUGES}
 use Rattle.segment_bytes.specs.declared.layout.TheConstants.{MAX_CLASSES_ONE}
+use Rattle.store_head.specs.declared.setup.TheConstants.{FRONT_LENGTH, GAUGE_LENGTH}
 
 -- the layout of the bodies, the setup, and the head of each gauge's recording
 pub record HeadValue : Type 0 where
@@ -75,6 +76,10 @@ pub record IsHead (h : HeadValue) : Type 0 where
 abbrev pub empty_store : HeadValue → List ℕ
 empty_store h = head_of h ++ 0 ∷ []
 
+-- where the bytes of a gauge stand
+abbrev pub gauge_place : ℕ → ℕ
+gauge_place g = FRONT_LENGTH + GAUGE_LENGTH * g
+
 -- the place of the first gate
 abbrev pub start_of : Setup → ℕ
-start_of s = 22 + 40 * length s.gains
+start_of s = gauge_place (length s.gains)

@@ -19,6 +19,8 @@ use Rattle.store_head.specs.declared.fault.HeadFault.{HeadFault}
 use Rattle.store_head.specs.declared.fault.HeadFault.TheVariants.{NotAStore, Version, Differs}
 use Rattle.calibration.specs.declared.setup.Setup.{Setup}
 use Rattle.segment_bytes.specs.declared.layout.TheConstants.{MAX_CLASSES_ONE}
+use Rattle.store_head.specs.declared.setup.TheConstants.{FRONT_LENGTH, GAUGE_LENGTH}
+use Rattle.store_head.specs.Head.{gauge_place}
 
 -- the number at a place
 abbrev pub number : Width → ℕ → List ℕ → ℕ
@@ -48,7 +50,7 @@ layout_in image = layout_of (slice_index image 5)
 -- the size reaches past the head, and version 1 has at most 128 classes
 abbrev pub is_whole : ℕ → ℕ → List ℕ → Bool
 is_whole gauges size b =
-    nat_le (23 + 40 * gauges) size && not ((slice_index b 5 == 1) && nat_lt MAX_CLASSES_ONE (number w16 8 b))
+    nat_le (gauge_place gauges + 1) size && not ((slice_index b 5 == 1) && nat_lt MAX_CLASSES_ONE (number w16 8 b))
 
 abbrev pub grid_fault : GridValue → List ℕ → Option HeadFault
 grid_fault g b =
@@ -73,7 +75,7 @@ gauge_fault g x b =
 
 -- the bytes of gauge g
 abbrev pub gauge_at : ℕ → List ℕ → List ℕ
-gauge_at g image = slice_range image (22 + 40 * g) (22 + 40 * g + 40)
+gauge_at g image = slice_range image (gauge_place g) (gauge_place g + GAUGE_LENGTH)
 
 abbrev pub gauges_fault : ℕ → List GainValue → List ℕ → Option HeadFault
 gauges_fault g [] image = None
@@ -81,7 +83,8 @@ gauges_fault g (x ∷ xs) image = option_or (gauge_fault g x (gauge_at g image))
 
 abbrev pub start_fault : Setup → List ℕ → Option HeadFault
 start_fault s image =
-    option_or (unless (nat_le 22 (length image)) NotAStore) (front_fault s (length image) (slice_range image 0 22))
+    option_or (unless (nat_le FRONT_LENGTH (length image)) NotAStore)
+    (front_fault s (length image) (slice_range image 0 FRONT_LENGTH))
 
 abbrev pub head_fault : Setup → List ℕ → Option HeadFault
 head_fault s image = option_or (start_fault s image) (gauges_fault 0 s.gains image)

@@ -16,12 +16,13 @@ ghost use Rattle.calibration.specs.declared.limits.TheConstants.{MAX_GAUGES};
 
 use crate::fault::{Field, HeadFault};
 use crate::numbers::{i64_in, u16_in, u32_in};
+use crate::setup::{FRONT_LENGTH, GAUGE_LENGTH};
 use calibration::{Gain, Grid, Setup};
 use recording::Head;
 use segment_bytes::{Layout, MAX_CLASSES_ONE};
 
 // Whether the ready byte is open, and the magic bytes stand behind it.
-fn is_store(bytes: &[u8; 22]) -> bool
+fn is_store(bytes: &[u8; FRONT_LENGTH]) -> bool
     ensures { result ≡ is_store_in bytes.now }
 {
     bytes[0] == 1
@@ -49,7 +50,7 @@ fn differs(field: Field, kept: i64, found: i64) -> Option<HeadFault>
     unless(kept == found, HeadFault::Differs { field, kept, found })
 }
 
-fn grid_fault(grid: &Grid, bytes: &[u8; 22]) -> Option<HeadFault>
+fn grid_fault(grid: &Grid, bytes: &[u8; FRONT_LENGTH]) -> Option<HeadFault>
     ensures { result ≡ grid_fault_in grid.now bytes.now }
 {
     let classes = differs(
@@ -74,12 +75,13 @@ fn is_version(version: u8) -> bool
 }
 
 // Whether the size reaches past the head, and version 1 has at most 128 classes.
-fn is_whole(gauges: usize, size: u64, bytes: &[u8; 22]) -> bool
+fn is_whole(gauges: usize, size: u64, bytes: &[u8; FRONT_LENGTH]) -> bool
     requires few { gauges ≤ MAX_GAUGES }
     ensures { result ≡ is_whole_in gauges size bytes.now }
 {
     let classes = u16_in(bytes, 8);
-    23 + 40 * gauges as u64 <= size && !(bytes[5] == 1 && MAX_CLASSES_ONE < classes)
+    (FRONT_LENGTH + GAUGE_LENGTH * gauges + 1) as u64 <= size
+        && !(bytes[5] == 1 && MAX_CLASSES_ONE < classes)
 }
 
 /// The layout of a store's bodies, by its version.
@@ -94,7 +96,7 @@ pub fn layout_of(version: u8) -> Layout
 }
 
 /// The first fault of the front of the head, in the order of the file, with the size of the store.
-pub fn front_fault(setup: &Setup, size: u64, bytes: &[u8; 22]) -> Option<HeadFault>
+pub fn front_fault(setup: &Setup, size: u64, bytes: &[u8; FRONT_LENGTH]) -> Option<HeadFault>
     requires few { length setup.now.gains ≤ MAX_GAUGES }
     ensures { result ≡ front_fault_in setup.now size bytes.now }
 {
@@ -111,7 +113,7 @@ pub fn front_fault(setup: &Setup, size: u64, bytes: &[u8; 22]) -> Option<HeadFau
 }
 
 /// The first fault of the bytes of a gauge.
-pub fn gauge_fault(gauge: u16, gain: &Gain, bytes: &[u8; 40]) -> Option<HeadFault>
+pub fn gauge_fault(gauge: u16, gain: &Gain, bytes: &[u8; GAUGE_LENGTH]) -> Option<HeadFault>
     ensures { result ≡ gauge_fault_in gauge gain.now bytes.now }
 {
     let num = differs(Field::Num(gauge), i64_in(bytes, 20), gain.num());
@@ -125,7 +127,7 @@ pub fn gauge_fault(gauge: u16, gain: &Gain, bytes: &[u8; 40]) -> Option<HeadFaul
 }
 
 /// The head of the recording that the bytes of a gauge name.
-pub fn recording_in(bytes: &[u8; 40]) -> Head
+pub fn recording_in(bytes: &[u8; GAUGE_LENGTH]) -> Head
     ensures { result ≡ recording_in bytes.now }
 {
     let mut id = [0; 16];

@@ -17,5 +17,5 @@ mod writing;
 
 pub use fault::{Field, HeadFault};
 pub use head_faults::{front_fault, gauge_fault, layout_of, recording_in};
-pub use setup::{Heads, StoreHead};
+pub use setup::{FRONT_LENGTH, GAUGE_LENGTH, Heads, StoreHead};
 pub use writing::bytes_of;

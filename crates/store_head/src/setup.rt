@@ -4,6 +4,12 @@ use calibration::Setup;
 use recording::Head;
 use std::marker::Model;
 
+/// The bytes of a store's head before those of its gauges.
+pub const FRONT_LENGTH: usize = 22;
+
+/// The bytes that a store's head has of each gauge.
+pub const GAUGE_LENGTH: usize = 40;
+
 /// The head of a recording for each gauge.
 #[derive(Debug, Drop)]
 pub struct Heads {

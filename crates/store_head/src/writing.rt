@@ -11,12 +11,14 @@ ghost use Rattle.store_head.specs.Head.{
   gauges as gauges_bytes,
   numbers,
   see_head,
+  start_of,
   version_of as version_in,
 };
 ghost use Rattle.calibration.specs.declared.limits.TheConstants.{MAX_GAUGES};
 ghost use Rattle.segment_bytes.specs.declared.layout.TheConstants.{MAX_CLASSES_ONE};
+ghost use Rattle.store_head.specs.declared.setup.TheConstants.{GAUGE_LENGTH};
 
-use crate::setup::StoreHead;
+use crate::setup::{FRONT_LENGTH, StoreHead};
 use calibration::{Gain, Setup};
 use recording::Head;
 use segment_bytes::Layout;
@@ -32,7 +34,7 @@ fn version_of(layout: Layout) -> u8
 }
 
 // The front of the head.
-fn front_of(layout: Layout, setup: &Setup) -> [u8; 22]
+fn front_of(layout: Layout, setup: &Setup) -> [u8; FRONT_LENGTH]
     requires few { length setup.now.gains ≤ MAX_GAUGES }
     ensures bytes { result ≡ front_bytes layout setup.now }
     ensures grid { IsGrid setup.now.grid }
@@ -75,7 +77,7 @@ fn fit(head: &Head)
 fn add_gauge(bytes: &mut Vec<u8>, head: &Head, gain: &Gain) -> Result<(), AllocError>
     ensures items { OnOk result (bytes.new.items ≡
         bytes.old.items ++ gauge_bytes head.now gain.now) }
-    ensures len { OnOk result (length bytes.new.items ≡ length bytes.old.items + 40) }
+    ensures len { OnOk result (length bytes.new.items ≡ length bytes.old.items + GAUGE_LENGTH) }
     ensures head { OnOk result (IsRecorded head.now) }
     ensures gain { OnOk result (IsGain gain.now) }
 {
@@ -92,7 +94,8 @@ pub fn bytes_of(alloc: Global, layout: Layout, head: &StoreHead) -> Result<Vec<u
     requires narrow { layout ≡ One → head.now.setup.grid.classes ≤ MAX_CLASSES_ONE }
     ensures bytes { IfOk result (λ b. b.items ≡ empty_store (see_head layout head.now)) }
     ensures head { IfOk result (λ b. IsHead (see_head layout head.now)) }
-    ensures len { IfOk result (λ b. length b.items ≡ 23 + 40 * length head.now.setup.gains) }
+    ensures len { IfOk result (λ b. length b.items ≡
+        start_of head.now.setup + 1) }
 {
     let heads = head.heads.as_slice();
     let gains = head.setup.gains.as_slice();

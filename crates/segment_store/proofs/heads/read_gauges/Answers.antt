@@ -4,11 +4,12 @@ use Rattle.std.proofs.lemmas.List.{drop_more, take_more}
 use Rattle.std.proofs.lemmas.List.Elements.{All-push}
 use Rattle.calibration.specs.Gain.{IsGain}
 use Rattle.recording.specs.Head.{IsRecorded}
-use Rattle.store_head.specs.Head.{gauge, gauges}
+use Rattle.store_head.specs.Head.{gauge, gauges, gauge_place}
 use Rattle.store_head.specs.HeadFaults.{gauge_fault, gauge_at}
 use Rattle.store_head.proofs.Gauges.{fault_next, bytes_more}
 use Rattle.segment_store.proofs.Quiet.{quiet_then}
 use Rattle.segment_store.proofs.heads.read_gauges.Goals as goal
+use Rattle.store_head.specs.declared.setup.TheConstants.{FRONT_LENGTH}
 
 pub returns-in_err-head-clause-quiet : goal.returns-in_err-head-clause-quiet
 returns-in_err-head-clause-quiet g c tells = quiet_then (c.loop-gain.invariant.quiet tells) (c.read_gauge.ensures.quiet tells)
@@ -43,7 +44,7 @@ loop-gain-preserved g c =
           let same = (v.quiet tells).seen_same in
           let one : gauge_at i image ≡ gauge h x = ap (λ n. gauge_at n image) (sym v.gauge) ∙ ap (gauge_at c.loop-gain.gauge) (sym same)
           ∙ c.in_ok-head.ensures.bytes tells in
-          subst (λ l. slice_range image 22 (22 + 40 * (i + 1)) ≡ gauges l (take (i + 1) gains)) (sym c.in_ok-push.ensures.items)
+          subst (λ l. slice_range image FRONT_LENGTH (gauge_place (i + 1)) ≡ gauges l (take (i + 1) gains)) (sym c.in_ok-push.ensures.items)
           (bytes_more image c.loop-gain.heads.items gains h x i v.count lt more (v.bytes tells) one);
       gains_are = c.in_ok-push-2.ensures.items ∙ ap (λ l. l ++ x ∷ []) v.gains_are ∙ sym more;
       count = search rules;

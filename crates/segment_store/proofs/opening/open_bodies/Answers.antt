@@ -1,7 +1,7 @@
 use Rattle.std.proofs.Common.{◌+◌, ◌*◌, ℕ, List, length, ap, subst, sym, ◌∙◌}
 use Rattle.std.specs.Prelude.{Err, replicate}
 use Rattle.segment_bytes.specs.Sizes.{max_body}
-use Rattle.store_head.specs.Head.{start_of}
+use Rattle.store_head.specs.Head.{start_of, gauge_place}
 use Rattle.segment_store.specs.declared.putting.State.{State}
 use Rattle.segment_store.specs.Held.{ends_of}
 use Rattle.segment_store.specs.Image.{nothing_held}
@@ -16,7 +16,7 @@ returns-in-Ok-clause-walks g c tells =
     let limit = c.max_body-limit.ensures ∙ ap (max_body c.args.layout) c.classes.ensures.value in
     walks_moved c.args.layout s (g.K.Station.seen c.args.station.now) _ (max_body c.args.layout s.grid.classes) _ (start_of s) _
     (nothing_held s) limit
-    (ap (λ n. 22 + 40 * n) count) (c.in_ok-held.ensures.ends ∙ ap (λ n. replicate n 0) count) _ (c.in-Ok.ensures.walks tells)
+    (ap gauge_place count) (c.in_ok-held.ensures.ends ∙ ap (λ n. replicate n 0) count) _ (c.in-Ok.ensures.walks tells)
 
 pub returns-in-Err-clause-walks : goal.returns-in-Err-clause-walks
 returns-in-Err-clause-walks g c tells =
@@ -27,7 +27,7 @@ returns-in-Err-clause-walks g c tells =
     let image = g.K.Station.seen c.args.station.now in
     let see : State → ℕ × List ℕ = λ x. (x.place, ends_of x.held) in
     let see2 : ℕ × ℕ → ℕ × List ℕ = λ x. (x.0, ends_of c.walk.new.held) in
-    let moved = stops_moved c.args.layout s image _ k _ (start_of s) _ (nothing_held s) limit (ap (λ n. 22 + 40 * n) count)
+    let moved = stops_moved c.args.layout s image _ k _ (start_of s) _ (nothing_held s) limit (ap gauge_place count)
     (c.in_ok-held.ensures.ends ∙ ap (λ n. replicate n 0) count) see2 c.in-Err.index c.in-Err.stop (c.in-Err.ensures.walks tells) in
     subst (λ f. WalksAs {X = State} c.args.layout s k image see (Err f)) (sym c.fault_of.ensures.fault)
     (walks_err {X = State} c.args.layout s k image see c.in-Err.index c.in-Err.stop see2 moved)
@@ -39,7 +39,7 @@ returns-in-Err-clause-reads g c tells bodies last gate front rest starts =
     let k = max_body c.args.layout s.grid.classes in
     let limit = c.max_body-limit.ensures ∙ ap (max_body c.args.layout) c.classes.ensures.value in
     let image = g.K.Station.seen c.args.station.now in
-    let moved = starts_moved c.args.layout s image _ k _ (start_of s) _ (nothing_held s) limit (ap (λ n. 22 + 40 * n) count)
+    let moved = starts_moved c.args.layout s image _ k _ (start_of s) _ (nothing_held s) limit (ap gauge_place count)
     (c.in_ok-held.ensures.ends ∙ ap (λ n. replicate n 0) count) bodies last gate front rest starts in
     subst (λ f. IsUnharmed {X = State} (Err f)) (sym c.fault_of.ensures.fault)
     (unharmed_err {X = State} c.args.layout s k image (λ (x : State). (x.place, ends_of x.held)) c.in-Err.index c.in-Err.stop

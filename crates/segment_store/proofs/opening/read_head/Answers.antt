@@ -1,8 +1,9 @@
 use Rattle.std.proofs.Common.{◌≡◌, ◌+◌, ◌*◌, length, slice_range, subst}
-use Rattle.store_head.specs.Head.{see_head, gauges}
+use Rattle.store_head.specs.Head.{see_head, gauges, start_of}
 use Rattle.store_head.proofs.Gauges.{head_is}
 use Rattle.segment_store.proofs.Quiet.{quiet_then}
 use Rattle.segment_store.proofs.opening.read_head.Goals as goal
+use Rattle.store_head.specs.declared.setup.TheConstants.{FRONT_LENGTH}
 
 pub returns-in-Ok-clause-bytes : goal.returns-in-Ok-clause-bytes
 returns-in-Ok-clause-bytes g c tells =
@@ -10,7 +11,7 @@ returns-in-Ok-clause-bytes g c tells =
     let s = c.args.setup.now in
     let h = c.in-Ok.head in
     let same = (c.check_front.ensures.quiet tells).seen_same in
-    let bytes = subst (λ i. slice_range i 22 (22 + 40 * length s.gains) ≡ gauges h.heads s.gains) same (c.in-Ok.ensures.bytes tells) in
+    let bytes = subst (λ i. slice_range i FRONT_LENGTH (start_of s) ≡ gauges h.heads s.gains) same (c.in-Ok.ensures.bytes tells) in
     head_is (k.seen c.args.station.now) s (see_head c.in_ok-layout.layout h) c.in-Ok.ensures.setup
     (c.in_ok-layout.ensures.front tells) bytes
 

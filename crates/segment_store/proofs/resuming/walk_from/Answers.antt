@@ -14,6 +14,7 @@ use Rattle.segment_store.proofs.Nearness.{near_step}
 use Rattle.segment_store.proofs.Quiet.{quiet_starts, quiet_on, quiet_then}
 use Rattle.segment_store.proofs.Walking.{on_ok, gate_is, step, stops_here}
 use Rattle.segment_store.proofs.resuming.walk_from.Goals as goal
+use Rattle.segment_store.specs.declared.filling.TheConstants.{FRAME_LENGTH}
 
 pub bodies-init : goal.bodies-init
 bodies-init g c =
@@ -103,9 +104,10 @@ bodies-preserved g c =
             let more = pass_more c.args.layout setup c.args.limit c.requires.few image c.args.start c.bodies.at (ends_of c.args.held.now)
             (ends_of c.bodies.held) p.0 v is_one finds (p.3 tells) in
             let moved = subst (λ e. HasPassed c.args.layout setup image c.args.start (ends_of c.args.held.now)
-            (c.bodies.at + length_at image c.bodies.at + 37) e (p.0 ++ v ∷ [])) (sym c.join.ensures.ends) more in
+            (c.bodies.at + length_at image c.bodies.at + FRAME_LENGTH) e (p.0 ++ v ∷ [])) (sym c.join.ensures.ends) more in
             subst (λ n. HasPassed c.args.layout setup image c.args.start (ends_of c.args.held.now) n (ends_of c.join.new.self)
-            (p.0 ++ v ∷ [])) (sym (c.in-Ok.ensures.gate tells ∙ ap (λ m. c.bodies.at + length_at m c.bodies.at + 37) image_same)) moved,
+            (p.0 ++ v ∷ []))
+            (sym (c.in-Ok.ensures.gate tells ∙ ap (λ m. c.bodies.at + length_at m c.bodies.at + FRAME_LENGTH) image_same)) moved,
       );
       quiet = λ tells. quiet_then (quiet_on (c.bodies.invariant.quiet tells) (c.read_at.ensures.time tells) (c.read_at.ensures.told tells)
           (c.read_at.ensures.seen tells) (c.read_at.ensures.crash tells).none_new) (c.next_body.ensures.quiet tells);
