@@ -5,5 +5,6 @@ mod Billionths
 mod DetailFits
 pub mod Counted
 pub mod SameCounts
+pub mod RangeSums
 pub mod SegmentFigures
 pub mod Repeats

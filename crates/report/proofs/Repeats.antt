@@ -13,7 +13,7 @@ use Rattle.report.specs.Repeat.{cycle_lines, doubled_at, repeat_line, repeat_tex
 use Rattle.report.proofs.Fitting.{fits_empty, span}
 use Rattle.report.proofs.Lengths.{range_lines-short}
 use Rattle.report.proofs.SameCounts.{range_lines-same}
-use Rattle.report.proofs.SegmentFigures.{counts_at_range}
+use Rattle.report.proofs.RangeSums.{counts_at_range}
 use Rattle.lemmas.proofs.Lists.{length-append-le as appended}
 
 pub few_cycles : (cells : List Cell) (classes : ℕ) → 2 * total_of cells ≤ MAX_FIGURE

@@ -1,20 +1,17 @@
 -- The figures of a segment: how great they are, and that they are those of the samples that it stands for.
 --   few_figures    no number that is printed passes the greatest
 --   figures_stand  where the segment stands for samples, its figures are theirs wherever a number is printed
-use Rattle.std.proofs.Common.{◌≡◌, ℕ, ℤ, zero, suc, ◌+◌, ◌-◌, ◌^◌, ◌<◌, ◌≤◌, ◌==◌, ◌&&◌, if◌then◌else◌, ◌⊎◌, inl, inr, min, max, Bool, true, false, List, [], ◌∷◌, length, ap, ◌∙◌, arith}
-use Rattle.std.specs.Prelude.{nat_lt, nat_le, slice_index}
+use Rattle.std.proofs.Common.{◌≡◌, ℕ, ℤ, ◌-◌, ◌^◌, ◌<◌, ◌≤◌, ◌==◌, ◌&&◌, ◌⊎◌, inl, inr, min, max, List, [], ◌∷◌, length, ap, ◌∙◌, arith}
+use Rattle.std.specs.Prelude.{nat_le, slice_index}
 use Rattle.std.proofs.lemmas.Bool.{cases_lt}
 use Rattle.std.proofs.lemmas.Bool.Decides.{nat_tests}
-use Rattle.std.proofs.lemmas.List.Sums.{sum_by-cons}
 use Rattle.lemmas.proofs.Sums.{get_or-le-sum}
 use Rattle.calibration.specs.Gain.{GainValue}
 use Rattle.calibration.specs.History.{history}
-use Rattle.turning_points.specs.Pairs.{Pair, is_pair}
-use Rattle.three_point.specs.Run.{half_units_at_range, half_units_of_pair}
+use Rattle.three_point.specs.Run.{half_units_of_pair}
 use Rattle.three_point.specs.Sums.{sum_at_range}
-use Rattle.three_point.proofs.Sums.{sum_at_range-added, sum_at_range-le, sum_at_range-zero, sum_at_range-doubled}
-use Rattle.tally.specs.declared.cells.Cell.{Cell}
-use Rattle.tally.specs.Counts.{count_of, pair_of, total_of}
+use Rattle.three_point.proofs.Sums.{sum_at_range-doubled}
+use Rattle.tally.specs.Counts.{count_of}
 use Rattle.residue_join.specs.HalfUnits.{neighbours}
 use Rattle.turning_points.specs.Points.{points}
 use Rattle.level_crossing.specs.Crossings.{crossings}
@@ -25,42 +22,7 @@ use Rattle.segment.specs.Figures.{halves_of}
 use Rattle.segment.proofs.HalfUnits.{count_few, halves_stand, range_parts, range_stands}
 use Rattle.report.specs.Figures.{Agree, AreFew, figures, figures_of}
 use Rattle.report.proofs.Counted.{same_counts}
-
--- one pair is counted at one lower level
-one_lower : (n k h : ℕ) (x : Pair) → (if nat_lt x.lo n then h else 0) + (if is_pair n (n + k) x then h else 0) ≤
-    (if nat_lt x.lo (suc n) then h else 0)
-one_lower n k h x = grind (arith, nat_tests)
-
-at_most : (b : Bool) (h : ℕ) → (if b then h else 0) ≤ h
-at_most true h = omega arith
-at_most false h = omega arith
-
-one_pair : (k n h : ℕ) (x : Pair) → sum_at_range (λ lo hi. if is_pair lo hi x then h else 0) k n ≤ (if nat_lt x.lo n then h else 0)
-one_pair k zero h x = omega arith
-one_pair k (suc n) h x = omega (arith, one_pair k n h x, one_lower n k h x)
-
-pub picked : (b : Bool) (n m : ℕ) → (if b then n else m) ≤ (if b then n else 0) + m
-picked true n m = omega arith
-picked false n m = omega arith
-
-pub counts_at_range : (cells : List Cell) (k n : ℕ) → sum_at_range (count_of cells) k n ≤ total_of cells
-counts_at_range [] k n = omega (arith, sum_at_range-zero k n)
-counts_at_range (c ∷ cells) k n = omega (
-  arith,
-  sum_at_range-le (count_of (c ∷ cells)) (λ lo hi. (if is_pair lo hi (pair_of c) then c.n else 0) + count_of cells lo hi) k n
-      (λ lo hi. picked (is_pair lo hi (pair_of c)) c.n (count_of cells lo hi)),
-  sum_at_range-added (λ lo hi. if is_pair lo hi (pair_of c) then c.n else 0) (count_of cells) k n,
-  one_pair k n c.n (pair_of c),
-  at_most (nat_lt c.lo n) c.n,
-  counts_at_range cells k n,
-  sum_by-cons (λ (d : Cell). d.n) c cells,
-)
-
--- a residue has fewer neighbours than levels
-ranges_few : (k : ℕ) (l : List ℕ) → half_units_at_range k (neighbours l) ≤ length l
-ranges_few k [] = omega arith
-ranges_few k (x ∷ []) = omega arith
-ranges_few k (x ∷ y ∷ l) = omega (arith, ranges_few k (y ∷ l), at_most (k == max x y - min x y) 1)
+use Rattle.report.proofs.RangeSums.{at_most, valley_few, counts_at_range, ranges_few}
 
 pairs_few : (lo hi : ℕ) (l : List ℕ) → half_units_of_pair lo hi (neighbours l) ≤ length l
 pairs_few lo hi [] = omega arith
@@ -69,10 +31,6 @@ pairs_few lo hi (x ∷ y ∷ l) = omega (arith, pairs_few lo hi (y ∷ l), at_mo
 
 open_few : (v : SimpleValue) (k : ℕ) → open_at k v.ends ≤ 1
 open_few v k = grind (arith, nat_tests)
-
-pub valley_few : (b : Bool) (n : ℕ) → (if b then 0 else n) ≤ n
-valley_few true n = omega arith
-valley_few false n = omega arith
 
 module _ (v : SegmentValue) (i : IsSegment v) where
   used_few : v.used ≤ 2 ^ 40
