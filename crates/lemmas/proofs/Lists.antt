@@ -5,15 +5,18 @@
 --   take-append-part, take-append-taken   the front of a buffer that was filled in two steps
 --   longer                           a list with an item more is another list
 --   length-rewritten                 a buffer whose front was written; all_written: one that a slice wrote over
+--   length-append-le, length-cond-le, length-decimal_word   how long a text is at most
 --   get_or-behind, get_or-zeros      places; positive_within: what is past the end is 0
 --   All-reverse, All-of_reverse, each_more     what holds of each item; All-front, All-behind: of a part's
 --   list_all-digits                  the test of each digit of a numeral
 --   below_positive, below_at         lists of numbers below a bound
-use Rattle.std.proofs.Common.{◌≡◌, ◌≢◌, ℕ, zero, suc, ◌+◌, ◌-◌, ◌<◌, ◌≤◌, ◌⊎◌, inl, inr, List, [], ◌∷◌, ◌++◌, length, take, drop, set, get_or, reverse, refl, sym, ap, ◌∙◌, subst, arith, append_assoc, take-append-drop, length-append, get_or-take, get_or-set_same, get_or-set_other, length-take-le, true, slice_index_or, nat_lt, lt-ltb}
+use Rattle.std.proofs.Common.{◌≡◌, ◌≢◌, ℕ, zero, suc, ◌+◌, ◌-◌, ◌<◌, ◌≤◌, ◌⊎◌, inl, inr, List, [], ◌∷◌, ◌++◌, length, take, drop, set, get_or, reverse, refl, sym, ap, ◌∙◌, subst, arith, append_assoc, take-append-drop, length-append, get_or-take, get_or-set_same, get_or-set_other, length-take-le, Bool, true, false, cond, ◌^◌, slice_index_or, nat_lt, lt-ltb}
 use Rattle.std.specs.Prelude.{All, replicate}
 use Rattle.std.specs.List.{list_all}
 use Rattle.std.specs.Char.{digit_value}
 use Rattle.std.specs.Str.Parse.{AllDigits}
+use Rattle.std.specs.Fmt.{decimal}
+use Rattle.std.proofs.lemmas.Fmt.{length-decimal-le}
 use Rattle.std.proofs.lemmas.Bool.{cases_lt}
 use Rattle.std.proofs.lemmas.List.{take_more, take_more_set, take_at, drop-drop, take-append-le, reverse-append, reverse-reverse, get_or-replicate, get_or_past, length-replicate, take_all}
 use Rattle.std.proofs.lemmas.List.Elements.{All-head, All-tail, All-push, All-take, All-drop}
@@ -159,3 +162,14 @@ each_more {A} P xs ys x k is long all here g d lt =
           subst (λ (n : ℕ). P n (slice_index_or (xs ++ x ∷ []) n d)) (sym at)
           (subst (P (length xs)) (sym (get_or-append_seam xs x [] d)) (subst (λ (n : ℕ). P n x) long here))
     ])
+
+-- how long a text of parts is at most
+pub length-append-le : (a b : List ℕ) (m n : ℕ) → length a ≤ m → length b ≤ n → length (a ++ b) ≤ m + n
+length-append-le a b m n x y = omega (arith, length-append a b, x, y)
+
+pub length-cond-le : (b : Bool) (x y : List ℕ) (n : ℕ) → length x ≤ n → length y ≤ n → length (cond b x y) ≤ n
+length-cond-le true x y n p q = p
+length-cond-le false x y n p q = q
+
+pub length-decimal_word : (n : ℕ) → n < 2 ^ 64 → length (decimal n) ≤ 20
+length-decimal_word n small = length-decimal-le 20 n (omega arith) (omega arith) (omega (arith, small))
