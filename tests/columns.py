@@ -231,6 +231,8 @@ def limits(trial):
 
 
 def main():
+    if len(sys.argv) < 2:
+        sys.exit(__doc__.splitlines()[2])
     program = os.path.abspath(sys.argv[1])
     rng = random.Random(int(sys.argv[2]) if len(sys.argv) > 2 else 1)
     runs = int(sys.argv[3]) if len(sys.argv) > 3 else 300

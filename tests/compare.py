@@ -67,6 +67,8 @@ def case_of(rng):
 
 
 def main():
+    if len(sys.argv) < 2:
+        sys.exit(__doc__.splitlines()[2])
     program = os.path.abspath(sys.argv[1])
     seed = int(sys.argv[2]) if len(sys.argv) > 2 else 1
     cases = int(sys.argv[3]) if len(sys.argv) > 3 else 300

@@ -369,6 +369,8 @@ def attempt(program, rng, kept, what):
 
 
 def main():
+    if len(sys.argv) < 2:
+        sys.exit(__doc__.splitlines()[2])
     program = os.path.abspath(sys.argv[1])
     seed = int(sys.argv[2]) if len(sys.argv) > 2 else 1
     runs = int(sys.argv[3]) if len(sys.argv) > 3 else 20000

@@ -203,6 +203,8 @@ def rows(trial):
 
 
 def main():
+    if len(sys.argv) < 2:
+        sys.exit(__doc__.splitlines()[2])
     program = os.path.abspath(sys.argv[1])
     with tempfile.TemporaryDirectory() as room:
         os.chdir(room)

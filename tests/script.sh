@@ -104,6 +104,8 @@ printf 'low:\napart: low\nmonitor_main: low apart\n' >"$top/crates.txt"
 builds 'a changed crates.txt' 1
 printf 'low:\napart: low\nmonitor_main: apart low\n' >"$top/crates.txt"
 builds 'crates that are named in another order' 1
+printf 'low:\napart: low\nmonitor_main may_wait=1: apart low\n' >"$top/crates.txt"
+builds 'a changed attribute in crates.txt' 1
 fresh
 builds 'a fresh checkout' 1
 echo 'fn apart() { }' >"$top/crates/apart/src/lib.rt"
@@ -139,6 +141,13 @@ builds 'a program that cannot be run' 1
 printf '#!/bin/sh\necho another\n' >"$top/crates/monitor_main/out/monitor_main"
 builds 'another program' 1
 check 'without a kit' 'ran|3' "$(run "$bare")"
+DURING='mkdir -p out && printf "#!/no/such/interpreter\n" >out/monitor_main && chmod +x out/monitor_main && exit'
+export DURING
+echo 'fn low() { 5 }' >"$top/crates/low/src/lib.rt"
+check 'a program that the system cannot load' '70' "$(run "$kit")"
+check 'a program that the system cannot load: the last line' "monitor: the system can't run $top/crates/monitor_main/out/monitor_main" \
+    "$(tail -n 1 "$room/told")"
+unset DURING
 
 # its own failures
 echo 'fn low() { 2 }' >"$top/crates/low/src/lib.rt"

@@ -5,7 +5,7 @@
  *   one_pass  the same log, crossings, ranges, peaks and valleys in one pass; sixteen blocks are joined in a board, and that behind the whole
  *   tables    the cycles of a block in a table with a list of its places, two places for each crossing; boards likewise
  *
- * gcc -O2 -o forms bench/src/forms.c && ./forms
+ * mkdir -p bench/build && gcc -O2 -o bench/build/forms bench/src/forms.c && bench/build/forms
  */
 #define main calls_main
 #include "calls.c"

@@ -5,7 +5,7 @@
  * counts. Boards are tables whatever the classes are. For each history, number of units and block it prints the nanoseconds of processor
  * time to the sample of all, of the pushes alone, and their difference, the least of seven.
  *
- * gcc -O2 -o merges bench/src/merges.c && ./merges
+ * mkdir -p bench/build && gcc -O2 -o bench/build/merges bench/src/merges.c && bench/build/merges
  */
 #include <stdint.h>
 #include <stdio.h>

@@ -2,7 +2,7 @@
  * bytes behind the file's end and syncs, and then writes one byte before them and syncs: the body with its digest and the next gate,
  * and the gate that opens.
  *
- * gcc -O2 -o puts bench/src/puts.c && ./puts puts.tmp 20000 61
+ * mkdir -p bench/build && gcc -O2 -o bench/build/puts bench/src/puts.c && bench/build/puts puts.tmp 20000 61
  */
 #define _GNU_SOURCE
 #include <fcntl.h>
@@ -29,11 +29,11 @@ int main(int count, char **words) {
     if (!body || file < 0) return 1;
     memset(body, 7, bytes);
     off_t end = 1;
-    if (pwrite(file, "", 1, 0) != 1 || fdatasync(file)) return 1;
+    if (pwrite(file, "", 1, 0) != 1 || fsync(file)) return 1;
     double start = now();
     for (size_t i = 0; i < puts; i++) {
-        if (pwrite(file, body, bytes, end) != (ssize_t)bytes || fdatasync(file)) return 1;
-        if (pwrite(file, "\1", 1, end - 1) != 1 || fdatasync(file)) return 1;
+        if (pwrite(file, body, bytes, end) != (ssize_t)bytes || fsync(file)) return 1;
+        if (pwrite(file, "\1", 1, end - 1) != 1 || fsync(file)) return 1;
         end += (off_t)bytes;
     }
     printf("%.0f\n", (now() - start) / (double)puts);

@@ -2,7 +2,7 @@
  * the threads are started for it, as for the reading or the counting of a round: one half to a new thread, and that half again. Prints
  * the wall time of the work, and that time over the time of one share, the least of twenty sets of sixty.
  *
- * gcc -O2 -o threads bench/src/threads.c -lpthread && ./threads 4 1000
+ * mkdir -p bench/build && gcc -O2 -o bench/build/threads bench/src/threads.c -lpthread && bench/build/threads 4 1000
  */
 #define _GNU_SOURCE
 #include <pthread.h>

@@ -2,7 +2,7 @@
 // together with it where it is of the same pair. Prints nanoseconds of processor time to the sample, the least of nine, and the
 // entries to the sample, over noise, a walk and a regular load.
 //
-//     gcc -O2 -o together bench/src/together.c && ./together
+//     mkdir -p bench/build && gcc -O2 -o bench/build/together bench/src/together.c && bench/build/together
 #include <stdint.h>
 #include <stdio.h>
 #include <stdlib.h>

@@ -6,7 +6,7 @@ use Rattle.flow.specs.Kept.{Each, NamesAscend}
 use Rattle.flow.specs.Kept.Each.{none}
 use Rattle.flow.specs.Kept.NamesAscend.{empty}
 use Rattle.flow.proofs.Counting.{each_append, each_map, ascends_push, each_cond}
-use Rattle.arrivals.specs.Arrivals.{Round, name_at, fed_to, through, ArrivalsAscend}
+use Rattle.arrivals.specs.Arrivals.{Round, name_at, fed_to, ArrivalsAscend}
 use Rattle.flow.specs.declared.TheConstants.{BLOCKS_PER_WINDOW}
 
 push_cond : (t : Bool) (l : List Name) (m : Name) → NamesAscend l → Each (λ n. n.from < m.from) l → NamesAscend (l ++ cond t (m ∷ []) [])

@@ -6,7 +6,7 @@
 --   start, feeds, counts   a run that begins with the round, and a schedule that places a list
 --   IsDone             nothing is unread, in a ring or counted
 --   ArrivalsAreReached, ReachedAreArrivals, ArrivalsAscend    the laws
-use Rattle.std.specs.Prelude.{◌≡◌, ◌+◌, ◌-◌, ◌*◌, ◌/◌, ◌%◌, ◌<◌, ◌≤◌, ◌&&◌, ℕ, zero, suc, ℤ, List, [], ◌∷◌, ◌++◌, length, min, cond, eqb, ltb}
+use Rattle.std.specs.Prelude.{◌≡◌, ◌+◌, ◌-◌, ◌*◌, ◌/◌, ◌%◌, ◌<◌, ◌≤◌, ◌&&◌, ℕ, zero, suc, ℤ, List, [], ◌∷◌, ◌++◌, length, min, nat_lt, ◌==◌, if◌then◌else◌}
 use Rattle.std.specs.List.{filter}
 use Rattle.segment_rules.specs.declared.name.Name.{Name}
 use Rattle.block_pool.specs.Units.{FilledValue}
@@ -34,21 +34,21 @@ module _ (block workers : ℕ) (r : Round) where
   abbrev pub fed_to : ℕ → ℕ → ℕ → List Name
   fed_to g v zero = []
   fed_to g v (suc k) = fed_to g v k
-      ++ cond (ltb (r.at g + k * block) (length (r.samples g)) && eqb (k % workers) v) (name_at g k ∷ []) []
+      ++ (if nat_lt (r.at g + k * block) (length (r.samples g)) && k % workers == v then name_at g k ∷ [] else [])
 
   abbrev pub worker_of : Name → ℕ
   worker_of n = ((n.from - r.at n.gauge) / block) % workers
 
   -- the names of a gauge that went through a worker
   abbrev pub through : ℕ → ℕ → List Name → List Name
-  through g v l = filter (λ n. eqb n.gauge g && eqb (worker_of n) v) l
+  through g v l = filter (λ n. n.gauge == g && worker_of n == v) l
 
   pub record AreArrivals (gauges : ℕ) (l : List Name) : Type 0 where
     pub known : Each (λ n. n.gauge < gauges) l
     -- each block once, and in order
     pub through : (g v : ℕ) → g < gauges → v < workers → through g v l ≡ fed_to g v BLOCKS_PER_WINDOW
 
-  -- a gauge is read from where it stood, at most 16 blocks
+  -- a gauge is read from where it stood, at most as many blocks as a window has
   pub record IsRound (gauges : ℕ) : Type 0 where
     pub at : (g : ℕ) → r.at g ≤ length (r.samples g)
     pub few : (g : ℕ) → length (r.samples g) ≤ r.at g + BLOCKS_PER_WINDOW * block
@@ -69,7 +69,8 @@ module _ (block workers : ℕ) (r : Round) where
   -- first every Feed, gauge by gauge
   abbrev pub feeds_of : ℕ → ℕ → List Event
   feeds_of g zero = []
-  feeds_of g (suc k) = feeds_of g k ++ cond (ltb (r.at g + k * block) (length (r.samples g))) (Feed g ∷ []) []
+  feeds_of g (suc k) = feeds_of g k
+      ++ (if nat_lt (r.at g + k * block) (length (r.samples g)) then Feed g ∷ [] else [])
 
   abbrev pub feeds : ℕ → List Event
   feeds zero = []

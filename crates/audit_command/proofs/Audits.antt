@@ -11,7 +11,7 @@ use Rattle.calibration.specs.Grid.{GridValue}
 use Rattle.calibration.specs.History.{history}
 use Rattle.three_point.specs.Run.{three_point}
 use Rattle.segment_rules.specs.Parts.{PartsValue}
-use Rattle.report.specs.Counts.{counts_of}
+use Rattle.report.specs.Counts.{kinds_of}
 use Rattle.report.specs.declared.counts.SampleCounts.{SampleCounts}
 use Rattle.segment.specs.Segment.{SegmentValue, IsSegment}
 use Rattle.recount.specs.Compared.{Compares, used_differ, missing_differ, refused_differ, cell_differs, all_same}
@@ -30,13 +30,13 @@ pub audited : (c : Config) (held : List SegmentValue) (w : ℕ → List ℤ) (g 
     (other : Option Difference)
     → segment ≡ slice_index_or held g segment → IsSegment segment → segment.grid ≡ c.setup.grid → IsRecountOf c g found (w g)
     → ((gain : GainValue) (u : List ℤ) → IsRecount segment.grid gain found u
-    → Compares segment (counts_of segment.grid gain u) (three_point (history segment.grid gain u)) other) →
+    → Compares segment (kinds_of segment.grid gain u) (three_point (history segment.grid gain u)) other) →
     AuditsGauge c (IsItem held) w g other
 audited c held w g segment found other is rules grid recount by = (
   segment,
   (is, rules),
   grid,
-  subst (λ (x : GridValue). Compares segment (counts_of x (gain_at c.setup g) (w g))
+  subst (λ (x : GridValue). Compares segment (kinds_of x (gain_at c.setup g) (w g))
       (three_point (history x (gain_at c.setup g) (w g))) other)
       grid
       (by (gain_at c.setup g) (w g) (subst (λ (x : GridValue). IsRecount x (gain_at c.setup g) found (w g)) (sym grid) recount)),

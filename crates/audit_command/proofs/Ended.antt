@@ -10,7 +10,7 @@ use Rattle.calibration.specs.declared.setup.Setup.{Setup}
 use Rattle.calibration.specs.History.{history}
 use Rattle.three_point.specs.Run.{three_point}
 use Rattle.segment_rules.specs.Parts.{PartsValue}
-use Rattle.report.specs.Counts.{counts_of}
+use Rattle.report.specs.Counts.{kinds_of}
 use Rattle.segment_store.specs.Keeps.{bodies_of}
 use Rattle.segment.specs.Segment.{SegmentValue, IsSegment, Stands}
 use Rattle.recount.specs.declared.compare.What.{What}
@@ -37,7 +37,7 @@ use Rattle.status.specs.declared.status.Status.TheVariants.{Done, Usage, Config 
 use Rattle.config_reading.specs.Reading.{MeansAs, IsRefusal}
 use Rattle.status.specs.Printing.{IsPrinting}
 use Rattle.report_command.specs.Printing.{held_of}
-use Rattle.report_command.specs.Answers.{ReadsAs}
+use Rattle.report_command.specs.Answers.{IsStoreOf}
 use Rattle.config_reading.proofs.Refusing.{by_refusal}
 use Rattle.audit_command.specs.Recounted.{IsRecounting}
 use Rattle.audit_command.specs.Audited.{SegmentChoice, IsItem, HasKept, IsStanding, IsOther, AllSame, FindsDifference}
@@ -134,7 +134,7 @@ finds_of c heads meant ends files s is a =
     by_auditing P (λ b. b.1) (λ b. b.1) (by_recounting P (λ g f b. tt) (λ b. tt) (λ b. tt)) (by_other P (λ g w x y b. b.1)) s is a
 
 -- over a store that was read, by the setup of the configuration
-pub answers_over : (c : Config) (image : Image) (files : Files) (r : ReadsAs c.setup image) (s : Status) → IsAuditing s
+pub answers_over : (c : Config) (image : Image) (files : Files) (r : IsStoreOf c.setup image) (s : Status) → IsAuditing s
     → HeldAnswers c r.head.heads (HasKept r.bodies) r.ends files s → MayAnswerOver c image files s
 answers_over c image files r s is a =
     let P : Status → Type 0 = λ x. HeldAnswers c r.head.heads (HasKept r.bodies) r.ends files x → MayAnswerOver c image files x in
@@ -165,7 +165,7 @@ module _ (s : StoreValue) (bodies : List PartsValue) (seen : Image) (leaves : Im
       (subst (λ (x : SegmentValue). Stands x (gain_at s.head.setup g) (take (get_or (ends_of s.held) g 0) (w g))) (sym is.0)
       (held_stand s bodies seen leaves on w (subst (λ (x : Setup). AllStand x w bodies) (sym same) all) g v lt))
 
-  abbrev pub read_as : (setup : Setup) (old : Image) → s.head.setup ≡ setup → seen ≡ old → ReadsAs setup old
+  abbrev pub read_as : (setup : Setup) (old : Image) → s.head.setup ≡ setup → seen ≡ old → IsStoreOf setup old
   read_as setup old of_setup same = record {
     head = s.head;
     bodies = bodies;
@@ -188,7 +188,7 @@ held_complete c heads bodies ends files (Differs g x y z) a opened same r w =
     let other = a.1.2 in
     let none = same g a.1.0 in
     absurd (differ_clash other.0 none.0 (bodies_of g bodies) c.setup.grid
-    (counts_of c.setup.grid (gain_at c.setup g) (held_of (recordings c files).samples ends g))
+    (kinds_of c.setup.grid (gain_at c.setup g) (held_of (recordings c files).samples ends g))
     (three_point (history c.setup.grid (gain_at c.setup g) (held_of (recordings c files).samples ends g)))
     (record { what = x; held = y; found = z }) other.1 none.1 other.2 none.2 other.3 none.3)
 held_complete c heads bodies ends files Usage a opened same r w = absurd a

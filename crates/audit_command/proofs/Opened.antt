@@ -17,7 +17,7 @@ use Rattle.status.specs.declared.status.RecordingFault.TheVariants.{Fewer}
 use Rattle.status.specs.declared.status.Status.{Status}
 use Rattle.status.specs.declared.status.Status.TheVariants as status
 use Rattle.site_lanes.specs.Answers.{FaultOf, GaugeAnswers}
-use Rattle.site_lanes.specs.Opening.{fault_by, fault_of, head_fault, IsBehind, IsOpeningAnswer, status_of}
+use Rattle.site_lanes.specs.Opening.{fault_by, fault_of, head_fault, IsBehind, IsOpeningAnswer, opened_status}
 use Rattle.site_lanes.specs.declared.opening.OpenFault.{OpenFault}
 use Rattle.site_lanes.specs.declared.opening.OpenFault.TheVariants.{Recording, ReadFault}
 use Rattle.site_lanes.proofs.Opened.{gauge_fault, fault_by-none}
@@ -40,7 +40,7 @@ fewer_there None held there e lt = grind (arith, nat_tests)
 
 -- a recording that was opened from its first sample on
 module _ (kept : Head) (held : ℕ) (file left : List ℕ) (g : ℕ) where
-  pub not_opened : (X : Type 0) (fault : OpenFault) (s : Status) → s ≡ status_of g fault
+  pub not_opened : (X : Type 0) (fault : OpenFault) (s : Status) → s ≡ opened_status g fault
       → IsOpeningAnswer (fault_of kept 0 file) (Err fault)
       → SourceAnswers {X = X} (fault_of kept held file) g (Err s)
   not_opened X (Recording f) s is opened = subst (λ (x : Status). SourceAnswers {X = X} (fault_of kept held file) g (Err x)) (sym is)

@@ -9,16 +9,15 @@ use Rattle.std.specs.Prelude.{◌≡◌, ◌<◌, ℕ, List, length, slice_index
 use Rattle.outside.specs.Site.{Files}
 use Rattle.station.specs.Station.{Image}
 use Rattle.recording.specs.declared.head.Head.{Head}
-use Rattle.segment_store.specs.declared.fault.ResumeFault.{ResumeFault}
 use Rattle.site_config.specs.declared.config.Config.{Config}
 use Rattle.site_config.specs.declared.fault.ConfigFault.{ConfigFault}
 use Rattle.recorded.specs.Recorded.{recordings}
 use Rattle.site_lanes.specs.Answers.{AllOpened, FaultOf}
 use Rattle.status.specs.declared.status.Status.{Status}
 use Rattle.status.specs.declared.status.Status.TheVariants.{Done, Config as BadConfig, Store as BadStore, Recording, ReadFault, WriteFault, DiskFault, OutOfMemory, Differs}
-use Rattle.status.specs.Refused.{IsRefused, store_status}
+use Rattle.status.specs.Refused.{IsRefusedAs}
 use Rattle.report_command.specs.Printing.{held_of}
-use Rattle.report_command.specs.Answers.{ReadsAs}
+use Rattle.report_command.specs.Answers.{IsStoreOf}
 use Rattle.audit_command.specs.Audited.{SegmentChoice, HasKept, AllSame, FindsDifference}
 
 -- nothing is wrong with any recording, and the comparison finds this
@@ -39,12 +38,11 @@ HeldAnswers c heads meant ends files (Differs g what held found) =
 HeldAnswers c heads meant ends files status = ⊥
 
 abbrev pub MayAnswerOver : Config → Image → Files → Status → Type 0
-MayAnswerOver c image files (BadStore fault) =
-    (f : ResumeFault) × (store_status f ≡ BadStore fault) × IsRefused c.setup image f
+MayAnswerOver c image files (BadStore fault) = IsRefusedAs c.setup image fault
 MayAnswerOver c image files DiskFault = Unit {0}
 MayAnswerOver c image files OutOfMemory = Unit {0}
 MayAnswerOver c image files status =
-    (r : ReadsAs c.setup image) × HeldAnswers c r.head.heads (HasKept r.bodies) r.ends files status
+    (r : IsStoreOf c.setup image) × HeldAnswers c r.head.heads (HasKept r.bodies) r.ends files status
 
 abbrev pub AuditAnswers : Result Config ConfigFault → Image → Files → Status → Type 0
 AuditAnswers bridge image files (BadConfig fault) = bridge ≡ Err fault
@@ -55,7 +53,7 @@ AuditAnswers bridge image files status = (c : Config) × (bridge ≡ Ok c) × Ma
 -- the recordings begin with samples that were counted as it holds
 abbrev pub IsAudited : Config → Image → Files → Type 0
 IsAudited c image files =
-    (r : ReadsAs c.setup image) × AllOpened c r.head.heads (slice_index r.ends) files (length c.gauges)
+    (r : IsStoreOf c.setup image) × AllOpened c r.head.heads (slice_index r.ends) files (length c.gauges)
     × AllSame c (HasKept r.bodies) (held_of (recordings c files).samples r.ends) (length c.gauges)
 
 abbrev pub IsSound : Result Config ConfigFault → Image → Files → Type 0

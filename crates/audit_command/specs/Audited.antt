@@ -10,7 +10,7 @@ use Rattle.std.specs.Prelude.{◌≡◌, ◌<◌, ℕ, ℤ, List, length, slice_
 use Rattle.calibration.specs.History.{history}
 use Rattle.three_point.specs.Run.{three_point}
 use Rattle.segment_rules.specs.Parts.{PartsValue}
-use Rattle.report.specs.Counts.{counts_of}
+use Rattle.report.specs.Counts.{kinds_of}
 use Rattle.segment.specs.Segment.{SegmentValue, IsSegment, Stands}
 use Rattle.recount.specs.Compared.{Compares}
 use Rattle.recount.specs.declared.compare.Difference.{Difference}
@@ -36,7 +36,7 @@ IsStanding c w g v = Stands v (gain_at c.setup g) (w g)
 -- gauge
 abbrev pub AuditsGauge : Config → SegmentChoice → (ℕ → List ℤ) → ℕ → Option Difference → Type 0
 AuditsGauge c meant w g other = (v : SegmentValue) × meant g v × (v.grid ≡ c.setup.grid) × Compares v
-    (counts_of c.setup.grid (gain_at c.setup g) (w g)) (three_point (history c.setup.grid (gain_at c.setup g) (w g)))
+    (kinds_of c.setup.grid (gain_at c.setup g) (w g)) (three_point (history c.setup.grid (gain_at c.setup g) (w g)))
     other
 
 abbrev pub AllSame : Config → SegmentChoice → (ℕ → List ℤ) → ℕ → Type 0

@@ -1,4 +1,4 @@
-ghost use Rattle.std.specs.Prelude.{◌≡◌, ◌≢◌, ◌≤◌, ◌⊎◌, ◌++◌, [], ◌∷◌, ℕ, ℤ, List, Ok, length};
+ghost use Rattle.std.specs.Prelude.{◌≡◌, ◌≢◌, ◌≤◌, ◌⊎◌, ◌++◌, [], ◌∷◌, ℕ, ℤ, List, Ok};
 ghost use Rattle.outside.specs.Fault.{CountRose};
 ghost use Rattle.segment_store.specs.Holds.{Holds};
 ghost use Rattle.segment_store.specs.Quiet.{IsQuiet};
@@ -8,7 +8,7 @@ ghost use Rattle.site_config.specs.declared.config.Config.{Config};
 ghost use Rattle.site_config.specs.declared.limits.TheConstants.{MAX_NAME_BYTES};
 ghost use Rattle.recorded.specs.Recorded.{recordings};
 ghost use Rattle.recorded.specs.Asked.{AsksFirst, file_names, names_in};
-ghost use Rattle.fault_lines.specs.FaultLine.{fault_line, name_by, name_for};
+ghost use Rattle.fault_lines.specs.FaultLine.{fault_line, name_by};
 ghost use Rattle.fault_lines.specs.Telling.{TellsAtMost};
 ghost use Rattle.status.specs.declared.status.Status.TheVariants.{Done, Usage, ReadFault, WriteFault, DiskFault, OutOfMemory};
 ghost use Rattle.status.specs.Printing.{IsPrinting};

@@ -1,4 +1,4 @@
-ghost use Rattle.std.specs.Prelude.{◌≡◌, ◌<◌, ℕ, ℤ, List, length, slice_index_or, IfSome};
+ghost use Rattle.std.specs.Prelude.{◌≡◌, ◌<◌, ℕ, ℤ, List, length, IfSome};
 ghost use Rattle.site_config.specs.Valid.{IsConfig};
 ghost use Rattle.audit_command.specs.Audited.{IsItem, IsOther, FirstOther};
 ghost use Rattle.audit_command.specs.Recounted.{AreOf, AreOver};

@@ -1,23 +1,4 @@
-ghost use Rattle.std.specs.Prelude.{
-  ◌≡◌,
-  ◌<◌,
-  ◌≤◌,
-  ℕ,
-  ℤ,
-  List,
-  [],
-  ◌∷◌,
-  Some,
-  Err,
-  IfOk,
-  IfErr,
-  OnOk,
-  length,
-  take,
-  slice_index,
-  vec_len,
-  vec_capacity,
-};
+ghost use Rattle.std.specs.Prelude.{◌≡◌, ◌<◌, ◌≤◌, ℤ, List, [], ◌∷◌, Some, Err, IfOk, IfErr, OnOk, length, take, slice_index, vec_len, vec_capacity};
 ghost use Rattle.outside.specs.Fault.{CountRose};
 ghost use Rattle.outside.specs.Site.{Asks};
 ghost use Rattle.recording.specs.Samples.{samples as samples_of};
@@ -28,7 +9,7 @@ ghost use Rattle.site_config.specs.Valid.{IsConfig, file_of};
 ghost use Rattle.recorded.specs.Recorded.{body_in, recordings};
 ghost use Rattle.recorded.specs.Asked.{AsksFirst, file_names};
 ghost use Rattle.site_lanes.specs.Answers.{GaugeAnswers, OpenAnswers};
-ghost use Rattle.site_lanes.specs.Opening.{fault_of, status_of as opened_status_of};
+ghost use Rattle.site_lanes.specs.Opening.{fault_of};
 ghost use Rattle.status.specs.declared.status.Status.TheVariants.{ReadFault};
 ghost use Rattle.audit_command.specs.Recounted.{
   AreRecounts,
@@ -44,7 +25,7 @@ use recording::Head;
 use recount::{Recount, RecountFault, count_again};
 use segment_store::Store;
 use site_config::Config;
-use site_lanes::{OpenFault, open_recording};
+use site_lanes::{open_recording, opened_status};
 use status::{RecordingFault, Status};
 use std::alloc::Global;
 
@@ -156,15 +137,6 @@ fn recount_source<S: Source>(
             Err(fault) => Err(recounted_status(gauge, held, fault)),
         },
         Err(fault) => Err(opened_status(gauge, fault)),
-    }
-}
-
-fn opened_status(gauge: u16, fault: OpenFault) -> Status
-    ensures { result ≡ opened_status_of gauge fault }
-{
-    match fault {
-        OpenFault::Recording(fault) => Status::Recording { gauge, fault },
-        OpenFault::ReadFault => Status::ReadFault,
     }
 }
 

@@ -32,7 +32,7 @@ impl Model for Pool {
 }
 
 impl Pool {
-    ghost use Rattle.block_pool.specs.Units.{PoolValue, BlankValue, CountedValue, IsBlank};
+    ghost use Rattle.block_pool.specs.Units.{PoolValue, BlankValue, IsBlank};
 
     /// A pool of so many blank units, each with `block` places. It takes all memory of the units.
     pub fn new(alloc: Global, units: usize, block: usize, grid: &Grid) -> Result<Pool, OutOfMemory>

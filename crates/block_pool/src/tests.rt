@@ -1,5 +1,3 @@
-ghost use Rattle.std.specs.Prelude.{◌≡◌, IfOk};
-
 use super::*;
 use calibration::{Gain, Grid};
 use std::alloc::Global;

@@ -1,4 +1,4 @@
-ghost use Rattle.std.specs.Prelude.{◌≡◌, ◌+◌, ◌*◌, ◌<◌, ◌≤◌, ◌⊎◌, [], length};
+ghost use Rattle.std.specs.Prelude.{◌≡◌, ◌*◌, ◌<◌, ◌≤◌, ◌⊎◌, [], length};
 ghost use Rattle.std.specs.Bool.{OnTrue};
 ghost use Rattle.tally.specs.Counts.{HasGreatestRoom, total_of};
 ghost use Rattle.calibration.specs.declared.grid.TheConstants.{MAX_CLASSES};
@@ -41,24 +41,34 @@ fn tally_for(alloc: Global, classes: u16, longest: u64) -> Result<Tally, AllocEr
     Tally::new(alloc, classes, room_for(classes, longest))
 }
 
+fn new_units(alloc: Global, plan: &Plan) -> Result<Vec<Unit>, AllocError> {
+    let longest = match plan.form {
+        Form::Table => greatest_room(plan.classes),
+        Form::Log => plan.block as u64,
+    };
+    let mut units = Vec::new(alloc);
+    for _ in 0..plan.units {
+        let reducer = Reducer::new(alloc, plan.classes)?;
+        let tally = tally_for(alloc, plan.classes, longest)?;
+        units.push(Unit { reducer, tally })?;
+    }
+    Ok(units)
+}
+
+fn new_boards(alloc: Global, plan: &Plan) -> Result<Vec<Tally>, AllocError> {
+    let longest = plan.block as u64 * BLOCKS_PER_BOARD as u64;
+    let mut boards = Vec::new(alloc);
+    for _ in 0..plan.units.min(BOARDS) {
+        boards.push(tally_for(alloc, plan.classes, longest)?)?;
+    }
+    Ok(boards)
+}
+
 impl Site {
     /// Takes the memory of the units and boards of a plan.
     pub fn new(alloc: Global, plan: Plan) -> Result<Site, AllocError> {
-        let block = plan.block as u64;
-        let of_unit = match plan.form {
-            Form::Table => greatest_room(plan.classes),
-            Form::Log => block,
-        };
-        let mut units = Vec::new(alloc);
-        for _ in 0..plan.units {
-            let reducer = Reducer::new(alloc, plan.classes)?;
-            let tally = tally_for(alloc, plan.classes, of_unit)?;
-            units.push(Unit { reducer, tally })?;
-        }
-        let mut boards = Vec::new(alloc);
-        for _ in 0..plan.units.min(BOARDS) {
-            boards.push(tally_for(alloc, plan.classes, block * BLOCKS_PER_BOARD as u64)?)?;
-        }
+        let units = new_units(alloc, &plan)?;
+        let boards = new_boards(alloc, &plan)?;
         Ok(Site {
             plan,
             units,

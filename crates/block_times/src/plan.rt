@@ -42,14 +42,26 @@ impl Plan {
     pub fn all(alloc: Global) -> Result<Vec<Plan>, AllocError> {
         let mut plans = Vec::new(alloc);
         for history in [History::Noise, History::Walk] {
-            for units in [1, 512] {
-                for block in [SHORT_BLOCK, MAX_BLOCK] {
-                    push_plans(&mut plans, history, units, block)?;
-                }
-            }
+            push_history(&mut plans, history)?;
         }
         Ok(plans)
     }
+}
+
+// The plans of a history, with one unit and with many.
+fn push_history(plans: &mut Vec<Plan>, history: History) -> Result<(), AllocError> {
+    for units in [1, 512] {
+        push_units(plans, history, units)?;
+    }
+    Ok(())
+}
+
+// The plans of a history and of so many units, with short blocks and with long ones.
+fn push_units(plans: &mut Vec<Plan>, history: History, units: u32) -> Result<(), AllocError> {
+    for block in [SHORT_BLOCK, MAX_BLOCK] {
+        push_plans(plans, history, units, block)?;
+    }
+    Ok(())
 }
 
 // A plan for each number of classes and form. A table for each unit has no place for 1024 classes,

@@ -13,7 +13,7 @@ use Rattle.recording.specs.Samples.{samples}
 use Rattle.recording.proofs.SampleLists.{samples-drop}
 use Rattle.lane_ends.specs.declared.end.End.{End}
 use Rattle.lane_ends.specs.declared.end.End.TheVariants.{More}
-use Rattle.lane_ends.specs.Ends.{Gives}
+use Rattle.lane_ends.specs.Ends.{IsRead}
 use Rattle.lane_ends.proofs.Giving.{gives_more, gives_wider, gives_none}
 use Rattle.flow.specs.Flow.{name_of_samples}
 use Rattle.gauge_ring.specs.declared.feeder.Feeder.{Feeder}
@@ -23,13 +23,22 @@ use Rattle.block_workers.specs.declared.item.Item.{Item}
 use Rattle.block_workers.specs.declared.item.Item.TheVariants.{Mark}
 use Rattle.block_workers.specs.declared.desk.Desk.{Desk}
 use Rattle.block_workers.specs.Dealing.{block_of, blocks_of_worker, FeedsOneRing, MarksAll}
-use Rattle.block_workers.specs.Reading.{IsUnit, AreBlocks, AreWhole, samples_of, SameDesk, IsReady, NoBlock, OneBlock, OneRead, IsReadSoFar, most, WholeSoFar, BlocksOfRound, ReadDone}
+use Rattle.block_workers.specs.Reading.{IsUnit, AreBlocks, samples_of, SameDesk, IsReady, NoBlock, OneBlock, OneRead, IsReadSoFar, most, BlocksOfRound, ReadDone}
 use Rattle.block_workers.specs.Reading.AreBlocks.{none, last, more}
-use Rattle.block_workers.specs.Reading.AreWhole.{empty, whole}
 use Rattle.block_workers.specs.Jobs.{NotRead}
 use Rattle.gauge_ring.proofs.Ends.{same_feeders}
 use Rattle.lemmas.proofs.Lists.{all_written}
 use Rattle.flow.specs.declared.TheConstants.{BLOCKS_PER_WINDOW}
+
+-- whole blocks one after another
+pub data AreWhole (d : Desk) : ℕ → List FilledValue → ℕ → Type 0 where
+  empty : {a : ℕ} → AreWhole d a [] a
+  whole : {a b : ℕ} {u : FilledValue} {us : List FilledValue} → IsUnit d a (a + d.block) u → AreWhole d (a + d.block) us b
+      → AreWhole d a (u ∷ us) b
+
+-- so many of them were read, and more may follow
+abbrev pub WholeSoFar : Desk → Desk → ℕ → List FilledValue → Type 0
+WholeSoFar old new n us = (length us ≡ n) × AreWhole old old.at us new.at × (new.end ≡ More)
 
 pub unit_is : (d : Desk) (n : ℕ) (kind : GridValue) (buf out : List ℤ) (u : FilledValue)
     → u ≡ record {
@@ -163,19 +172,19 @@ fits_from a b l h f = subst (λ k. All (IsBlank k a.grid) l) h.block (subst (λ 
 -- what was given so far, and then for one block
 extend_gives : (left_old left_mid left_new : List ℕ) (old mid new : Desk) (number : ℕ) → SameDesk old mid
     → mid.at ≡ old.at + number * old.block → mid.end ≡ More → mid.at ≤ new.at
-    → Gives (number * old.block) (most old) left_old (mid.at - old.at) mid.end left_mid
-    → Gives mid.block (most mid) left_mid (new.at - mid.at) new.end left_new
-    → Gives (number * old.block + old.block) (most old) left_old (new.at - old.at) new.end left_new
+    → IsRead (number * old.block) (most old) left_old (mid.at - old.at) mid.end left_mid
+    → IsRead mid.block (most mid) left_mid (new.at - mid.at) new.end left_new
+    → IsRead (number * old.block + old.block) (most old) left_old (new.at - old.at) new.end left_new
 extend_gives left_old left_mid left_new old mid new number s at still up g k =
     let m = number * old.block in
     let same : mid.at - old.at ≡ m = omega (arith, at) in
     let left_most : most mid ≡ most old - m = omega (arith, at) in
-    let here : Gives old.block (most old - m) left_mid (new.at - mid.at) new.end left_new =
-    subst (λ l. Gives old.block l left_mid (new.at - mid.at) new.end left_new) left_most
-    (subst (λ b. Gives b (most mid) left_mid (new.at - mid.at) new.end left_new) s.block k) in
+    let here : IsRead old.block (most old - m) left_mid (new.at - mid.at) new.end left_new =
+    subst (λ l. IsRead old.block l left_mid (new.at - mid.at) new.end left_new) left_most
+    (subst (λ b. IsRead b (most mid) left_mid (new.at - mid.at) new.end left_new) s.block k) in
     let sum : m + (new.at - mid.at) ≡ new.at - old.at = omega (arith, at, up) in
     let few = g.few in
-    subst (λ n. Gives (m + old.block) (most old) left_old n new.end left_new) sum
+    subst (λ n. IsRead (m + old.block) (most old) left_old n new.end left_new) sum
     (gives_more m old.block (most old) (new.at - mid.at) left_old left_mid left_new new.end (let a = few.2 in
     omega (arith, a, same)) (let a = few.1 in omega (arith, a, same)) (g.left still) here)
 
@@ -197,7 +206,7 @@ whole_at old mid number us h = let e : mid.at ≡ old.at + length us * old.block
 -- one block more
 pub one_more : (tells : Type 0) (left_old left_mid left_new : List ℕ) (old mid new : Desk) (number : ℕ) (P : List FilledValue → Type 0) →
     (r : IsReadSoFar tells left_old left_mid old mid (number * old.block) (WholeSoFar old mid number)) → SameDesk mid new
-    → new.at ≤ MAX_SAMPLES → (tells → Gives mid.block (most mid) left_mid (new.at - mid.at) new.end left_new)
+    → new.at ≤ MAX_SAMPLES → (tells → IsRead mid.block (most mid) left_mid (new.at - mid.at) new.end left_new)
     → (o : OneBlock tells left_mid mid new number) → P (r.units ++ o.unit ∷ [])
     → IsReadSoFar tells left_old left_new old new (number * old.block + old.block) P
 one_more tells left_old left_mid left_new old mid new number P r s limit k o p =
@@ -229,7 +238,7 @@ one_more tells left_old left_mid left_new old mid new number P r s limit k o p =
 -- nothing more
 pub no_more : (tells : Type 0) (left_old left_mid left_new : List ℕ) (old mid new : Desk) (number : ℕ) (Q : List FilledValue → Type 0) →
     (r : IsReadSoFar tells left_old left_mid old mid (number * old.block) (WholeSoFar old mid number)) → SameDesk mid new
-    → new.at ≤ MAX_SAMPLES → (tells → Gives mid.block (most mid) left_mid (new.at - mid.at) new.end left_new) → NoBlock mid new → Q r.units
+    → new.at ≤ MAX_SAMPLES → (tells → IsRead mid.block (most mid) left_mid (new.at - mid.at) new.end left_new) → NoBlock mid new → Q r.units
     → IsReadSoFar tells left_old left_new old new (number * old.block + old.block) Q
 no_more tells left_old left_mid left_new old mid new number Q r s limit k o q = record {
   same = same_desk old mid new r.same s;
@@ -248,7 +257,7 @@ no_more tells left_old left_mid left_new old mid new number Q r s limit k o q = 
 
 -- the same reading, of which as many samples were wanted
 wanting : (tells : Type 0) (left_old left_new : List ℕ) (old new : Desk) (a b : ℕ) (P : List FilledValue → Type 0)
-    → IsReadSoFar tells left_old left_new old new a P → (tells → Gives b (most old) left_old (new.at - old.at) new.end left_new)
+    → IsReadSoFar tells left_old left_new old new a P → (tells → IsRead b (most old) left_old (new.at - old.at) new.end left_new)
     → IsReadSoFar tells left_old left_new old new b P
 wanting tells left_old left_new old new a b P r g =
     record {
@@ -286,7 +295,7 @@ whole_step tells left_old left_mid left_new old mid new number answer sure r o =
 
 done_or : (tells : Type 0) (left_old left_mid left_new : List ℕ) (old mid new : Desk) (number : ℕ) → number < BLOCKS_PER_WINDOW
     → IsReadSoFar tells left_old left_mid old mid (number * old.block) (WholeSoFar old mid number) → SameDesk mid new → new.at ≤ MAX_SAMPLES
-    → (tells → Gives mid.block (most mid) left_mid (new.at - mid.at) new.end left_new)
+    → (tells → IsRead mid.block (most mid) left_mid (new.at - mid.at) new.end left_new)
     → (NoBlock mid new ⊎ OneBlock tells left_mid mid new number)
     → IsReadSoFar tells left_old left_new old new (number * old.block + old.block) (BlocksOfRound old new)
 done_or tells left_old left_mid left_new old mid new number few r s limit k (inl n) =
@@ -320,7 +329,7 @@ done_all tells left_old left_new old new number few r = record {
   later = r.later;
   units = r.units;
   samples = r.samples;
-  gives = λ t. subst (λ n. Gives (n * old.block) (most old) left_old (new.at - old.at) new.end left_new) few (r.gives t);
+  gives = λ t. subst (λ n. IsRead (n * old.block) (most old) left_old (new.at - old.at) new.end left_new) few (r.gives t);
   fed = r.fed;
   ends = r.ends;
   blanks = r.blanks;
@@ -340,9 +349,9 @@ none_yet tells l d h =
       units = [];
       are = (refl, empty, h.end);
       samples = λ t. sym (ap (λ n. take n (samples l)) zero_at);
-      gives = λ t. subst (λ w. Gives w (most d) l (d.at - d.at) d.end l) none_wanted
-          (subst (λ e. Gives 0 (most d) l (d.at - d.at) e l) (sym h.end)
-          (subst (λ n. Gives 0 (most d) l n More l) (sym zero_at) (gives_none (most d) l)));
+      gives = λ t. subst (λ w. IsRead w (most d) l (d.at - d.at) d.end l) none_wanted
+          (subst (λ e. IsRead 0 (most d) l (d.at - d.at) e l) (sym h.end)
+          (subst (λ n. IsRead 0 (most d) l n More l) (sym zero_at) (gives_none (most d) l)));
       fed = λ v e m. sym (append-nil (fed (get_or d.feeders.items v e)));
       ends = λ v e m. search rules;
       blanks = omega arith;
@@ -372,8 +381,8 @@ marked tells left_old left_new old mid new r s at end b m = record {
   few = r.are.0;
   blocks = subst (AreBlocks old old.at r.units) (sym at) r.are.1;
   samples = λ t. r.samples t ∙ ap (λ a. take (a - old.at) (samples left_old)) (sym at);
-  gives = λ t. subst (λ e. Gives (BLOCKS_PER_WINDOW * old.block) (most old) left_old (new.at - old.at) e left_new) (sym end)
-      (subst (λ a. Gives (BLOCKS_PER_WINDOW * old.block) (most old) left_old (a - old.at) mid.end left_new) (sym at) (r.gives t));
+  gives = λ t. subst (λ e. IsRead (BLOCKS_PER_WINDOW * old.block) (most old) left_old (new.at - old.at) e left_new) (sym end)
+      (subst (λ a. IsRead (BLOCKS_PER_WINDOW * old.block) (most old) left_old (a - old.at) mid.end left_new) (sym at) (r.gives t));
   fed = λ v d h. m.marked v d (omega (arith, h, r.same.feeders, mid.feeders.ok.0)) ∙ ap (λ l. l ++ Mark ∷ []) (r.fed v d h)
       ∙ append_assoc (fed (get_or old.feeders.items v d)) (map block_of (blocks_of_worker (vec_len old.feeders) v 0 r.units)) (Mark ∷ []);
   ends = λ v d h. same_feeders (get_or old.feeders.items v d) (get_or mid.feeders.items v d) (get_or new.feeders.items v d) (r.ends v d h)
@@ -399,8 +408,8 @@ pub no_both : (b : Bool) → b ≡ true → b ≡ false → ⊥
 no_both b e f = let x : suc zero ≡ zero = ap (λ t. cond t 1 0) (sym e ∙ f) in omega (arith, x)
 
 -- the same numbers, written otherwise
-pub gives_as : (a b m n k : ℕ) (before after : List ℕ) (e : End) → a ≡ b → n ≡ k → Gives a m before n e after → Gives b m before k e after
-gives_as a b m n k before after e p q g = subst (λ x. Gives b m before x e after) q (subst (λ x. Gives x m before n e after) p g)
+pub gives_as : (a b m n k : ℕ) (before after : List ℕ) (e : End) → a ≡ b → n ≡ k → IsRead a m before n e after → IsRead b m before k e after
+gives_as a b m n k before after e p q g = subst (λ x. IsRead b m before x e after) q (subst (λ x. IsRead x m before n e after) p g)
 
 pub written_blank : (b : ℕ) (g kind : GridValue) (old out : List ℤ) → length out ≡ length old → length old ≡ b → kind ≡ g
     → IsBlank b g (record { buffer = buffer_after_loan old out; grid = kind })

@@ -1,5 +1,5 @@
 -- What goes through the rings of a round.
-use Rattle.std.specs.Prelude.{◌≡◌, ◌+◌, ◌%◌, ◌<◌, ℕ, List, [], ◌∷◌, ◌++◌, length, map, cond, eqb, slice_index_or}
+use Rattle.std.specs.Prelude.{◌≡◌, ◌+◌, ◌%◌, ◌<◌, ℕ, List, [], ◌∷◌, ◌++◌, length, map, ◌==◌, if◌then◌else◌, slice_index_or}
 use Rattle.gauge_ring.specs.declared.feeder.Feeder.{Feeder}
 use Rattle.gauge_ring.specs.Ends.{fed, IsSameFeeder}
 use Rattle.block_pool.specs.Units.{FilledValue}
@@ -16,8 +16,8 @@ round_of us = map block_of us ++ Mark ∷ []
 -- of the blocks of a lane, numbered from k, those of a worker
 abbrev pub blocks_of_worker : ℕ → ℕ → ℕ → List FilledValue → List FilledValue
 blocks_of_worker workers v k [] = []
-blocks_of_worker workers v k (u ∷ us) = cond (eqb (k % workers) v) (u ∷ blocks_of_worker workers v (k + 1) us)
-    (blocks_of_worker workers v (k + 1) us)
+blocks_of_worker workers v k (u ∷ us) = if k % workers == v then u ∷ blocks_of_worker workers v (k + 1) us
+    else blocks_of_worker workers v (k + 1) us
 
 -- one of the rings was fed these items, and the others nothing
 pub record FeedsOneRing (old new : List (Feeder Item)) (v : ℕ) (items : List Item) : Type 0 where

@@ -5,7 +5,7 @@ use Rattle.recording.specs.declared.TheConstants.{MAX_SAMPLES}
 use Rattle.flow.specs.declared.TheConstants.{BLOCKS_PER_WINDOW}
 use Rattle.recording.specs.Samples.{samples}
 use Rattle.lane_ends.specs.declared.end.End.TheVariants.{More}
-use Rattle.lane_ends.specs.Ends.{Gives}
+use Rattle.lane_ends.specs.Ends.{IsRead}
 use Rattle.flow.specs.Flow.{name_of_samples}
 use Rattle.gauge_ring.specs.declared.feeder.Feeder.{Feeder}
 use Rattle.gauge_ring.specs.Ends.{fed, IsSameFeeder}
@@ -77,17 +77,10 @@ pub record OneRead (tells : Type 0) (left_old left_new : List ℕ) (old new : De
     (answer : Bool) : Type 0 where
   pub same : SameDesk old new
   pub limit : new.at ≤ MAX_SAMPLES
-  pub gives : tells → Gives old.block (most old) left_old (new.at - old.at) new.end left_new
+  pub gives : tells → IsRead old.block (most old) left_old (new.at - old.at) new.end left_new
   pub did : NoBlock old new ⊎ OneBlock tells left_old old new number
   pub whole : answer ≡ true → OneBlock tells left_old old new number × (new.at ≡ old.at + old.block) × (new.end ≡ More)
   pub ended : answer ≡ false → new.end ≢ More
-
--- whole blocks one after another
-pub data AreWhole (d : Desk) : ℕ → List FilledValue → ℕ → Type 0 where
-  empty : {a : ℕ} → AreWhole d a [] a
-  whole : {a b : ℕ} {u : FilledValue} {us : List FilledValue} → IsUnit d a (a + d.block) u →
-      AreWhole d (a + d.block) us b
-      → AreWhole d a (u ∷ us) b
 
 -- what was read and dealt so far, of so many samples that were wanted: blocks as P says
 pub record IsReadSoFar (tells : Type 0) (left_old left_new : List ℕ) (old new : Desk) (wanted : ℕ) (P : List FilledValue
@@ -98,7 +91,7 @@ pub record IsReadSoFar (tells : Type 0) (left_old left_new : List ℕ) (old new 
   pub units : List FilledValue
   pub are : P units
   pub samples : tells → samples_of units ≡ take (new.at - old.at) (samples left_old)
-  pub gives : tells → Gives wanted (most old) left_old (new.at - old.at) new.end left_new
+  pub gives : tells → IsRead wanted (most old) left_old (new.at - old.at) new.end left_new
   pub fed : (v : ℕ) (d : Feeder Item) → v < vec_len old.feeders
       → fed (slice_index_or new.feeders.items v d)
       ≡ fed (slice_index_or old.feeders.items v d) ++ map block_of (blocks_of_worker (vec_len old.feeders) v 0 units)
@@ -106,9 +99,6 @@ pub record IsReadSoFar (tells : Type 0) (left_old left_new : List ℕ) (old new 
       → IsSameFeeder (slice_index_or old.feeders.items v d) (slice_index_or new.feeders.items v d)
   pub blanks : vec_len new.blanks + length units ≡ vec_len old.blanks
   pub fit : All (IsBlank old.block old.grid) new.blanks.items
-
-abbrev pub WholeSoFar : Desk → Desk → ℕ → List FilledValue → Type 0
-WholeSoFar old new n us = (length us ≡ n) × AreWhole old old.at us new.at × (new.end ≡ More)
 
 abbrev pub BlocksOfRound : Desk → Desk → List FilledValue → Type 0
 BlocksOfRound old new us = (length us ≤ BLOCKS_PER_WINDOW) × AreBlocks old old.at us new.at
@@ -120,7 +110,7 @@ pub record ReadDone (tells : Type 0) (left_old left_new : List ℕ) (old new : D
   pub few : length units ≤ BLOCKS_PER_WINDOW
   pub blocks : AreBlocks old old.at units new.at
   pub samples : tells → samples_of units ≡ take (new.at - old.at) (samples left_old)
-  pub gives : tells → Gives (BLOCKS_PER_WINDOW * old.block) (most old) left_old (new.at - old.at) new.end left_new
+  pub gives : tells → IsRead (BLOCKS_PER_WINDOW * old.block) (most old) left_old (new.at - old.at) new.end left_new
   pub fed : (v : ℕ) (d : Feeder Item) → v < vec_len old.feeders
       → fed (slice_index_or new.feeders.items v d)
       ≡ fed (slice_index_or old.feeders.items v d) ++ round_of (blocks_of_worker (vec_len old.feeders) v 0 units)

@@ -115,6 +115,25 @@ fn settle_one<C: Source>(worker: &mut Worker, g: usize, reader: &mut Reader<C>, 
     worker.takers[g].settle(&mut reader.desk.feeders[v]);
 }
 
+// Looks at both ends of each of a worker's rings.
+fn settle_worker<C: Source>(worker: &mut Worker, v: usize, readers: &mut [Reader<C>])
+    requires takers { length readers.old ≤ vec_len worker.old.takers }
+    requires feeders { (g : ℕ) (d : _) → g < length readers.old
+        → v < vec_len (slice_index_or readers.old g d).desk.feeders }
+    requires rings { (g : ℕ) (d : _) → g < length readers.old
+        → RingAt worker.old (slice_index_or readers.old g d) g v }
+    ensures worker { SameWork worker.old worker.new }
+    ensures long { length readers.new ≡ length readers.old }
+    ensures readers { (g : ℕ) (d : _)
+        → SameRead (slice_index_or readers.old g d) (slice_index_or readers.new g d) }
+    ensures fifo { (g : ℕ) (d : _) → g < length readers.old
+        → Fifo worker.old (slice_index_or readers.old g d) g v }
+{
+    for g in 0..readers.len() {
+        settle_one(worker, g, &mut readers[g], v);
+    }
+}
+
 /// Looks at both ends of each ring, when nobody feeds or takes. What was fed is what was taken and
 /// what is left.
 pub fn settle_all<C: Source>(workers: &mut [Worker], readers: &mut [Reader<C>])
@@ -130,8 +149,6 @@ pub fn settle_all<C: Source>(workers: &mut [Worker], readers: &mut [Reader<C>])
     ensures fifo { AllFifo workers.old readers.old }
 {
     for v in 0..workers.len() {
-        for g in 0..readers.len() {
-            settle_one(&mut workers[v], g, &mut readers[g], v);
-        }
+        settle_worker(&mut workers[v], v, readers);
     }
 }

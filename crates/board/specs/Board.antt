@@ -58,7 +58,7 @@ pub record IsRow (block : ℕ) (grid : GridValue) (gauge : ℕ) (r : Row) : Type
       (slice_index_or r.slots k d).from < (slice_index_or r.slots k d).to →
       (slice_index_or r.slots j d).to < (slice_index_or r.slots k d).from
 
--- a block of a window of 16 blocks
+-- a block of a window that begins at `start`
 pub record IsBlockOf (block gauges : ℕ) (start : ℕ) (n : Name) : Type 0 where
   pub known : n.gauge < gauges
   pub some : n.from < n.to

@@ -2,7 +2,9 @@
 --   IsEmpty, IsNextTo   a segment of no samples; one that goes on where another ends
 --   IsCopy, IsJoin      a place after a segment was copied to it, or joined behind it
 --   Before              the last place up to one at which an interval begins
---   CopiesToPlace, JoinsToPlace, JoinsPlaces, TouchesNext, ClosesGapAt   the steps
+--   IsEmptied           a place after what it had was joined to another
+--   CopiesToPlace, JoinsToPlace, JoinsPlaces, ClosesGapAt   the steps
+--   TouchesNext, TouchesNone   whether the interval at a place begins where another ends
 --   CanPlace            a block of the row
 --   AllStand            each place stands for what it names
 --   PlacesSegment, FindsDouble, IsPlacing   a segment was placed, or an interval has its first sample

@@ -2,14 +2,14 @@ ghost use Rattle.std.specs.Prelude.{◌≡◌};
 ghost use Rattle.calibration.specs.Level.{reading_of};
 
 use crate::classifier::{shift_of, stress_above};
-use crate::{Gain, Grid, Reading, STEP_KPA};
+use crate::{Gain, Grid, MISSING, Reading, STEP_KPA};
 
 /// What a raw value is by a gain and a grid. It divides once; for many values prepare a
 /// `Classifier`.
 pub fn level(gain: &Gain, grid: &Grid, raw: i32) -> Reading
     ensures { result ≡ reading_of gain.now grid.now raw }
 {
-    if raw == i32::MIN {
+    if raw == MISSING {
         return Reading::Missing;
     }
     let den = gain.den();

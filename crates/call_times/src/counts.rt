@@ -1,6 +1,6 @@
 ghost use Rattle.std.specs.Prelude.{◌≡◌, ◌≤◌, ◌<◌, ◌^◌, All, IfOk, IsTrue, length, ℕ};
 ghost use Rattle.turning_points.specs.Points.{points};
-ghost use Rattle.level_crossing.specs.Crossings.{count_at};
+ghost use Rattle.level_crossing.specs.Crossings.{crossing_count};
 ghost use Rattle.call_times.specs.Counts.{SameGrid};
 
 use crate::digest::Digest;
@@ -134,7 +134,7 @@ fn crossings_digest(crossings: &Crossings, grid: &Grid) -> u64
 // The crossings of levels that come one at a time; one that the grid doesn't have is left out.
 fn crossings_of(alloc: Global, grid: &Grid, levels: &[u16]) -> Result<Crossings, AllocError>
     requires { length levels.now ≤ 2 ^ 20 }
-    ensures few { IfOk result (λ s. (l : ℕ) → count_at s l ≤ 2 ^ 20) }
+    ensures few { IfOk result (λ s. (l : ℕ) → crossing_count s l ≤ 2 ^ 20) }
     ensures grid { IfOk result (λ s. s.classes ≡ grid.now.classes) }
 {
     let mut crossings = Crossings::new(alloc, grid)?;

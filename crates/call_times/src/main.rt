@@ -52,15 +52,26 @@ fn show_counts<R: CpuClock + AllocGlobal + Print>(rt: &R, is_timed: bool) -> io:
         return Ok(());
     };
     for signal in Signal::ALL {
-        let levels = levels_of(rt.alloc(), signal, LEVELS)?;
-        for count in Count::ALL {
-            let digest = counted_by(rt.alloc(), count, &grid, &levels)?;
-            if is_timed {
-                let hundredths = time_of_count(rt, count, &grid, &levels)?;
-                println!(rt; "{count}_{signal} {digest} {hundredths}")?;
-            } else {
-                println!(rt; "{count}_{signal} {digest}")?;
-            }
+        show_counts_of(rt, is_timed, &grid, signal)?;
+    }
+    Ok(())
+}
+
+// Each way to count over one signal.
+fn show_counts_of<R: CpuClock + AllocGlobal + Print>(
+    rt: &R,
+    is_timed: bool,
+    grid: &Grid,
+    signal: Signal,
+) -> io::Result<()> {
+    let levels = levels_of(rt.alloc(), signal, LEVELS)?;
+    for count in Count::ALL {
+        let digest = counted_by(rt.alloc(), count, grid, &levels)?;
+        if is_timed {
+            let hundredths = time_of_count(rt, count, grid, &levels)?;
+            println!(rt; "{count}_{signal} {digest} {hundredths}")?;
+        } else {
+            println!(rt; "{count}_{signal} {digest}")?;
         }
     }
     Ok(())
@@ -92,17 +103,28 @@ fn show_segments<R: CpuClock + AllocGlobal + Print>(rt: &R, is_timed: bool) -> i
         return Ok(());
     };
     for signal in Signal::ALL {
-        let raws = raws_of(rt.alloc(), &levels_of(rt.alloc(), signal, MANY_SAMPLES)?)?;
-        for way in Way::ALL {
-            let few = &raws[..raws.len().min(way.samples() as usize)];
-            let mut maker = Maker::new(rt.alloc(), way, &grid)?;
-            let digest = maker.make(few);
-            if is_timed {
-                let hundredths = time_of_segment(rt, &mut maker, few)?;
-                println!(rt; "{way}_{signal} {digest} {hundredths}")?;
-            } else {
-                println!(rt; "{way}_{signal} {digest}")?;
-            }
+        show_segments_of(rt, is_timed, &grid, signal)?;
+    }
+    Ok(())
+}
+
+// Each way to make a segment, over one signal.
+fn show_segments_of<R: CpuClock + AllocGlobal + Print>(
+    rt: &R,
+    is_timed: bool,
+    grid: &Grid,
+    signal: Signal,
+) -> io::Result<()> {
+    let raws = raws_of(rt.alloc(), &levels_of(rt.alloc(), signal, MANY_SAMPLES)?)?;
+    for way in Way::ALL {
+        let few = &raws[..raws.len().min(way.samples() as usize)];
+        let mut maker = Maker::new(rt.alloc(), way, grid)?;
+        let digest = maker.make(few);
+        if is_timed {
+            let hundredths = time_of_segment(rt, &mut maker, few)?;
+            println!(rt; "{way}_{signal} {digest} {hundredths}")?;
+        } else {
+            println!(rt; "{way}_{signal} {digest}")?;
         }
     }
     Ok(())

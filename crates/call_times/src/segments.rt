@@ -207,11 +207,15 @@ fn take_level(digest: &mut Digest, whole: &Segment, level: u16) {
     digest.take(whole.ranges(level));
 }
 
+fn take_levels(digest: &mut Digest, whole: &Segment) {
+    for level in 1..whole.grid().classes() {
+        take_level(digest, whole, level);
+    }
+}
+
 fn digest(whole: &Segment) -> u64 {
     let mut digest = Digest::new();
-    for level in 1..whole.grid().classes() {
-        take_level(&mut digest, whole, level);
-    }
+    take_levels(&mut digest, whole);
     for &level in whole.residue() {
         digest.take(u64::from(level));
     }

@@ -110,6 +110,14 @@ looked_more b c d p q r olds nows v x y l at h k = by k.came
       deposited = deposited_more b c d p q r h.units n.unit h.deposited n.stepped;
     }
 
+-- the board and the pool have one grid still
+pub looked_grid : (c d : BoardValue) (q r : PoolValue) (x y : Return) → LooksAtRing c d q r x y → c.grid ≡ q.grid → d.grid ≡ r.grid
+looked_grid c d q r x y k e = by k.came
+  where
+    by : (NoUnit c d q r x y ⊎ OneUnit c d q r x y) → d.grid ≡ r.grid
+    by (inl n) = ap (λ (z : BoardValue). z.grid) n.board ∙ e ∙ sym (ap (λ (z : PoolValue). z.grid) n.pool)
+    by (inr n) = n.stepped.board.grid ∙ e ∙ sym n.stepped.pool.grid
+
 pub all_came : (b c : BoardValue) (p q : PoolValue) (olds news : List Return) → IsCollectedSoFar b c p q olds news
     → ((v : ℕ) (d : Return) → v < length news → (get_or news v d).awaited ≡ false) → IsCollected b c p q olds news
 all_came b c p q olds news h all = record {

@@ -3,6 +3,7 @@
 --   LooksAtRing       one look at a return ring
 --   UnitsCameSoFar    the units that came from a ring so far, and behind them the mark, where the round has ended
 --   IsCollectedSoFar  what came from all rings so far: a mix of the workers' units, deposited in this order
+--   CollectsMore      what was collected before, and what came since
 --   IsCollected       the same where the mark of each ring came
 use Rattle.std.specs.Prelude.{◌≡◌, ◌⊎◌, ◌<◌, ℕ, List, [], ◌∷◌, ◌++◌, length, map, slice_index_or, true, false}
 use Rattle.gauge_ring.specs.Ends.{taken, IsSameTaker}
@@ -50,6 +51,11 @@ pub record IsCollectedSoFar (b c : BoardValue) (p q : PoolValue) (old now : List
   pub units : List CountedValue
   pub mixed : IsMixOf (length old) lists units
   pub deposited : DepositsUnits b c p q units
+
+-- of whatever beginning
+abbrev pub CollectsMore : BoardValue → BoardValue → PoolValue → PoolValue → List Return → List Return → Type 0
+CollectsMore c d q r before now = (b : BoardValue) (p : PoolValue) (old : List Return) →
+    IsCollectedSoFar b c p q old before → IsCollectedSoFar b d p r old now
 
 pub record IsCollected (b c : BoardValue) (p q : PoolValue) (old new : List Return) : Type 0 where
   pub long : length new ≡ length old

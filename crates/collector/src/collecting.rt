@@ -1,5 +1,5 @@
 ghost use Rattle.std.specs.Prelude.{◌≡◌, ◌<◌, ℕ, length, slice_index_or, true, false};
-ghost use Rattle.collector.specs.Collecting.{AllAwaited, LooksAtRing, IsCollected};
+ghost use Rattle.collector.specs.Collecting.{AllAwaited, LooksAtRing, CollectsMore, IsCollected};
 
 use block_pool::{Counted, Pool};
 use block_workers::Back;
@@ -40,6 +40,19 @@ fn look(board: &mut Board, pool: &mut Pool, back: &mut Return) -> bool
     }
 }
 
+// Looks once at each return ring, in turn. Answers whether anything came.
+fn look_at_all(board: &mut Board, pool: &mut Pool, returns: &mut [Return]) -> bool
+    requires grid { board.old.grid ≡ pool.old.grid }
+    ensures more { CollectsMore board.old board.new pool.old pool.new returns.old returns.new }
+    ensures grid { board.new.grid ≡ pool.new.grid }
+{
+    let mut came = false;
+    for v in 0..returns.len() {
+        came |= look(board, pool, &mut returns[v]);
+    }
+    came
+}
+
 // Whether the mark of each ring was taken.
 fn all_marked(returns: &[Return]) -> bool
     ensures { result ≡ true → (v : ℕ) (d : _) → v < length returns.now
@@ -64,11 +77,7 @@ pub fn collect<R: Wait>(rt: &R, board: &mut Board, pool: &mut Pool, returns: &mu
         if all_marked(returns) {
             return;
         }
-        let mut came = false;
-        for v in 0..returns.len() {
-            came |= look(board, pool, &mut returns[v]);
-        }
-        if !came {
+        if !look_at_all(board, pool, returns) {
             thread::yield_now();
         }
     }

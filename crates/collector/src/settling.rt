@@ -1,4 +1,4 @@
-ghost use Rattle.std.specs.Prelude.{◌≡◌, ◌<◌, ◌≤◌, ℕ, length, slice_index_or};
+ghost use Rattle.std.specs.Prelude.{◌≡◌, ◌<◌, ℕ, length, slice_index_or};
 ghost use Rattle.collector.specs.Settling.{ReturnAt, AllReturns, SameFeeding, IsStillAwaited, BackFifo};
 
 use crate::Return;
@@ -7,7 +7,7 @@ use block_workers::Worker;
 // Looks at both ends of one return ring.
 fn settle_return(back: &mut Return, worker: &mut Worker)
     requires ring { ReturnAt worker.old back.old }
-    ensures back { IsStillAwaited back.old back.new }
+    ensures awaited { IsStillAwaited back.old back.new }
     ensures worker { SameFeeding worker.old worker.new }
     ensures fifo { BackFifo worker.old back.old }
 {

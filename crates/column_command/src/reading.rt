@@ -19,7 +19,7 @@ pub(crate) fn read_text<S: Source>(alloc: Global, src: &mut S) -> Result<Vec<u8>
     ensures few { IfOk result (λ text. length text.items ≤ MAX_FILE_BYTES) }
     ensures long { S.tells → result ≡ Err TooLong → MAX_FILE_BYTES < length (S.left src.old) }
     ensures refusal { IfErr result IsTextRefusal }
-    ensures fault { result ≡ Err ReadFault → CountRose (S.faults src.old) (S.faults src.new) }
+    ensures cause { result ≡ Err ReadFault → CountRose (S.faults src.old) (S.faults src.new) }
     ensures later { S.faults src.old ≤ S.faults src.new }
 {
     let mut piece = piece(alloc)?;
@@ -40,7 +40,7 @@ fn read_by<S: Source>(alloc: Global, src: &mut S, piece: &mut [u8]) -> Result<Ve
     ensures few { IfOk result (λ text. length text.items ≤ MAX_FILE_BYTES) }
     ensures long { S.tells → result ≡ Err TooLong → MAX_FILE_BYTES < length (S.left src.old) }
     ensures refusal { IfErr result IsTextRefusal }
-    ensures fault { result ≡ Err ReadFault → CountRose (S.faults src.old) (S.faults src.new) }
+    ensures cause { result ≡ Err ReadFault → CountRose (S.faults src.old) (S.faults src.new) }
     ensures later { S.faults src.old ≤ S.faults src.new }
 {
     let mut text = Vec::new(alloc);

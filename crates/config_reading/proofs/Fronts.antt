@@ -1,17 +1,15 @@
 -- The front that was read means what the whole means: it is the whole, or both are too long.
-use Rattle.std.proofs.Common.{◌≡◌, ◌+◌, ◌<◌, ◌≤◌, ◌⊎◌, inl, inr, ◌++◌, ℕ, Bool, true, false, List, [], length, length-append, take, min, refl, sym, ap, ◌∙◌, subst, arith}
-use Rattle.std.specs.Prelude.{Result, Ok, Err, nat_lt}
+use Rattle.std.proofs.Common.{◌≡◌, ◌+◌, ◌<◌, ◌≤◌, ◌⊎◌, inl, inr, ◌++◌, ℕ, Bool, true, List, [], length, length-append, take, min, refl, sym, ap, ◌∙◌, arith}
+use Rattle.std.specs.Prelude.{Err, nat_lt}
 use Rattle.std.proofs.lemmas.List.{length-take-le, take_all}
 use Rattle.std.proofs.Math.Seq.{take-append_seam}
 use Rattle.std.proofs.lemmas.Bool.{cases_lt}
 use Rattle.std.proofs.lemmas.Bool.Decides.{nat_tests}
-use Rattle.site_config.specs.declared.config.Config.{Config}
 use Rattle.site_config.specs.declared.fault.ConfigFault.{ConfigFault}
 use Rattle.site_config.specs.declared.fault.ConfigFault.TheVariants.{TooLong}
 use Rattle.site_config.specs.declared.limits.TheConstants.{MAX_BYTES}
 use Rattle.site_config.specs.Configuration.{config_of_bytes}
-use Rattle.config_reading.specs.Reading.{IsFront, MeansAs}
-use Rattle.status.specs.declared.status.Status.{Status}
+use Rattle.config_reading.specs.Reading.{IsFront}
 
 too_long : (bytes : List ℕ) → MAX_BYTES < length bytes → config_of_bytes bytes ≡ Err TooLong
 unfolding config_of_bytes

@@ -33,7 +33,7 @@ use Rattle.count_command.specs.Printed.{AllStandFor, Prints}
 use Rattle.segment_store.specs.Opening.{Resumes}
 use Rattle.segment_store.specs.declared.fault.ResumeFault.{ResumeFault}
 use Rattle.segment_store.specs.declared.fault.ResumeFault.TheVariants as fault
-use Rattle.count_command.specs.Answer.{ReadsAs, EndAnswers, RunAnswers, IsEnding, IsRunning, IsCounting, MayAnswerOver, CountAnswers}
+use Rattle.count_command.specs.Answer.{HoldsEach, EndAnswers, RunAnswers, IsEnding, IsRunning, IsCounting, MayAnswerOver, CountAnswers}
 use Rattle.store_head.specs.Head.{HeadValue}
 use Rattle.site_config.specs.declared.fault.ConfigFault.{ConfigFault}
 use Rattle.status.specs.declared.status.Status.{Status}
@@ -289,7 +289,7 @@ pub written_back : {A : Type 0} (xs ys : List A) (n : ℕ) → length xs ≡ n �
 written_back xs ys n long same = all_written xs ys n (sym long) (same ∙ sym long)
 
 -- over a store that was found
-pub answers_over : (c : Config) (image : Image) (files : Files) (h : HeadValue) (n : List ℕ) → ReadsAs c.setup h n image → (s : Status) →
+pub answers_over : (c : Config) (image : Image) (files : Files) (h : HeadValue) (n : List ℕ) → HoldsEach c.setup h n image → (s : Status) →
     IsRunning s → RunAnswers c h.heads (slice_index n) files s → MayAnswerOver c image files s
 answers_over c image files h n found Done is a = (h, (n, found, a))
 answers_over c image files h n found WriteFault is a = (h, (n, found, a))

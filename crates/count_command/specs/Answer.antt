@@ -14,14 +14,13 @@ use Rattle.calibration.specs.declared.setup.Setup.{Setup}
 use Rattle.segment_rules.specs.Parts.{PartsValue}
 use Rattle.store_head.specs.Head.{HeadValue}
 use Rattle.segment_store.specs.Image.{Reads}
-use Rattle.segment_store.specs.declared.fault.ResumeFault.{ResumeFault}
 use Rattle.site_config.specs.declared.config.Config.{Config}
 use Rattle.site_config.specs.declared.fault.ConfigFault.{ConfigFault}
 use Rattle.site_config.specs.Valid.{file_of}
 use Rattle.recorded.specs.Recorded.{body_in}
 use Rattle.status.specs.declared.status.Status.{Status}
 use Rattle.status.specs.declared.status.Status.TheVariants.{Done, Config as BadConfig, Store as BadStore, Recording, Torn, ReadFault, WriteFault, DiskFault, OutOfMemory, TooLong}
-use Rattle.status.specs.Refused.{IsRefused, store_status}
+use Rattle.status.specs.Refused.{IsRefusedAs}
 use Rattle.site_lanes.specs.Answers.{FaultOf, AllOpened, AllSound, end_of}
 
 -- the recording of a gauge ends so, and those of the gauges below it end soundly
@@ -49,19 +48,18 @@ RunAnswers c heads n files OutOfMemory = Unit {0}
 RunAnswers c heads n files status = AllOpened c heads n files (length c.gauges) × EndAnswers c files status
 
 -- an image reads as a store of this setup, which holds so many samples of each gauge
-pub record ReadsAs (setup : Setup) (head : HeadValue) (n : List ℕ) (image : Image) : Type 0 where
+pub record HoldsEach (setup : Setup) (head : HeadValue) (n : List ℕ) (image : Image) : Type 0 where
   pub of_setup : head.setup ≡ setup
   pub bodies : List PartsValue
   pub reads : Reads head bodies n image
 
 abbrev pub MayAnswerOver : Config → Image → Files → Status → Type 0
-MayAnswerOver c image files (BadStore fault) =
-    (f : ResumeFault) × (store_status f ≡ BadStore fault) × IsRefused c.setup image f
+MayAnswerOver c image files (BadStore fault) = IsRefusedAs c.setup image fault
 MayAnswerOver c image files ReadFault = Unit {0}
 MayAnswerOver c image files DiskFault = Unit {0}
 MayAnswerOver c image files OutOfMemory = Unit {0}
 MayAnswerOver c image files status =
-    (h : HeadValue) × ((n : List ℕ) × ReadsAs c.setup h n image × RunAnswers c h.heads (slice_index n) files status)
+    (h : HeadValue) × ((n : List ℕ) × HoldsEach c.setup h n image × RunAnswers c h.heads (slice_index n) files status)
 
 abbrev pub CountAnswers : Result Config ConfigFault → Image → Files → Status → Type 0
 CountAnswers bridge image files (BadConfig fault) = bridge ≡ Err fault

@@ -7,7 +7,7 @@ ghost use Rattle.site_config.specs.Configuration.{config_of_bytes};
 ghost use Rattle.site_config.specs.declared.config.Config.{Config};
 ghost use Rattle.recorded.specs.Recorded.{recordings};
 ghost use Rattle.recorded.specs.Asked.{AsksFirst, names_in};
-ghost use Rattle.held_samples.specs.Going.{AllHold, IsKept};
+ghost use Rattle.held_samples.specs.Going.{AllHold, KeepsTold};
 ghost use Rattle.held_samples.specs.Told.{Acknowledges};
 ghost use Rattle.site_lanes.specs.Answers.{HeadsFit, AllSound};
 ghost use Rattle.fault_lines.specs.FaultLine.{fault_line, name_by};
@@ -58,7 +58,7 @@ pub fn count_command<
         config_of_bytes (C.left config.old) ≡ Ok bridge → (a : List ℕ) →
         AllHold (recordings bridge (T.files site.old)) a (K.leaves station.old) →
         (lines : Lines) (c : Image) → K.moments station.new (K.clock station.old) lines c →
-        IsKept (recordings bridge (T.files site.old)) a (K.told station.old) lines c }
+        KeepsTold (recordings bridge (T.files site.old)) a (K.told station.old) lines c }
     // At a good end all samples are held, and where a recording is torn or too long, as many as a
     // recording may have.
     ensures ended { K.tells → T.tells → C.tells → (bridge : Config) →

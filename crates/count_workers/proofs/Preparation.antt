@@ -1,19 +1,19 @@
 -- Readers, workers and rings while rounds are prepared.
-use Rattle.std.proofs.Common.{◌≡◌, ◌⊎◌, inl, inr, ◌≤◌, ◌<◌, ◌+◌, ◌*◌, ℕ, List, [], ◌∷◌, ◌++◌, length, get_or, set, vec_len, vec_capacity, sym, ap, ◌∙◌, subst, arith, length-append}
+use Rattle.std.proofs.Common.{◌≡◌, ◌⊎◌, inl, inr, ◌≤◌, ◌<◌, ◌+◌, ◌*◌, ℕ, List, [], ◌∷◌, ◌++◌, length, get_or, map, set, vec_len, vec_capacity, sym, ap, ◌∙◌, subst, arith, length-append}
 use Rattle.std.proofs.lemmas.List.{get_or-set_same, get_or-set_other, get_or_append_left}
 use Rattle.std.proofs.Math.Seq.{get_or-append_seam}
 use Rattle.std.proofs.lemmas.Bool.{cases_eq}
 use Rattle.gauge_ring.specs.declared.taker.Taker.{Taker}
 use Rattle.gauge_ring.specs.declared.feeder.Feeder.{Feeder}
-use Rattle.gauge_ring.specs.Ends.{fed, AreOneRing}
+use Rattle.gauge_ring.specs.Ends.{fed, taken, AreOneRing}
 use Rattle.block_workers.specs.declared.item.Item.{Item}
 use Rattle.block_workers.specs.declared.item.Back.{Back}
 use Rattle.block_workers.specs.declared.jobs.Reader.{Reader}
 use Rattle.block_workers.specs.declared.worker.Worker.{Worker}
 use Rattle.count_workers.specs.declared.plan.Plan.{Plan}
 use Rattle.count_workers.specs.Plans.{IsPlan}
-use Rattle.round_making.specs.Resting.{IsEven, RestingWorker, RestingReturn, IsResting}
-use Rattle.lane_loans.proofs.Walking.{some_of}
+use Rattle.round_making.specs.Resting.{IsEven, RestingWorker, RestingReturn, IsResting, rings_of}
+use Rattle.lane_loans.proofs.Walking.{map_at, some_of}
 use Rattle.block_pool.specs.Units.{PoolValue}
 use Rattle.board.specs.Board.{BoardValue}
 use Rattle.collector.specs.declared.collecting.Return.{Return}
@@ -108,6 +108,7 @@ pub record Preparing {C : Type 0} (plan : Plan) (k : ℕ) (rs : List (Reader C))
   pub workers : (v : ℕ) (d : Worker) → v < k → RestingWorker plan.gauges v (get_or ws v d)
   pub rings : (v g : ℕ) (d : Worker) (e : Reader C) → v < k → g < plan.gauges → IsEven (get_or ws v d) (get_or rs g e) g v
   pub returns : (v : ℕ) (d : Worker) (e : Return) → v < k → RestingReturn (get_or ws v d) (get_or bs v e)
+  pub fresh : (v g : ℕ) (d : Worker) (e : Taker Item) → v < k → g < plan.gauges → taken (get_or (get_or ws v d).takers.items g e) ≡ []
 
 module _ {C : Type 0} where
   pub prepared_none : (plan : Plan) (rs : List (Reader C)) (ws : List Worker) (bs : List Return) → length rs ≡ plan.gauges
@@ -120,6 +121,7 @@ module _ {C : Type 0} where
     rings =
         λ v g d e m. absurd (omega (arith, m));
     returns = λ v d e m. absurd (omega (arith, m));
+    fresh = λ v g d e m. absurd (omega (arith, m));
   }
 
   pub prepared_more : (plan : Plan) (k : ℕ) (rs rs' : List (Reader C)) (ws ws' : List Worker) (bs bs' : List Return) (w : Worker)
@@ -147,7 +149,21 @@ module _ {C : Type 0} where
             (n.rings g e t few) (h.rings u g x e o l))
             (even_new w (get_or rs g e) (get_or rs' g e) g k rings_at (λ c. n.rings g e c few)) v d m);
         returns = two_pushed RestingReturn ws ws' bs bs' w b k p q h.made.0 h.made.1 h.returns r;
+        fresh = λ v g d e m l. pushed (λ u x. taken (get_or x.takers.items g e) ≡ []) ws ws' w k p h.made.0
+            (λ u x o. h.fresh u g x e o l) (n.rings g (some_of rs (omega (arith, l, h.long))) e (omega (arith, l, h.long))).fresh.1 v d m;
       }
+
+  -- with all workers nothing was taken from any ring
+  pub nothing_taken : (plan : Plan) (k : ℕ) (rs : List (Reader C)) (ws : List Worker) (bs : List Return) → k ≡ plan.workers
+      → Preparing plan k rs ws bs → (g v : ℕ) → g < plan.gauges → v < plan.workers → get_or (get_or (rings_of ws) v []) g [] ≡ []
+  nothing_taken plan k rs ws bs all h g v l m =
+      let few : v < length ws = omega (arith, m, all, h.made.0) in
+      let w : Worker = some_of ws (omega (arith, few)) in
+      let long : g < length (get_or ws v w).takers.items =
+      let e = (get_or ws v w).takers.ok.0 in let f = (h.workers v w (omega (arith, m, all))).takers in omega (arith, e, f, l) in
+      let t : Taker Item = some_of (get_or ws v w).takers.items (omega (arith, long)) in
+      ap (λ x. get_or x g []) (map_at (λ (x : Worker). map (λ (i : Taker Item). taken i) x.takers.items) ws v [] w few)
+      ∙ map_at (λ (i : Taker Item). taken i) (get_or ws v w).takers.items g [] t long ∙ h.fresh v g w t (omega (arith, m, all)) l
 
   -- with all workers everything rests
   pub rests_first : (plan : Plan) (p : PoolValue) (b : BoardValue) (k : ℕ) (rs : List (Reader C)) (ws : List Worker) (bs : List Return)

@@ -1,11 +1,13 @@
 -- What rounds are prepared for, and what is seen of them at first.
 --   IsPlan   a plan within the limits
---   IsNew    rounds that nothing was read in
-use Rattle.std.specs.Prelude.{◌≡◌, ◌≤◌, [], length}
+--   IsNew    rounds that nothing was read in: all units are in the pool, and from no ring anything was taken
+use Rattle.std.specs.Prelude.{◌≡◌, ◌*◌, ◌<◌, ◌≤◌, ℕ, [], length}
+use Rattle.flow.specs.declared.TheConstants.{BLOCKS_PER_WINDOW}
 use Rattle.block_pool.specs.declared.TheConstants.{MAX_BLOCK}
 use Rattle.board.specs.declared.TheConstants.{MAX_GAUGES}
 use Rattle.round_making.specs.declared.TheConstants.{MAX_WORKERS}
 use Rattle.round_making.specs.Resting.{PreparedValue}
+use Rattle.round_making.specs.Round.{ring_at}
 use Rattle.count_workers.specs.declared.plan.Plan.{Plan}
 
 pub record IsPlan (p : Plan) : Type 0 where
@@ -20,3 +22,5 @@ pub record IsNew (plan : Plan) (p : PreparedValue) : Type 0 where
   pub workers : p.workers ≡ plan.workers
   pub board : (p.board.grid ≡ plan.grid) × (p.board.block ≡ plan.block) × (length p.board.rows ≡ plan.gauges)
       × (p.board.arrivals ≡ [])
+  pub inside : p.inside ≡ BLOCKS_PER_WINDOW * plan.gauges
+  pub rings : (g v : ℕ) → g < plan.gauges → v < plan.workers → ring_at p g v ≡ []

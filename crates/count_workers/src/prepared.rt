@@ -1,4 +1,4 @@
-ghost use Rattle.std.specs.Prelude.{◌≡◌, ◌<◌, ◌≤◌, ◌*◌, ℕ, List, length, slice_index_or, IfOk};
+ghost use Rattle.std.specs.Prelude.{◌≡◌, ◌<◌, ◌*◌, ℕ, length, slice_index_or, IfOk};
 ghost use Rattle.board.specs.Board.{IsFront};
 ghost use Rattle.flow.specs.declared.TheConstants.{BLOCKS_PER_WINDOW};
 

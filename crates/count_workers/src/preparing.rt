@@ -1,4 +1,4 @@
-ghost use Rattle.std.specs.Prelude.{◌≡◌, ◌+◌, ◌*◌, ◌<◌, ◌≤◌, ℕ, length, slice_index_or, vec_len, vec_capacity, IfOk};
+ghost use Rattle.std.specs.Prelude.{◌≡◌, ◌+◌, ◌<◌, ℕ, length, slice_index_or, vec_len, vec_capacity, IfOk};
 ghost use Rattle.count_workers.specs.Preparing.{IsFreshReader, NewReaders, ConnectsRing, NewWorker};
 
 use crate::{OutOfMemory, Plan};

@@ -1,13 +1,14 @@
 -- A sheet's columns are what it was made of.
-use Rattle.std.proofs.Common.{◌≡◌, ℕ, zero, suc, ◌+◌, ◌-◌, ◌<◌, ◌≤◌, true, false, ℤ, List, [], ◌∷◌, length, map, slice_index_or, All, IsAscii, bytes_eq, FitsSigned, w32, Some, Ok, refl, ap, ◌∙◌, arith}
-use Rattle.std.specs.List.{IsDistinct, AllByRecursion}
+use Rattle.std.proofs.Common.{◌≡◌, ℕ, zero, suc, ◌+◌, ◌-◌, ◌<◌, ◌≤◌, true, false, ℤ, List, [], ◌∷◌, length, map, replicate, slice_index_or, All, IsAscii, bytes_eq, FitsSigned, w32, Some, Ok, refl, ap, ◌∙◌, arith}
+use Rattle.std.specs.List.{IsDistinct, AllByRecursion, position_from}
 use Rattle.std.proofs.Math.Facts.{sfits_lit}
 use Rattle.std.proofs.lemmas.Slice.Eq.{bytes_eq-Decides}
 use Rattle.csv.specs.Records.{field_at}
 use Rattle.csv.specs.Writing.{read_back}
-use Rattle.csv_recording.specs.Cells.{missing, cell_text}
-use Rattle.csv_recording.specs.Column.{records_of, place_of, samples_of_rows}
-use Rattle.csv_recording.specs.Sheet.{longest, cells_at, rows_from, sheet_rows, sheet_text, missing_readings, padded_samples}
+use Rattle.calibration.specs.declared.reading.TheConstants.{MISSING}
+use Rattle.csv_recording.specs.Cells.{cell_text}
+use Rattle.csv_recording.specs.Column.{records_of, samples_of_rows}
+use Rattle.csv_recording.specs.Sheet.{longest, cells_at, rows_from, sheet_rows, sheet_text, padded_samples}
 use Rattle.csv_recording.specs.Back.{ReadsBack}
 use Rattle.csv_recording.proofs.CellBack.{cell_back}
 use Rattle.csv_recording.proofs.Written.{records_back, sheet_begins}
@@ -23,30 +24,30 @@ apart name [] i lt h = absurd (omega arith)
 apart name (other ∷ names) zero lt h = h.0
 apart name (other ∷ names) (suc i) lt h = apart name names i (omega arith) h.1
 
-place_is : (names : List (List ℕ)) (g : ℕ) → g < length names → IsDistinct bytes_eq names
-    → place_of (slice_index_or names g []) names ≡ Some g
-unfolding IsDistinct place_of
-place_is [] g lt d = absurd (omega arith)
-place_is (name ∷ names) zero lt d = rw (same_bytes name) refl
-place_is (name ∷ names) (suc g) lt d =
-    rw (apart name names g (omega arith) d.0, place_is names g (omega arith) d.1) (ap Some (omega arith))
+place_is : (names : List (List ℕ)) (g k n : ℕ) → k + g ≡ n → g < length names → IsDistinct bytes_eq names
+    → position_from (λ field. bytes_eq field (slice_index_or names g [])) k names ≡ Some n
+unfolding IsDistinct
+place_is [] g k n at lt d = absurd (omega arith)
+place_is (name ∷ names) zero k n at lt d = rw (same_bytes name) (ap Some (omega arith))
+place_is (name ∷ names) (suc g) k n at lt d =
+    rw (apart name names g (omega arith) d.0) (place_is names g (k + 1) n (omega arith) (omega arith) d.1)
 
 -- the samples of so many rows from a number on
 unfoldable samples_from : List ℤ → ℕ → ℕ → List ℤ
 samples_from samples i zero = []
-samples_from samples i (suc n) = slice_index_or samples i missing ∷ samples_from samples (i + 1) n
+samples_from samples i (suc n) = slice_index_or samples i MISSING ∷ samples_from samples (i + 1) n
 
 cell_in : (i : ℕ) (recordings : List (List ℤ)) (g : ℕ) → g < length recordings
-    → field_at (cells_at i recordings) g ≡ Some (cell_text (slice_index_or (slice_index_or recordings g []) i missing))
+    → field_at (cells_at i recordings) g ≡ Some (cell_text (slice_index_or (slice_index_or recordings g []) i MISSING))
 unfolding field_at
 cell_in i [] g lt = absurd (omega arith)
 cell_in i (samples ∷ recordings) zero lt = refl
 cell_in i (samples ∷ recordings) (suc g) lt = cell_in i recordings g (omega arith)
 
 -- a recording that has ended has a reading that is missing
-sample_fits : (samples : List ℤ) (i : ℕ) → All (FitsSigned w32) samples → FitsSigned w32 (slice_index_or samples i missing)
+sample_fits : (samples : List ℤ) (i : ℕ) → All (FitsSigned w32) samples → FitsSigned w32 (slice_index_or samples i MISSING)
 sample_fits [] i h = sfits_lit tt
-sample_fits (sample ∷ samples) zero h = h 0 missing (omega arith)
+sample_fits (sample ∷ samples) zero h = h 0 MISSING (omega arith)
 sample_fits (sample ∷ samples) (suc i) h = sample_fits samples i (λ k d lt. h (suc k) d (omega arith))
 
 samples_are : (recordings : List (List ℤ)) (g row i n : ℕ) → g < length recordings → All (All (FitsSigned w32)) recordings
@@ -56,7 +57,7 @@ samples_are recordings g row i zero lt h = refl
 samples_are recordings g row i (suc n) lt h =
     let here = cell_in i recordings g lt in
     let own = slice_index_or recordings g [] in
-    let sample = cell_back (slice_index_or own i missing) (sample_fits own i (h g [] lt)) in
+    let sample = cell_back (slice_index_or own i MISSING) (sample_fits own i (h g [] lt)) in
     let more = samples_are recordings g (row + 1) (i + 1) n lt h in
     rw (here, sample, more) refl
 
@@ -67,12 +68,12 @@ unfolding samples_from
 behind_first sample samples i zero = refl
 behind_first sample samples i (suc n) =
     let next : suc i + 1 ≡ suc (i + 1) = omega arith in
-    rw next (ap (λ rest. slice_index_or samples i missing ∷ rest) (behind_first sample samples (i + 1) n))
+    rw next (ap (λ rest. slice_index_or samples i MISSING ∷ rest) (behind_first sample samples (i + 1) n))
 
-none_left : (i n : ℕ) → samples_from [] i n ≡ missing_readings n
-unfolding samples_from missing_readings
+none_left : (i n : ℕ) → samples_from [] i n ≡ replicate n MISSING
+unfolding samples_from
 none_left i zero = refl
-none_left i (suc n) = ap (λ rest. missing ∷ rest) (none_left (i + 1) n)
+none_left i (suc n) = ap (λ rest. MISSING ∷ rest) (none_left (i + 1) n)
 
 padded_is : (samples : List ℤ) (n : ℕ) → length samples ≤ n → samples_from samples 0 n ≡ padded_samples samples n
 unfolding samples_from
@@ -107,7 +108,7 @@ pub reads_back : ReadsBack
 reads_back names recordings g h lt =
     let small : g < length recordings = omega (arith, h.pairs) in
     let rows = records_are_rows names recordings (omega arith) h.pairs h.ascii in
-    let place = place_is names g lt h.distinct in
+    let place = place_is names g 0 g (omega arith) lt h.distinct in
     let samples = samples_are recordings g 0 0 (longest recordings) small h.samples in
     let own = padded_is (slice_index_or recordings g []) (longest recordings) (longest_covers recordings g) in
     rw (rows, place, samples, own) refl

@@ -4,11 +4,14 @@ use Rattle.std.specs.List.{list_any}
 use Rattle.std.specs.Char.{digit_value}
 use Rattle.std.specs.Str.Parse.{AllDigits, digits_value}
 use Rattle.std.proofs.lemmas.Bool.{cases_Bool, eqb-false}
+use Rattle.std.proofs.lemmas.Bool.Decides.{nat_tests}
 use Rattle.std.proofs.lemmas.Fmt.{decimal_is_IsNumeral, length-decimal-le}
 use Rattle.std.proofs.lemmas.List.{take_all}
 use Rattle.std.proofs.lemmas.Str.Parse.{digit_from_value}
 use Rattle.lemmas.proofs.Lists.{list_all-digits}
-use Rattle.csv_recording.specs.Cells.{missing, is_blank, means_missing, magnitude, reading_in, cell_sample, cell_text, without_blanks, without_blanks_before, length_before_blanks}
+use Rattle.calibration.specs.Level.{is_missing}
+use Rattle.calibration.specs.declared.reading.TheConstants.{MISSING}
+use Rattle.csv_recording.specs.Cells.{is_blank, means_missing, magnitude, reading_in, cell_sample, cell_text, without_blanks, without_blanks_before, length_before_blanks}
 
 -- digits that spell a magnitude
 record Spells (ds : List ℕ) (n : ℕ) : Type 0 where
@@ -98,7 +101,7 @@ reads_minus ds n s =
     let text = stands (45 ∷ ds) (plain_digits ds s.digits) in
     rw (text, means_reading 45 ds (λ e. omega (arith, e)), magnitude_is ds n s) refl
 
-reads_missing : cell_sample (cell_text missing) ≡ Some missing
+reads_missing : cell_sample (cell_text MISSING) ≡ Some MISSING
 unfolding without_blanks_before length_before_blanks
 reads_missing = refl
 
@@ -111,5 +114,6 @@ cell_back (negsuc n) f = elim (cases_Bool (n == 2147483647)) [
   | inr other ↦
       let small : n < 2147483648 = f.sfits in
       let no = eqb-false n 2147483647 other in
-      rw other (reads_minus (decimal (suc n)) (suc n) (decimal_spells (suc n) (omega (arith, no))))
+      let given : is_missing (negsuc n) ≡ false = grind (arith, nat_tests, no) in
+      rw given (reads_minus (decimal (suc n)) (suc n) (decimal_spells (suc n) (omega (arith, no))))
 ]

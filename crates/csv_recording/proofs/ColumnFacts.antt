@@ -1,26 +1,16 @@
 -- Where a column is, and what its rows add to the samples so far.
-use Rattle.std.proofs.Common.{◌≡◌, ◌+◌, if◌then◌else◌, ◌∙◌, ◌++◌, ℕ, ℤ, zero, suc, Bool, true, false, List, [], ◌∷◌, drop, Option, Some, None, option_map, Result, Ok, Err, refl, sym, ap, arith, append_assoc}
+use Rattle.std.proofs.Common.{◌≡◌, ◌+◌, if◌then◌else◌, ◌∙◌, ◌++◌, ℕ, ℤ, zero, suc, Bool, true, false, List, [], ◌∷◌, drop, Option, Some, None, Result, Ok, Err, refl, sym, ap, arith, append_assoc}
+use Rattle.std.specs.List.{position_from}
 use Rattle.std.specs.Str.{bytes_eq}
 use Rattle.std.proofs.lemmas.List.{append-nil}
 use Rattle.csv.specs.Records.{field_at}
-use Rattle.csv_recording.specs.Column.{◌>>=◌, GivesColumn, place_of, sample_of_row, samples_of_rows}
+use Rattle.csv_recording.specs.Column.{◌>>=◌, GivesColumn, sample_of_row, samples_of_rows}
 use Rattle.csv_recording.specs.declared.columns.ColumnFault.{ColumnFault}
 use Rattle.csv_recording.specs.declared.columns.ColumnFault.TheVariants.{NoColumn, ShortRow, Cell, OutOfMemory}
 
 -- the first place of the name among the fields from this place on
 abbrev pub place_from : List ℕ → ℕ → List (List ℕ) → Option ℕ
-place_from name k fields = option_map (λ i. i + k) (place_of name (drop k fields))
-
-more_by : (n : Option ℕ) (k : ℕ) → option_map (λ i. i + k) (option_map (λ i. i + 1) n) ≡ option_map (λ i. i + (k + 1)) n
-more_by None k = refl
-more_by (Some i) k = ap Some (omega arith)
-
-pub place_from-start : (name : List ℕ) (fields : List (List ℕ)) → place_from name 0 fields ≡ place_of name fields
-place_from-start name fields = go (place_of name fields)
-  where
-    go : (n : Option ℕ) → option_map (λ i. i + 0) n ≡ n
-    go None = refl
-    go (Some i) = ap Some (omega arith)
+place_from name k fields = position_from (λ field. bytes_eq field name) k (drop k fields)
 
 drop_field : (fields : List (List ℕ)) (k : ℕ) (field : List ℕ) → Some field ≡ field_at fields k
     → drop k fields ≡ field ∷ drop (k + 1) fields
@@ -31,13 +21,11 @@ drop_field (f ∷ fields) (suc k) field e = let next : suc k + 1 ≡ suc (k + 1)
 
 pub place_from-here : (name field : List ℕ) (fields : List (List ℕ)) (k : ℕ) → Some field ≡ field_at fields k → bytes_eq field name ≡ true
     → place_from name k fields ≡ Some k
-unfolding place_of
-place_from-here name field fields k at same = rw (drop_field fields k field at, same) (ap Some (omega arith))
+place_from-here name field fields k at same = rw (drop_field fields k field at, same) refl
 
 pub place_from-next : (name field : List ℕ) (fields : List (List ℕ)) (k : ℕ) → Some field ≡ field_at fields k → bytes_eq field name ≡ false
     → place_from name k fields ≡ place_from name (k + 1) fields
-unfolding place_of
-place_from-next name field fields k at other = rw (drop_field fields k field at, other) (more_by (place_of name (drop (k + 1) fields)) k)
+place_from-next name field fields k at other = rw (drop_field fields k field at, other) refl
 
 past_fields : (fields : List (List ℕ)) (k : ℕ) → None ≡ field_at fields k → drop k fields ≡ []
 unfolding field_at
@@ -47,7 +35,6 @@ past_fields (f ∷ fields) zero e = cc
 past_fields (f ∷ fields) (suc k) e = past_fields fields k e
 
 pub place_from-end : (name : List ℕ) (fields : List (List ℕ)) (k : ℕ) → None ≡ field_at fields k → place_from name k fields ≡ None
-unfolding place_of
 place_from-end name fields k past = rw (past_fields fields k past) refl
 
 -- the samples so far, and those of the rows that are left

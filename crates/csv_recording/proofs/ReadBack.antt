@@ -16,7 +16,8 @@ use Rattle.recording.specs.Samples.{samples, torn_bytes, sample_bytes}
 use Rattle.recording.specs.declared.head.Head.{Head}
 use Rattle.recording.specs.declared.head.HeadFault.TheVariants.{Short}
 use Rattle.recording.proofs.Groups.{samples-group, torn_bytes-group, bytes_of, length-bytes_of, sample-bytes_of}
-use Rattle.csv_recording.specs.Cells.{missing, magnitude, reading_in, cell_sample, means_missing, without_blanks}
+use Rattle.calibration.specs.declared.reading.TheConstants.{MISSING}
+use Rattle.csv_recording.specs.Cells.{magnitude, reading_in, cell_sample, means_missing, without_blanks}
 use Rattle.csv_recording.specs.Column.{◌>>=◌, place_of, records_of, column_in, samples_of_rows, sample_of_row}
 use Rattle.csv_recording.specs.Recording.{recording_bytes, ReadsAs, ReadsAsWritten}
 use Rattle.csv_recording.specs.declared.columns.ColumnFault.{ColumnFault}
@@ -86,7 +87,7 @@ neg-fits : (n : ℕ) → n ≤ 2147483647 → FitsSigned w32 (neg_ℤ (pos n))
 neg-fits zero few = fits_signed_from_abs w32 (pos 0) (omega arith)
 neg-fits (suc n) few = fits_signed_from_abs w32 (negsuc n) (omega (arith, few))
 
-missing-fits : FitsSigned w32 missing
+missing-fits : FitsSigned w32 MISSING
 missing-fits = search rules
 
 by_magnitude : (sign : ℕ → ℤ) (digits : List ℕ) (v : ℤ) → ((n : ℕ) → n ≤ 2147483647 → FitsSigned w32 (sign n)) →
@@ -111,8 +112,8 @@ reading-fits (c ∷ digits) v is = go (c == 45) (c == 43) is
 cell-fits : (cell : List ℕ) (v : ℤ) → cell_sample cell ≡ Some v → FitsSigned w32 v
 cell-fits cell v is = go (means_missing (without_blanks cell)) is
   where
-    go : (b : Bool) → (if b then Some missing else reading_in (without_blanks cell)) ≡ Some v → FitsSigned w32 v
-    go true is = subst (λ (x : ℤ). FitsSigned w32 x) (same_Some missing v is) missing-fits
+    go : (b : Bool) → (if b then Some MISSING else reading_in (without_blanks cell)) ≡ Some v → FitsSigned w32 v
+    go true is = subst (λ (x : ℤ). FitsSigned w32 x) (same_Some MISSING v is) missing-fits
     go false is = reading-fits (without_blanks cell) v is
 
 row-fits : (place row : ℕ) (fields : List (List ℕ)) (v : ℤ) → sample_of_row place row fields ≡ Ok v → FitsSigned w32 v

@@ -1,10 +1,10 @@
 -- What a reader over bytes has left when it gave a record, or none.
-use Rattle.std.proofs.Common.{◌≡◌, ◌<◌, ◌+◌, ◌∙◌, ℕ, suc, Bool, true, false, if◌then◌else◌, List, [], ◌∷◌, length, Option, Some, None, inl, refl, sym, ap, arith}
+use Rattle.std.proofs.Common.{◌≡◌, ◌<◌, ◌+◌, ◌∙◌, ℕ, suc, Bool, true, false, if◌then◌else◌, List, [], ◌∷◌, length, Option, Some, None, unwrap_or, inl, refl, sym, ap, arith}
 use Rattle.std.specs.Bool.{OnTrue}
 use Rattle.csv.specs.Machine.{Read, next_record, ends_at_end}
 use Rattle.csv.specs.Reading.{NextIs, ReadRecord, ReadsNext, default_config, pending_of, records_from, took_first}
 use Rattle.csv.specs.declared.parser.State.{State}
-use Rattle.csv_recording.specs.Rows.{IsPlain, SliceReader, known_or_empty, rows_left, source_left, text_left}
+use Rattle.csv_recording.specs.Rows.{IsPlain, SliceReader, rows_left, source_left, text_left}
 use Rattle.csv_recording.proofs.Records.{records_enough, shorter}
 
 found_record : (o : Option Read) (fields : List (List ℕ)) (s : State) (rest : List ℕ) → NextIs o true fields s rest
@@ -51,7 +51,7 @@ after_found old new fields plain first read =
     let (ys, after, next) = found_in old.state new.state (text_left old) (pending_of (Some new.rdr.now) new) fields here in
     let small = shorter default_config old.state [] [] (text_left old) (fields, new.state, ys) next in
     let source : source_left new ≡ Some ys = rw begun after in
-    let text : text_left new ≡ ys = ap known_or_empty source in
+    let text : text_left new ≡ ys = ap (λ (o : Option (List ℕ)). unwrap_or o []) source in
     record {
       rows = rw text (left_after (length (text_left old)) old.state new.state (text_left old) ys fields refl small.state
           (small.strict plain.between) next);

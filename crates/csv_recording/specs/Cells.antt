@@ -2,18 +2,15 @@
 --   without_blanks   a text without the blanks and tabs at both ends
 --   cell_sample      the sample that a cell means
 --   cell_text        the cell of a sample
-use Rattle.std.specs.Prelude.{ℕ, ℤ, pos, negsuc, neg_ℤ, ◌==◌, ◌&&◌, ◌||◌, ◌+◌, nat_lt, nat_le, Bool, if◌then◌else◌, List, [], ◌∷◌, take, length, codes, Option, Some, None, option_map}
+use Rattle.std.specs.Prelude.{ℕ, ℤ, pos, neg_ℤ, ◌==◌, ◌&&◌, ◌||◌, ◌+◌, nat_lt, nat_le, Bool, if◌then◌else◌, List, [], ◌∷◌, take, length, codes, Option, Some, None, option_map}
 use Rattle.std.specs.Fmt.{signed_decimal}
 use Rattle.std.specs.List.{list_all}
 use Rattle.std.specs.Char.{digit_value}
 use Rattle.std.specs.Str.{bytes_eq}
 use Rattle.std.specs.Str.Parse.{digits_value}
 use Rattle.calibration.specs.Level.{is_missing}
+use Rattle.calibration.specs.declared.reading.TheConstants.{MISSING}
 use Rattle.csv_recording.specs.declared.cells.TheConstants.{MAX_DIGITS, MAX_MAGNITUDE}
-
--- what a logger writes for no reading: -2147483648
-abbrev pub missing : ℤ
-missing = negsuc 2147483647
 
 -- a blank or a tab
 abbrev pub is_blank : ℕ → Bool
@@ -58,7 +55,7 @@ abbrev pub means_missing : List ℕ → Bool
 means_missing text = (length text == 0) || bytes_eq text (codes "NaN")
 
 abbrev pub cell_sample : List ℕ → Option ℤ
-cell_sample cell = if means_missing (without_blanks cell) then Some missing else reading_in (without_blanks cell)
+cell_sample cell = if means_missing (without_blanks cell) then Some MISSING else reading_in (without_blanks cell)
 
 abbrev pub cell_text : ℤ → List ℕ
 cell_text sample = if is_missing sample then codes "NaN" else signed_decimal sample

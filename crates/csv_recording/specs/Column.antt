@@ -3,7 +3,8 @@
 --                order mark is no part of the first
 --   place_of     where a record has a field of this name first
 --   column_of    the samples in the column of a name
-use Rattle.std.specs.Prelude.{ℕ, ℤ, ◌≡◌, ◌+◌, List, [], ◌∷◌, length, Option, Some, None, option_map, Result, Ok, Err, if◌then◌else◌, ⊤, ok_or}
+use Rattle.std.specs.Prelude.{ℕ, ℤ, ◌≡◌, ◌+◌, List, [], ◌∷◌, length, Option, Result, Ok, Err, ⊤, ok_or}
+use Rattle.std.specs.List.{position_from}
 use Rattle.std.specs.Str.{bytes_eq}
 use Rattle.csv.specs.Reading.{records, default_config, strip_bom}
 use Rattle.csv.specs.Records.{field_at}
@@ -14,9 +15,8 @@ use Rattle.csv_recording.specs.declared.columns.ColumnFault.TheVariants.{NoColum
 abbrev pub records_of : List ℕ → List (List (List ℕ))
 records_of text = records default_config (strip_bom text)
 
-unfoldable pub place_of : List ℕ → List (List ℕ) → Option ℕ
-place_of name [] = None
-place_of name (field ∷ fields) = if bytes_eq field name then Some 0 else option_map (λ i. i + 1) (place_of name fields)
+abbrev pub place_of : List ℕ → List (List ℕ) → Option ℕ
+place_of name fields = position_from (λ field. bytes_eq field name) 0 fields
 
 infixl 10 ◌>>=◌
 abbrev pub ◌>>=◌ : {A B : Type 0} → Result A ColumnFault → (A → Result B ColumnFault) → Result B ColumnFault

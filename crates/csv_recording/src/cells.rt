@@ -1,6 +1,8 @@
 ghost use Rattle.std.specs.Prelude.{◌≡◌, ◌≤ℤ◌, pos, option_map, IfSome};
 ghost use Rattle.csv_recording.specs.Cells as spec;
 
+use calibration::MISSING;
+
 // How many digits a reading has at most.
 const MAX_DIGITS: usize = 10;
 
@@ -13,7 +15,7 @@ pub(crate) fn cell_sample(cell: &[u8]) -> Option<i32>
 {
     let text = without_blanks_behind(without_blanks_before(cell));
     if means_missing(text) {
-        Some(i32::MIN)
+        Some(MISSING)
     } else {
         reading_in(text)
     }

@@ -1,4 +1,4 @@
-ghost use Rattle.std.specs.Prelude.{◌≡◌, length, Some};
+ghost use Rattle.std.specs.Prelude.{◌≡◌, Some};
 ghost use Rattle.csv.specs.Records.{fields_of};
 ghost use Rattle.csv_recording.specs.Column as spec;
 ghost use Rattle.csv_recording.specs.Column.{GivesColumn, column_of};

@@ -1,12 +1,14 @@
 ghost use Rattle.std.specs.Prelude.{◌≡◌, ◌<◌, ◌-◌, ◌^◌, ℕ, List, [], ◌∷◌, ◌++◌, length, map};
 ghost use Rattle.std.specs.Prelude.{string_bytes, slice_index_or, IfOk, OnOk, OnErr};
 ghost use Rattle.csv.specs.Writing.{default_writer, row_text};
-ghost use Rattle.csv_recording.specs.Cells.{missing, cell_text};
+ghost use Rattle.calibration.specs.declared.reading.TheConstants.{MISSING};
+ghost use Rattle.csv_recording.specs.Cells.{cell_text};
 ghost use Rattle.csv_recording.specs.Sheet.{longest as longest_of, cells_at, rows_from};
 ghost use Rattle.csv_recording.specs.Sheet.{sheet_text, text_of_rows};
 ghost use Rattle.csv_recording.specs.Writers.{HasWrittenText};
 
 use crate::Samples;
+use calibration::MISSING;
 use csv::{Writer, WriterBuilder};
 use itoa::Buffer;
 use std::alloc::{AllocError, Global};
@@ -98,11 +100,11 @@ fn write_row(
 fn write_cell(writer: &mut Writer<Vec<u8>>, samples: &[i32], row: usize) -> Result<(), AllocError>
     ensures { OnOk result ((text : List ℕ) (fields : List (List ℕ)) → length fields < 2 ^ 64 - 1 →
         HasWrittenText text fields writer.old →
-        HasWrittenText text (fields ++ cell_text (slice_index_or samples.now row missing) ∷
+        HasWrittenText text (fields ++ cell_text (slice_index_or samples.now row MISSING) ∷
         []) writer.new) }
 {
     match samples.get(row) {
-        Some(&sample) if sample != i32::MIN => {
+        Some(&sample) if sample != MISSING => {
             write_field(writer, Buffer::new().format(sample).as_bytes())
         }
         _ => write_field(writer, b"NaN"),

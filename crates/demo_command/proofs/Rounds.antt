@@ -1,8 +1,8 @@
 -- Rounds over made recordings, and what was joined so far.
-use Rattle.std.proofs.Common.{◌≡◌, ◌≢◌, ◌≤◌, ◌<◌, ⊎_elim, ℕ, ◌+◌, ◌-◌, ◌*◌, ◌++◌, min, ℤ, List, length, take, drop, refl, sym, ◌∙◌, ap, subst, arith}
+use Rattle.std.proofs.Common.{◌≡◌, ◌≢◌, ◌≤◌, ◌<◌, ⊎_elim, ℕ, ◌+◌, ◌-◌, ◌*◌, ◌++◌, min, ℤ, List, [], length, take, drop, refl, sym, ◌∙◌, ap, subst, arith}
 use Rattle.std.proofs.Math.Seq.{take-add}
 use Rattle.std.proofs.lemmas.List.{get_or-replicate}
-use Rattle.std.specs.Prelude.{Some, slice_index_or}
+use Rattle.std.specs.Prelude.{Some, replicate, slice_index_or}
 use Rattle.std.specs.List.{All}
 use Rattle.outside.specs.Fault.{CountRose}
 use Rattle.recording.specs.Samples.{samples, sample_bytes}
@@ -20,18 +20,29 @@ use Rattle.lane_loans.specs.declared.lane.Lane.{Lane}
 use Rattle.lane_loans.proofs.Walking.{some_of}
 use Rattle.round_making.specs.Resting.{PreparedValue}
 use Rattle.round_making.specs.Round.{LaneDone, FrontDone, RoundDone}
+use Rattle.recorded.specs.Recorded.{Recorded}
 use Rattle.site_lanes.specs.Lanes.{SourceStands, IsLane, AreReady, AreLanes, IsWhole}
 use Rattle.site_lanes.proofs.AfterRound.{stood_more}
 use Rattle.site_lanes.proofs.AllLanes.{ready_after, lanes_after, all_reached}
 use Rattle.demo_command.specs.declared.TheConstants.{MAX_DEMO_SAMPLES}
 use Rattle.demo_command.specs.declared.made.TheConstants.{GAUGES, BLOCK}
-use Rattle.demo_command.specs.Made.{demo_grid, demo_gain, made_at, demo_recordings, IsStart}
+use Rattle.demo_command.specs.Made.{demo_grid, demo_gain, made_at, IsStart}
 use Rattle.demo_command.specs.Totals.{IsTotal, CanJoin, HasJoined}
 use Rattle.demo_command.proofs.MadeBytes.{length-made, samples-made, torn_bytes-made}
 use Rattle.lemmas.proofs.Outcomes.{same_some}
 
 abbrev pub DemoLane : Type 0
 DemoLane = Lane (List ℕ)
+
+-- the recordings of all gauges, which have no names and no torn bytes
+abbrev pub demo_recordings : ℕ → ℕ → Recorded
+demo_recordings seed samples = record {
+  setup = record { grid = demo_grid; gains = replicate GAUGES demo_gain };
+  gauges = GAUGES;
+  names = λ g. [];
+  samples = made_at seed samples;
+  torn = λ g. 0;
+}
 
 -- so many rounds were made of the recordings, and joined
 pub record IsCounted (seed all rounds : ℕ) (p : PreparedValue) (lanes : List DemoLane) (totals : List SegmentValue) : Type 0 where

@@ -1,5 +1,5 @@
 -- A sum of half units, place by place.
-use Rattle.std.proofs.Common.{◌≡◌, ◌≤◌, ◌<◌, ℕ, zero, suc, ◌+◌, ◌-◌, ◌*◌, ◌^◌, List, length, slice_index, refl, sym, ap, ◌∙◌, arith}
+use Rattle.std.proofs.Common.{◌≡◌, ◌≤◌, ◌<◌, ℕ, zero, suc, ◌+◌, ◌-◌, ◌*◌, ◌^◌, List, length, slice_index, refl, ap, ◌∙◌, arith}
 use Rattle.three_point.specs.Run.{half_units}
 use Rattle.demo_command.specs.declared.made.TheConstants.{CLASSES}
 use Rattle.demo_command.specs.Summary.{all_halves, table_halves}

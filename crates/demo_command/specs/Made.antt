@@ -1,9 +1,8 @@
 -- The recordings that are made from a seed, and how they are counted.
 --   demo_grid, demo_gain   128 classes of 1 N/mm² from -64 N/mm² on, and a raw value of 1 is 1 N/mm²
 --   made_at                the samples of a gauge: those from the seed and its number
---   demo_recordings        the recordings of four gauges
 --   IsStart                a lane at the start of its recording
-use Rattle.std.specs.Prelude.{◌≡◌, ℕ, ◌+◌, ℤ, pos, List, [], Some, replicate}
+use Rattle.std.specs.Prelude.{◌≡◌, ℕ, ◌+◌, ℤ, pos, List, Some}
 use Rattle.recording.specs.Samples.{sample_bytes}
 use Rattle.recording.specs.Synth.{made_samples}
 use Rattle.calibration.specs.Gain.{GainValue}
@@ -11,8 +10,7 @@ use Rattle.calibration.specs.Grid.{GridValue}
 use Rattle.calibration.specs.History.{history}
 use Rattle.lane_ends.specs.declared.end.End.TheVariants.{More}
 use Rattle.lane_loans.specs.declared.lane.Lane.{Lane}
-use Rattle.recorded.specs.Recorded.{Recorded}
-use Rattle.demo_command.specs.declared.made.TheConstants.{GAUGES, CLASSES, WIDTH, LOW_KPA, REFERENCE, KPA}
+use Rattle.demo_command.specs.declared.made.TheConstants.{CLASSES, WIDTH, LOW_KPA, REFERENCE, KPA}
 
 abbrev pub demo_grid : GridValue
 demo_grid = record { classes = CLASSES; w2 = WIDTH; low_kpa = LOW_KPA; reference = REFERENCE }
@@ -25,16 +23,6 @@ made_at seed samples g = made_samples samples (seed + g)
 
 abbrev pub levels_at : ℕ → ℕ → ℕ → List ℕ
 levels_at seed samples g = history demo_grid demo_gain (made_at seed samples g)
-
--- they have no names and no torn bytes
-abbrev pub demo_recordings : ℕ → ℕ → Recorded
-demo_recordings seed samples = record {
-  setup = record { grid = demo_grid; gains = replicate GAUGES demo_gain };
-  gauges = GAUGES;
-  names = λ g. [];
-  samples = made_at seed samples;
-  torn = λ g. 0;
-}
 
 -- a lane whose source has all bytes of its recording left
 pub record IsStart (seed samples g : ℕ) (lane : Lane (List ℕ)) : Type 0 where

@@ -72,7 +72,7 @@ impl Frac {
         }
     }
 
-    // Adds `whole + num / den`. Both numbers are below one whole of `num`, so one carry is enough.
+    // Adds `whole + num / den`. Both numerators are below `den`, so one carry is enough.
     #[tactic(auto, using(lemmas::proofs::Naturals::wholes_fit, lemmas::proofs::Naturals::carry_fits))]
     fn add(&mut self, whole: u64, num: u128)
         requires below_one { num < self.old.den }

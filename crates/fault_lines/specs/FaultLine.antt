@@ -5,7 +5,8 @@
 --   what_text                 what an audit compared
 --   fault_line                the whole, with the name of the gauge or of the file
 --   name_for, name_by         the name of a status's gauge
-use Rattle.std.specs.Prelude.{ℕ, List, [], ◌++◌, codes, take, Result, Ok, Err}
+--   NoneAcknowledges          no such line begins as one that acknowledges samples does
+use Rattle.std.specs.Prelude.{◌≢◌, ℕ, List, [], ◌++◌, codes, take, Result, Ok, Err}
 use Rattle.std.specs.Fmt.{decimal, signed_decimal}
 use Rattle.hex.specs.Hex.{encode_lower}
 use Rattle.line_room.specs.Room.{shown_text}
@@ -102,3 +103,7 @@ name_for bridge status = []
 abbrev pub name_by : Result Configuration ConfigFault → Status → List ℕ
 name_by (Ok bridge) status = name_for bridge status
 name_by (Err fault) status = []
+
+-- A line that acknowledges samples begins with this letter (docs/FORMATS.md).
+abbrev pub NoneAcknowledges : Type 0
+NoneAcknowledges = (status : Status) (name rest : List ℕ) → fault_line status name ≢ codes "h" ++ rest

@@ -30,7 +30,8 @@ impl Model for FaultLine {
 }
 
 impl FaultLine {
-    /// Takes the room. Nothing is written.
+    /// Takes the room, for names of so many bytes. Nothing is written. Below 2^63 the length of the
+    /// longest line fits a `usize`; a name of a site is far shorter.
     pub fn new(alloc: Global, name_bytes: usize) -> Result<FaultLine, AllocError>
         requires { name_bytes < 2 ^ 63 }
         ensures { IfOk result (λ line. line ≡ record { name_bytes = name_bytes; bytes = [] }) }

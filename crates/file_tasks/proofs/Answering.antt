@@ -1,6 +1,6 @@
 -- What an answer tells of a run, and of the file that it is about.
 use Rattle.std.proofs.Common.{◌≡◌, ◌≢◌, inl, inr, ℕ, refl, sym, ◌∙◌, ap}
-use Rattle.file_tasks.specs.Answer.{MayAnswer, IsAnswer, IsPrinting, answer_for, status_of}
+use Rattle.file_tasks.specs.Answer.{MayAnswer, IsAnswer, IsPrintingOrNoMemory, answer_for, refused_status}
 use Rattle.file_tasks.specs.FileState.{FileState, Sound}
 use Rattle.file_tasks.specs.declared.refusal.Refusal.{Refusal}
 use Rattle.file_tasks.specs.declared.refusal.Refusal.TheVariants as refusal
@@ -41,7 +41,8 @@ complete g DiskFault state may r w = own g DiskFault state may r
 complete g (Differs gauge what held found) state may r w = own g (Differs gauge what held found) state may r
 
 -- of a sound recording that was printed, or was to be
-pub printing_may : (gauge : ℕ) (answer : Status) (state : FileState) → IsPrinting answer → state ≡ Sound → MayAnswer gauge answer state
+pub printing_may : (gauge : ℕ) (answer : Status) (state : FileState) → IsPrintingOrNoMemory answer → state ≡ Sound →
+    MayAnswer gauge answer state
 printing_may g Done state p is = sym (ap (answer_for g) is)
 printing_may g WriteFault state p is = is
 printing_may g OutOfMemory state p is = λ none. absurd (cc)
@@ -55,7 +56,7 @@ printing_may g (Store fault) state p is = absurd p
 printing_may g DiskFault state p is = absurd p
 printing_may g (Differs gauge what held found) state p is = absurd p
 
-pub printing_no_read : (answer : Status) → IsPrinting answer → answer ≢ ReadFault
+pub printing_no_read : (answer : Status) → IsPrintingOrNoMemory answer → answer ≢ ReadFault
 printing_no_read Done p is = cc
 printing_no_read WriteFault p is = cc
 printing_no_read OutOfMemory p is = cc
@@ -70,14 +71,14 @@ printing_no_read DiskFault p is = p
 printing_no_read (Differs gauge what held found) p is = p
 
 -- of a recording that was refused
-pub refusal_no_done : (gauge : ℕ) (r : Refusal) → status_of gauge r ≢ Done
+pub refusal_no_done : (gauge : ℕ) (r : Refusal) → refused_status gauge r ≢ Done
 refusal_no_done g (refusal.Head fault) is = cc
 refusal_no_done g (refusal.Torn bytes) is = cc
 refusal_no_done g refusal.TooLong is = cc
 refusal_no_done g refusal.ReadFault is = cc
 refusal_no_done g refusal.OutOfMemory is = cc
 
-pub refusal_no_write : (gauge : ℕ) (r : Refusal) → status_of gauge r ≢ WriteFault
+pub refusal_no_write : (gauge : ℕ) (r : Refusal) → refused_status gauge r ≢ WriteFault
 refusal_no_write g (refusal.Head fault) is = cc
 refusal_no_write g (refusal.Torn bytes) is = cc
 refusal_no_write g refusal.TooLong is = cc
@@ -85,7 +86,7 @@ refusal_no_write g refusal.ReadFault is = cc
 refusal_no_write g refusal.OutOfMemory is = cc
 
 -- only a fault of the source is a read fault
-pub refusal_read : (gauge : ℕ) (r : Refusal) → status_of gauge r ≡ ReadFault → r ≡ refusal.ReadFault
+pub refusal_read : (gauge : ℕ) (r : Refusal) → refused_status gauge r ≡ ReadFault → r ≡ refusal.ReadFault
 refusal_read g (refusal.Head fault) is = absurd (cc)
 refusal_read g (refusal.Torn bytes) is = absurd (cc)
 refusal_read g refusal.TooLong is = absurd (cc)

@@ -6,7 +6,7 @@ use Rattle.recording.specs.declared.head.Head.{Head}
 use Rattle.recording.specs.declared.head.HeadFault.{HeadFault}
 use Rattle.recording.specs.declared.head.HeadFault.TheVariants as head
 use Rattle.file_tasks.specs.FileState.{FileState, BadHead, body_state, state_behind, state_of}
-use Rattle.file_tasks.specs.Answer.{MayAnswer, MayGive, answer_for, status_of, refusal_of}
+use Rattle.file_tasks.specs.Answer.{MayAnswer, MayGive, answer_for, refused_status, refusal_of}
 use Rattle.file_tasks.specs.declared.refusal.Refusal.{Refusal}
 use Rattle.file_tasks.specs.declared.refusal.Refusal.TheVariants.{ReadFault, OutOfMemory}
 use Rattle.file_tasks.proofs.BodyState.{some_file}
@@ -20,7 +20,7 @@ state_with_fault file fault is = ap (λ (h : Result Head HeadFault). state_behin
 
 -- the answer for a head with a fault, but for one that could not be read
 fault_answer : (gauge : ℕ) (fault : HeadFault) (state : FileState) → (fault ≢ head.ReadFault → state ≡ BadHead fault) →
-    MayAnswer gauge (status_of gauge (refusal_of fault)) state
+    MayAnswer gauge (refused_status gauge (refusal_of fault)) state
 fault_answer gauge head.Short state is = sym (ap (answer_for gauge) (is (λ e. cc)))
 fault_answer gauge head.Magic state is = sym (ap (answer_for gauge) (is (λ e. cc)))
 fault_answer gauge (head.Version version) state is = sym (ap (answer_for gauge) (is (λ e. cc)))
@@ -35,7 +35,7 @@ pub head_cause : {T : Type 0} (gauge : ℕ) (r : Result T Refusal) (fault : Head
     MayGive gauge r (state_of file)
 head_cause gauge (Ok x) fault file is known = absurd is
 head_cause gauge (Err refusal) fault file is known =
-    subst (λ (e : Refusal). MayAnswer gauge (status_of gauge e) (state_of file)) (sym is)
+    subst (λ (e : Refusal). MayAnswer gauge (refused_status gauge e) (state_of file)) (sym is)
     (fault_answer gauge fault (state_of file) (λ other. state_with_fault file fault (known other)))
 
 read_fault : (fault : HeadFault) → refusal_of fault ≡ ReadFault → fault ≡ head.ReadFault
@@ -56,7 +56,7 @@ pub memory_cause : {T : Type 0} (gauge : ℕ) (r : Result T Refusal) (file : Lis
     MayGive gauge r (state_of file)
 memory_cause gauge (Ok x) file is = absurd is
 memory_cause gauge (Err refusal) file is =
-    subst (λ (e : Refusal). MayAnswer gauge (status_of gauge e) (state_of file)) (sym is) (some_file file)
+    subst (λ (e : Refusal). MayAnswer gauge (refused_status gauge e) (state_of file)) (sym is) (some_file file)
 
 -- it is no read fault
 pub memory_fault : {T : Type 0} (r : Result T Refusal) → IsErrAnd r (λ refusal. refusal ≡ OutOfMemory) → r ≢ Err ReadFault

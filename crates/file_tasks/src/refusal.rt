@@ -2,7 +2,7 @@ ghost use Rattle.std.specs.Prelude.{◌≡◌, Some};
 ghost use Rattle.file_tasks.specs.declared.refusal.Refusal.TheVariants.{OutOfMemory};
 
 use recording::HeadFault;
-use status::{RecordingFault, Status};
+use status::{RecordingFault, Status, recording_fault_of};
 use std::alloc::AllocError;
 use std::error::Error;
 use std::fmt;
@@ -22,11 +22,11 @@ pub enum Refusal {
 }
 
 impl Refusal {
-    ghost use Rattle.file_tasks.specs.Answer.{status_of};
+    ghost use Rattle.file_tasks.specs.Answer.{refused_status};
 
     /// What is answered, where the recording is that of this gauge.
     pub fn status(self, gauge: u16) -> Status
-        ensures { result ≡ status_of gauge self }
+        ensures { result ≡ refused_status gauge self }
     {
         match self {
             Refusal::Head(fault) => Status::Recording { gauge, fault },
@@ -44,12 +44,9 @@ impl From<HeadFault> for Refusal {
     ghost from_gives = { λ fault refusal. refusal ≡ refusal_of fault };
 
     fn from(fault: HeadFault) -> Refusal {
-        match fault {
-            HeadFault::Short => Refusal::Head(RecordingFault::Short),
-            HeadFault::Magic => Refusal::Head(RecordingFault::Magic),
-            HeadFault::Version(version) => Refusal::Head(RecordingFault::Version(version)),
-            HeadFault::NotZero => Refusal::Head(RecordingFault::NotZero),
-            HeadFault::ReadFault => Refusal::ReadFault,
+        match recording_fault_of(fault) {
+            Some(fault) => Refusal::Head(fault),
+            None => Refusal::ReadFault,
         }
     }
 }

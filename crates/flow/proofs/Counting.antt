@@ -111,7 +111,8 @@ pub each_cond : {A : Type 0} {P : A → Type 0} → (n : A) (k : List A) (b : Bo
 each_cond n k true p d = both (p refl) d
 each_cond n k false p d = d
 
-pub each_filter : {A : Type 0} {P Q : A → Type 0} → (f : A → Bool) (l : List A) → ((n : A) → P n → f n ≡ true → Q n) → Each P l → Each Q (filter f l)
+pub each_filter : {A : Type 0} {P Q : A → Type 0} → (f : A → Bool) (l : List A) → ((n : A) → P n → f n ≡ true → Q n) → Each P l →
+    Each Q (filter f l)
 each_filter f [] h none = none
 each_filter f (n ∷ l) h (both p d) = each_cond n (filter f l) (f n) (h n p) (each_filter f l h d)
 

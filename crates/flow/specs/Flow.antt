@@ -6,7 +6,7 @@
 --   IsAllowed, after    where an event may come, and what it does
 --   run, AllAllowed     a list of events
 --   IsStart             the state in which a run starts
-use Rattle.std.specs.Prelude.{◌≡◌, ◌+◌, ◌%◌, ◌<◌, ◌≤◌, ◌&&◌, ℕ, ℤ, List, [], ◌∷◌, ◌++◌, length, take, drop, min, cond, not, eqb, leb, ltb, Bool}
+use Rattle.std.specs.Prelude.{◌≡◌, ◌+◌, ◌%◌, ◌<◌, ◌≤◌, ◌&&◌, ℕ, ℤ, List, [], ◌∷◌, ◌++◌, length, take, drop, min, not, nat_lt, nat_le, ◌==◌, if◌then◌else◌, Bool}
 use Rattle.std.specs.List.{filter}
 use Rattle.segment_rules.specs.declared.name.Name.{Name}
 use Rattle.flow.specs.declared.TheConstants.{BLOCKS_PER_WINDOW}
@@ -36,14 +36,14 @@ name_of_samples g from to = record { gauge = g; from = from; to = to }
 
 -- the function with x at k
 abbrev pub with_value : {A : Type 0} → (ℕ → A) → ℕ → A → ℕ → A
-with_value f k x i = cond (eqb i k) x (f i)
+with_value f k x i = if i == k then x else f i
 
 abbrev pub with_value_at : {A : Type 0} → (ℕ → ℕ → A) → ℕ → ℕ → A → ℕ → ℕ → A
-with_value_at f g v x i j = cond (eqb i g) (cond (eqb j v) x (f i j)) (f i j)
+with_value_at f g v x i j = if i == g then (if j == v then x else f i j) else f i j
 
 -- a sample of a gauge is one that the name names
 abbrev pub hits_of_name : ℕ → ℕ → Name → ℕ
-hits_of_name g i n = cond (eqb n.gauge g) (cond (leb n.from i) (cond (ltb i n.to) 1 0) 0) 0
+hits_of_name g i n = if n.gauge == g then (if nat_le n.from i then (if nat_lt i n.to then 1 else 0) else 0) else 0
 
 -- how many of the names name it
 abbrev pub hits : ℕ → ℕ → List Name → ℕ
@@ -67,7 +67,7 @@ pub record EndsAt (g e : ℕ) (l : List Name) : Type 0 where
 
 -- the names that are left where those of a gauge up to an end are taken out
 abbrev pub is_left_over : ℕ → ℕ → Name → Bool
-is_left_over g e n = not (eqb n.gauge g && leb n.to e)
+is_left_over g e n = not (n.gauge == g && nat_le n.to e)
 
 module _ (block workers : ℕ) where
   -- the next block of a gauge, and the worker that gets it

@@ -5,7 +5,7 @@
 --   MeetsInvariant     the invariant
 --   IsThrough          nothing of a gauge is on its way
 --   EachEventKeeps, EachScheduleKeeps, StoredNeverFalls, AllIsStored    the laws
-use Rattle.std.specs.Prelude.{◌≡◌, ◌≢◌, ◌⊎◌, ◌+◌, ◌*◌, ◌%◌, ◌<◌, ◌≤◌, ℕ, List, [], ◌∷◌, length, min, cond, leb, ltb, zero, suc}
+use Rattle.std.specs.Prelude.{◌≡◌, ◌≢◌, ◌⊎◌, ◌+◌, ◌*◌, ◌%◌, ◌<◌, ◌≤◌, ℕ, List, [], ◌∷◌, length, min, nat_lt, nat_le, if◌then◌else◌, zero, suc}
 use Rattle.segment_rules.specs.declared.name.Name.{Name}
 use Rattle.flow.specs.Flow.{Flow, Event, IsAllowed, after, run, AllAllowed, IsStart, hits}
 use Rattle.flow.specs.Flow.Event.{Commit}
@@ -27,7 +27,7 @@ over (suc n) f = f n + over n f
 
 -- 1 for a number between the two
 abbrev pub between : ℕ → ℕ → ℕ → ℕ
-between low high i = cond (leb low i) (cond (ltb i high) 1 0) 0
+between low high i = if nat_le low i then (if nat_lt i high then 1 else 0) else 0
 
 -- how many names in rings, counted and placed lists name the sample
 abbrev pub everywhere : ℕ → Flow → ℕ → ℕ → ℕ

@@ -1,4 +1,4 @@
-ghost use Rattle.std.specs.Prelude.{◌≡◌, ◌≢◌, ◌+◌, ◌*◌, ◌-◌, ◌^◌, ◌<◌, ◌≤◌, ◌↔◌, ◌++◌, ◌∷◌, ◌⊎◌, [], All, IsTrue, length, slice_index, take};
+ghost use Rattle.std.specs.Prelude.{◌≡◌, ◌≢◌, ◌+◌, ◌*◌, ◌-◌, ◌<◌, ◌≤◌, ◌↔◌, ◌++◌, ◌∷◌, ◌⊎◌, [], All, IsTrue, length, slice_index, take};
 ghost use Rattle.turning_points.specs.Points.{IsBetween, is_turn, points};
 ghost use Rattle.turning_points.specs.Pairs.{range};
 ghost use Rattle.tally.specs.Counts.{count_of, total_of, HasGreatestRoom};

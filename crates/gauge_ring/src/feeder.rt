@@ -16,7 +16,7 @@ impl<T> Feeder<T> {
         ensures same { IsSameFeeder self.old self.new }
         ensures ok { OnOk result (fed self.new ≡ fed self.old ++ item ∷ []) }
         ensures places { OnOk result (free self.old ≤ free self.new + 1) }
-        ensures back { IfErr result (λ given. given ≡ item) }
+        ensures given { IfErr result (λ given. given ≡ item) }
         ensures unchanged { IfErr result (λ given. fed self.new ≡ fed self.old) }
         ensures full { IfErr result (λ given. (free self.old ≡ 0) × (free self.new ≡ 0)) }
     {

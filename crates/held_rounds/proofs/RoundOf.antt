@@ -18,7 +18,7 @@ use Rattle.round_making.specs.Resting.{PreparedValue}
 use Rattle.round_making.specs.Round.{RoundDone}
 use Rattle.recorded.specs.Recorded.{Recorded}
 use Rattle.held_samples.specs.Told.{round_lines, held_after, held_lines}
-use Rattle.held_samples.specs.Fronts.{StandsIn, AreFronts, FrontsEnd, FrontsStand}
+use Rattle.held_samples.specs.Fronts.{StandsInRecording, AreFronts, FrontsEnd, FrontsStand}
 use Rattle.site_lanes.specs.Lanes.{AreLanes, AreReady, AreHeldTo, IsWhole}
 use Rattle.held_samples.proofs.Going.{round_both}
 use Rattle.site_lanes.proofs.AfterRound.{stood_more}
@@ -47,7 +47,8 @@ lines_more r n block k told told2 told3 ends ends2 so_far from to here =
 
 front_stands : (r : Recorded) (front : SegmentValue) (g at to : ℕ) (gain : GainValue) (left : List ℕ) → name_of front ≡
     name_of_samples g at to
-    → gain ≡ gain_at r.setup g → samples left ≡ drop at (r.samples g) → Stands front gain (take (to - at) (samples left)) → StandsIn r front
+    → gain ≡ gain_at r.setup g → samples left ≡ drop at (r.samples g) → Stands front gain (take (to - at) (samples left))
+    → StandsInRecording r front
 front_stands r front g at to gain left name is rest stands =
     let same : take (to - at) (samples left) ≡ slice_range (r.samples front.gauge) front.from front.to =
     ap (take (to - at)) rest ∙ ap (λ (x : Name). slice_range (r.samples x.gauge) x.from x.to) (sym name) in

@@ -25,7 +25,7 @@ use Rattle.recorded.specs.Recorded.{Recorded}
 use Rattle.held_samples.specs.Told.{IsBelow, AreBelow, EachAtMost, held_line, gauge_lines, round_lines}
 use Rattle.std.proofs.lemmas.Bool.Decides.{nat_tests}
 use Rattle.held_samples.specs.Fronts.{IsHeldTo}
-use Rattle.held_samples.specs.Going.{HoldsAtLeast, IsKept, HoldsSinceEntry, Safe, IsStored}
+use Rattle.held_samples.specs.Going.{HoldsAtLeast, KeepsTold, HoldsSinceEntry, Safe, IsStored}
 
 pub all_more : {A : Type 0} (P : A → Type 0) (xs : List A) (x : A) → AllByRecursion P xs → P x → AllByRecursion P (xs ++ x ∷ [])
 all_more P [] x all here = (here, tt)
@@ -77,7 +77,7 @@ pub going_starts : (r : Recorded) (s : StoreValue) (start : ℕ) (past : Moments
     → ((lines : Lines) (c : Image) → past start lines c → (lines ≡ told) × leaves c) →
     HoldsSinceEntry r (ends_of s.held) start past told start past told leaves (ends_of s.held)
 going_starts r s start past told seen leaves stored only = record {
-  run = started start past (IsKept r (ends_of s.held) told) (λ lines c was. record {
+  run = started start past (KeepsTold r (ends_of s.held) told) (λ lines c was. record {
     held = ends_of s.held;
     holds = stored_holds r s seen leaves stored c (only lines c was).1;
     least = at_most_same (ends_of s.held);
@@ -98,7 +98,7 @@ going_starts r s start past told seen leaves stored only = record {
 
 -- where what holds of a moment of the later run has the lines of the earlier one before it
 kept_then : (r : Recorded) (a n : List ℕ) (told told2 lines : Lines) (c : Image) (new : Lines) → told2 ≡ told ++ new → AreBelow r n new →
-    EachAtMost a n → IsKept r n told2 lines c → IsKept r a told lines c
+    EachAtMost a n → KeepsTold r n told2 lines c → KeepsTold r a told lines c
 kept_then r a n told told2 lines c new grew below least k = record {
   held = k.held;
   holds = k.holds;
@@ -113,7 +113,7 @@ pub going_then : {r : Recorded} {a n m : List ℕ} {start mid now : ℕ} {past b
     → HoldsSinceEntry r a start past told mid between told2 leaves2 n → HoldsSinceEntry r n mid between told2 now since told3 leaves3 m →
     HoldsSinceEntry r a start past told now since told3 leaves3 m
 going_then {r} {a} {n} {m} {start} {mid} {now} {past} {between} {since} {told} {told2} {told3} {leaves2} {leaves3} x y = record {
-  run = continues start mid now past between since (IsKept r a told) (IsKept r n told2) x.run y.run
+  run = continues start mid now past between since (KeepsTold r a told) (KeepsTold r n told2) x.run y.run
       (λ lines c k. kept_then r a n told told2 lines c x.new x.grew x.below x.least k);
   new = x.new ++ y.new;
   grew = y.grew ∙ ap (λ (l : Lines). l ++ y.new) x.grew ∙ append_assoc told x.new y.new;
@@ -159,7 +159,7 @@ module _ (r : Recorded) (s : StoreValue) (seen : Image) (leaves : Image → Type
       }) i.1
 
   put_kept : (lines : Lines) (c : Image) → InPut told s.head stored.bodies (ends_of s.held) p lines c →
-      IsKept r (ends_of s.held) told lines c
+      KeepsTold r (ends_of s.held) told lines c
   put_kept lines c i = let h = in_put lines c i in record {
     held = h.held;
     holds = h.holds;
@@ -172,7 +172,8 @@ module _ (r : Recorded) (s : StoreValue) (seen : Image) (leaves : Image → Type
   -- whatever it answers
   pub put_going : HoldsSinceEntry r (ends_of s.held) start past told now since told2 leaves2 (ends_of s.held)
   put_going = record {
-    run = entails start now past since (IsKept r (ends_of s.held) told) (InPut told s.head stored.bodies (ends_of s.held) p) run put_kept;
+    run = entails start now past since (KeepsTold r (ends_of s.held) told)
+        (InPut told s.head stored.bodies (ends_of s.held) p) run put_kept;
     new = [];
     grew = same ∙ same_lines told;
     below = tt;
@@ -222,7 +223,7 @@ line_going r a m start now next past since later told told2 told3 leaves leaves2
     ))
     (λ none. (g.new, none ∙ g.grew, g.below)) lines in
     record {
-      run = goes_on start now next past since later (IsKept r a told) told3 leaves2 g.run time
+      run = goes_on start now next past since later (KeepsTold r a told) told3 leaves2 g.run time
           (λ c has. let h = g.held c (images.none_new c has) in
           record {
             held = h.held;
@@ -306,10 +307,10 @@ pub safe_quiet : (r : Recorded) (a : List ℕ) (start now : ℕ) (past since : M
     → IsQuiet start past now since told told2 seen seen2 leaves leaves2 → Safe r a start past told now since told2 leaves2
 safe_quiet r a start now past since told told2 seen seen2 leaves leaves2 holds quiet =
     let kept : (lines : Lines) (c : Image) → (lines ≡ told) × leaves c →
-    IsKept r a told lines c = λ lines c was. let h = holds c was.1 in record
+    KeepsTold r a told lines c = λ lines c was. let h = holds c was.1 in record
     { held = h.held; holds = h.holds; least = h.least; new = []; grew = was.0 ∙ same_lines told; below = tt } in
     record {
-      run = entails start now past since (IsKept r a told) (λ lines c. (lines ≡ told) × leaves c) quiet.run kept;
+      run = entails start now past since (KeepsTold r a told) (λ lines c. (lines ≡ told) × leaves c) quiet.run kept;
       kept = λ c has.
           kept told2 c (quiet.told_same, quiet.none_new c has);
     }
@@ -321,7 +322,7 @@ pub safe_going : (r : Recorded) (a n m : List ℕ) (start mid now : ℕ) (past b
 safe_going r a n m start mid now past between since told told2 told3 leaves2 leaves3 safe same least g =
     let none : told2 ≡ told ++ [] = same ∙ same_lines told in
     record {
-      run = continues start mid now past between since (IsKept r a told) (IsKept r n told2) safe.run g.run
+      run = continues start mid now past between since (KeepsTold r a told) (KeepsTold r n told2) safe.run g.run
           (λ lines c k. kept_then r a n told told2 lines c [] none tt least k);
       kept = λ c has. let h = g.held c has in record {
         held = h.held;

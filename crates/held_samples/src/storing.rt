@@ -22,7 +22,7 @@ ghost use Rattle.site_config.specs.Valid.{IsConfig, name_of};
 ghost use Rattle.recorded.specs.Recorded.{Recorded, recordings};
 ghost use Rattle.held_samples.specs.Told.{held_line, gauge_lines, round_lines};
 ghost use Rattle.held_samples.specs.Going.{HoldsSinceEntry, IsStored, AreNames};
-ghost use Rattle.held_samples.specs.Fronts.{IsHeldTo, StandsIn, AreFronts, FrontsEnd, FrontsStand};
+ghost use Rattle.held_samples.specs.Fronts.{IsHeldTo, StandsInRecording, AreFronts, FrontsEnd, FrontsStand};
 
 use crate::line::HeldLine;
 use board::Board;
@@ -53,14 +53,14 @@ pub fn store_front<K: Station>(
         front.now.gauge < r.gauges →
         r.names front.now.gauge ≡ name.now →
         IsStored r store.old (K.seen station.old) (K.leaves station.old) →
-        StandsIn r front.now →
+        StandsInRecording r front.now →
         HoldsSinceEntry r (ends_of store.old.held)
         (K.clock station.old) (K.moments station.old) (K.told station.old)
         (K.clock station.new) (K.moments station.new) (K.told station.new)
         (K.leaves station.new) (ends_of store.new.held) }
     ensures stored { K.tells → (r : Recorded) →
         IsStored r store.old (K.seen station.old) (K.leaves station.old) →
-        StandsIn r front.now →
+        StandsInRecording r front.now →
         OnOk result (IsStored r store.new (K.seen station.new) (K.leaves station.new)) }
     ensures told { K.tells → OnOk result (K.told station.new ≡
         K.told station.old ++ held_line name.now front.now.to ∷ []) }
@@ -100,14 +100,14 @@ fn store_gauge<K: Station>(
         front.now.gauge < r.gauges →
         r.names front.now.gauge ≡ name.now →
         IsStored r store.old (K.seen station.old) (K.leaves station.old) →
-        (front.now.from < front.now.to → StandsIn r front.now) →
+        (front.now.from < front.now.to → StandsInRecording r front.now) →
         HoldsSinceEntry r (ends_of store.old.held)
         (K.clock station.old) (K.moments station.old) (K.told station.old)
         (K.clock station.new) (K.moments station.new) (K.told station.new)
         (K.leaves station.new) (ends_of store.new.held) }
     ensures stored { K.tells → (r : Recorded) →
         IsStored r store.old (K.seen station.old) (K.leaves station.old) →
-        (front.now.from < front.now.to → StandsIn r front.now) →
+        (front.now.from < front.now.to → StandsInRecording r front.now) →
         OnOk result (IsStored r store.new (K.seen station.new) (K.leaves station.new)) }
     ensures told { K.tells → OnOk result (K.told station.new ≡
         K.told station.old ++ gauge_lines name.now front.now.from front.now.to) }

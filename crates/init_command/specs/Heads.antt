@@ -5,15 +5,15 @@
 --   HasFault       the head of a gauge's recording is refused for this
 --   HeadsAnswer    what reading them answers
 use Rattle.std.specs.Prelude.{◌≡◌, ◌<◌, ℕ, ⊤, List, length, slice_index_or, Option, Some, Result, Ok, Err}
+use Rattle.std.specs.Option.{option_map_or}
 use Rattle.outside.specs.Site.{Files}
 use Rattle.recording.specs.Head.{recording_head}
 use Rattle.recording.specs.declared.head.Head.{Head}
 use Rattle.recording.specs.declared.head.HeadFault.{HeadFault}
-use Rattle.recording.specs.declared.head.HeadFault.TheVariants as head
 use Rattle.site_config.specs.declared.config.Config.{Config}
 use Rattle.site_config.specs.Valid.{file_of}
 use Rattle.status.specs.declared.status.RecordingFault.{RecordingFault}
-use Rattle.status.specs.declared.status.RecordingFault.TheVariants as fault
+use Rattle.status.specs.RecordingFaults.{recording_fault_of}
 use Rattle.status.specs.declared.status.Status.{Status}
 use Rattle.status.specs.declared.status.Status.TheVariants.{Recording, ReadFault, OutOfMemory}
 
@@ -35,11 +35,7 @@ AreSound c files k = (g : ℕ) → g < k → (h : Head) × HasHead c files g (Ok
 
 -- what is answered for a gauge whose head has this fault
 abbrev pub head_status : ℕ → HeadFault → Status
-head_status g head.Short = Recording g fault.Short
-head_status g head.Magic = Recording g fault.Magic
-head_status g (head.Version v) = Recording g (fault.Version v)
-head_status g head.NotZero = Recording g fault.NotZero
-head_status g head.ReadFault = ReadFault
+head_status g f = option_map_or (Recording g) (recording_fault_of f) ReadFault
 
 abbrev pub HasFaultIn : Option (List ℕ) → ℕ → RecordingFault → Type 0
 HasFaultIn content g fault = (f : HeadFault) × HasHeadIn content (Err f) × (head_status g f ≡ Recording g fault)

@@ -9,7 +9,7 @@ ghost use Rattle.init_command.specs.Heads.{HeadAnswer, HeadsAnswer, IsHeadsStatu
 use outside::Site;
 use recording::{Head, HeadFault, read_head};
 use site_config::Config;
-use status::{RecordingFault, Status};
+use status::{Status, recording_fault_of};
 use std::alloc::Global;
 use store_head::Heads;
 
@@ -70,12 +70,8 @@ fn read_head_of<T: Site>(gauge: u16, file: &str, site: &mut T) -> Result<Head, S
 fn head_status(gauge: u16, fault: HeadFault) -> Status
     ensures { result ≡ head_status_of gauge fault }
 {
-    let fault = match fault {
-        HeadFault::Short => RecordingFault::Short,
-        HeadFault::Magic => RecordingFault::Magic,
-        HeadFault::Version(version) => RecordingFault::Version(version),
-        HeadFault::NotZero => RecordingFault::NotZero,
-        HeadFault::ReadFault => return Status::ReadFault,
-    };
-    Status::Recording { gauge, fault }
+    match recording_fault_of(fault) {
+        Some(fault) => Status::Recording { gauge, fault },
+        None => Status::ReadFault,
+    }
 }

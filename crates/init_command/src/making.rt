@@ -1,4 +1,4 @@
-ghost use Rattle.std.specs.Prelude.{◌≡◌, ◌≤◌, ◌<◌, ◌++◌, [], ◌∷◌, ℕ, List, IfOk, length};
+ghost use Rattle.std.specs.Prelude.{◌≡◌, ◌≤◌, ◌<◌, ◌++◌, [], ◌∷◌, IfOk, length};
 ghost use Rattle.outside.specs.Fault.{CountRose};
 ghost use Rattle.station.specs.Station.{Image, Since, Only};
 ghost use Rattle.segment_bytes.specs.declared.layout.Layout.TheVariants.{Two};

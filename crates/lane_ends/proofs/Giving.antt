@@ -11,7 +11,7 @@ use Rattle.recording.specs.Filling.{end_of, Takes}
 use Rattle.recording.proofs.SampleLists.{length-samples, samples-drop, torn_bytes-drop}
 use Rattle.lane_ends.specs.declared.end.End.{End}
 use Rattle.lane_ends.specs.declared.end.End.TheVariants.{More, ReadFault, Ended, Torn, TooLong}
-use Rattle.lane_ends.specs.Ends.{end_past_limit, lane_end, Gives}
+use Rattle.lane_ends.specs.Ends.{end_past_limit, lane_end, IsRead}
 
 not_failed : Full ≢ Failed
 not_failed q = cc
@@ -21,7 +21,7 @@ enough room before e = grind (arith, nat_tests, e)
 
 -- all samples that a recording may have came, and what follows was looked at
 pub gives_past : (room wanted most n : ℕ) (before mid after : List ℕ) (f : FillEnd) (e : End) → room ≡ min wanted most → room ≢ wanted
-    → f ≡ Full → Takes room before n f mid → (e ≢ ReadFault → e ≡ end_past_limit mid) → e ≢ More → Gives wanted most before n e after
+    → f ≡ Full → Takes room before n f mid → (e ≢ ReadFault → e ≡ end_past_limit mid) → e ≢ More → IsRead wanted most before n e after
 gives_past room wanted most n before mid after f e is less full taken past some =
     let t : Takes room before n Full mid = subst (λ x. Takes room before n x mid) full taken in
     let all = t.count not_failed in
@@ -42,7 +42,7 @@ gives_past room wanted most n before mid after f e is less full taken past some 
 
 -- whole samples of a lane, and then what is left of it
 module _ (m room most n : ℕ) (before mid after : List ℕ) (e : End) (have : m ≤ length (samples before)) (within : m ≤ most)
-    (is : mid ≡ drop (4 * m) before) (g : Gives room (most - m) mid n e after) where
+    (is : mid ≡ drop (4 * m) before) (g : IsRead room (most - m) mid n e after) where
   inside : 4 * m ≤ length before
   inside = omega (arith, have, length-samples before)
 
@@ -55,7 +55,7 @@ module _ (m room most n : ℕ) (before mid after : List ℕ) (e : End) (have : m
   same_end : lane_end room (most - m) mid ≡ lane_end (m + room) most before
   same_end = let r = rest in let p = part in grind (arith, nat_tests, have, within, r, p)
 
-  pub gives_more : Gives (m + room) most before (m + n) e after
+  pub gives_more : IsRead (m + room) most before (m + n) e after
   gives_more = record {
     few = (omega (arith, g.few.0), omega (arith, g.few.1, within), omega (arith, g.few.2, rest, have));
     ends = λ q. g.ends q ∙ same_end;
@@ -64,8 +64,8 @@ module _ (m room most n : ℕ) (before mid after : List ℕ) (e : End) (have : m
   }
 
 -- where it has ended, more samples could have been wanted
-pub gives_wider : (room wider most n : ℕ) (before after : List ℕ) (e : End) → e ≢ More → room ≤ wider → Gives room most before n e after
-    → Gives wider most before n e after
+pub gives_wider : (room wider most n : ℕ) (before after : List ℕ) (e : End) → e ≢ More → room ≤ wider → IsRead room most before n e after
+    → IsRead wider most before n e after
 gives_wider room wider most n before after e some fits g = record {
   few = (omega (arith, g.few.0, fits), g.few.1, g.few.2);
   ends = λ q. g.ends q ∙ wide q;
@@ -80,7 +80,7 @@ gives_wider room wider most n before after e some fits g = record {
     wide q = let f = short q in grind (arith, nat_tests, f, fits)
 
 -- nothing was wanted yet
-pub gives_none : (most : ℕ) (before : List ℕ) → Gives 0 most before 0 More before
+pub gives_none : (most : ℕ) (before : List ℕ) → IsRead 0 most before 0 More before
 gives_none most before =
     record {
       few = (omega arith, omega arith, omega arith);

@@ -1,7 +1,7 @@
 -- How the reading of a recording goes on and ends.
 --   end_past_limit   what follows the last sample that a recording may have
 --   lane_end         the end where so many samples are wanted, and so many are allowed
---   Gives            what was read
+--   IsRead           what was read
 use Rattle.std.specs.Prelude.{◌≡◌, ◌≢◌, ◌≤◌, ℕ, ◌*◌, nat_le, nat_lt, ◌==◌, if◌then◌else◌, min, List, length, drop}
 use Rattle.recording.specs.Samples.{samples, torn_bytes}
 use Rattle.lane_ends.specs.declared.end.End.{End}
@@ -21,7 +21,7 @@ lane_end room most bytes =
     else (if nat_lt most (length (samples bytes)) then TooLong else input_end bytes)
 
 -- of the bytes `before` n samples were read, and `after` is left
-pub record Gives (room most : ℕ) (before : List ℕ) (n : ℕ) (end : End) (after : List ℕ) : Type 0 where
+pub record IsRead (room most : ℕ) (before : List ℕ) (n : ℕ) (end : End) (after : List ℕ) : Type 0 where
   pub few : (n ≤ room) × (n ≤ most) × (n ≤ length (samples before))
   pub ends : end ≢ ReadFault → end ≡ lane_end room most before
   pub count : end ≢ ReadFault → n ≡ min room (min most (length (samples before)))

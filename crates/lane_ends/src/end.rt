@@ -15,7 +15,7 @@ pub enum End {
 
 /// What was read of a lane.
 #[derive(Clone, Copy, Debug, PartialEq, Eq, Drop)]
-pub struct Given {
+pub struct LaneRead {
     /// How many samples.
     pub n: usize,
     /// How it ended.

@@ -11,5 +11,5 @@ mod reading;
 #[cfg(test)]
 mod tests;
 
-pub use end::{End, Given};
+pub use end::{End, LaneRead};
 pub use reading::read_samples;

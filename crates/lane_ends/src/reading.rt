@@ -2,10 +2,10 @@ ghost use Rattle.std.specs.Prelude.{◌≡◌, ◌≢◌, ◌≤◌, length};
 ghost use Rattle.outside.specs.Fault.{CountRose};
 ghost use Rattle.recording.specs.Samples.{samples};
 ghost use Rattle.recording.specs.Filling.{SameFirst};
-ghost use Rattle.lane_ends.specs.Ends.{end_past_limit, Gives};
+ghost use Rattle.lane_ends.specs.Ends.{end_past_limit, IsRead};
 ghost use Rattle.lane_ends.specs.declared.end.End.TheVariants.{More, ReadFault};
 
-use crate::{End, Given};
+use crate::{End, LaneRead};
 use outside::Source;
 use recording::{FillEnd, fill};
 
@@ -25,12 +25,13 @@ fn past_limit<S: Source>(src: &mut S) -> End
 }
 
 /// Fills `buf` with the next samples of a recording that may have `most` more. `TooLong` comes only
-/// where these came and one more is there; that one is taken and lost.
-pub fn read_samples<S: Source>(src: &mut S, buf: &mut [i32], most: u64) -> Given
+/// where these came and one more is there; that one is taken and lost. What the source has left
+/// after any other end than `More` is left open.
+pub fn read_samples<S: Source>(src: &mut S, buf: &mut [i32], most: u64) -> LaneRead
     ensures within { (result.n ≤ length buf.old) × (result.n ≤ most) }
     ensures full { result.end ≡ More → result.n ≡ length buf.old }
     ensures samples { S.tells → SameFirst result.n buf.new (samples (S.left src.old)) }
-    ensures gives { S.tells → Gives (length buf.old) most (S.left src.old)
+    ensures gives { S.tells → IsRead (length buf.old) most (S.left src.old)
         result.n result.end (S.left src.new) }
     ensures cause { result.end ≡ ReadFault → CountRose (S.faults src.old) (S.faults src.new) }
     ensures later { S.faults src.old ≤ S.faults src.new }
@@ -44,5 +45,5 @@ pub fn read_samples<S: Source>(src: &mut S, buf: &mut [i32], most: u64) -> Given
         FillEnd::Torn(bytes) => End::Torn(bytes),
         FillEnd::Failed => End::ReadFault,
     };
-    Given { n: read.n, end }
+    LaneRead { n: read.n, end }
 }

@@ -4,12 +4,12 @@ use Rattle.std.specs.Prelude.{All}
 use Rattle.std.proofs.lemmas.List.Elements.{All-head, All-tail}
 use Rattle.turning_points.specs.Points.{points}
 use Rattle.turning_points.specs.EndPoints.{last_point}
-use Rattle.level_crossing.specs.Crossings.{crossings, first_of, has_level, IsCrossings, Crosses}
+use Rattle.level_crossing.specs.Crossings.{crossings, start_level, has_level, IsCrossings, Crosses}
 use Rattle.level_crossing.proofs.OfPoints.{crossings_few, crosses_points}
 use Rattle.turning_points.specs.declared.ends.TheConstants.{MAX_POINTS}
 use Rattle.calibration.specs.declared.grid.TheConstants.{MIN_CLASSES, MAX_CLASSES}
 
-first_below : (k : ℕ) (p : List ℕ) → 1 ≤ k → All (λ x. x < k) p → first_of p < k
+first_below : (k : ℕ) (p : List ℕ) → 1 ≤ k → All (λ x. x < k) p → start_level p < k
 first_below k [] o a = omega arith
 first_below k (x ∷ p) o a = All-head (λ y. y < k) x p a
 
@@ -21,7 +21,7 @@ last_below k (x ∷ y ∷ p) o a = last_below k (y ∷ p) o (All-tail (λ y. y <
 -- the parts that a value has after the points p
 pub record Parts (k r : ℕ) (p : List ℕ) (some : Bool) (first last : ℕ) (b s : List ℕ) : Type 0 where
   pub is_some_of : some ≡ has_level p
-  pub is_first : first ≡ first_of p
+  pub is_first : first ≡ start_level p
   pub is_last : last ≡ last_point p
   pub begins : length b ≡ k + 1
   pub stops : length s ≡ k + 1

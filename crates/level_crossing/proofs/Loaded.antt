@@ -11,8 +11,8 @@ use Rattle.tables.specs.Bins.{count_at}
 use Rattle.tables.proofs.Filled.{count_placed, none_before, filled_at, table_at, table_long}
 use Rattle.lemmas.proofs.Lists.{get_or-zeros}
 use Rattle.calibration.specs.declared.grid.TheConstants.{MAX_CLASSES}
-use Rattle.level_crossing.specs.Crossings.{IsCrossings, count_at as crossing_count}
-use Rattle.level_crossing.specs.Loading.{CanLoad, loaded_of}
+use Rattle.level_crossing.specs.Crossings.{IsCrossings, crossing_count}
+use Rattle.level_crossing.specs.Loading.{CanLoadCrossings, loaded_of}
 use Rattle.level_crossing.proofs.PushJoin.{sum_take_more, at_more}
 use Rattle.turning_points.specs.declared.ends.TheConstants.{MAX_POINTS}
 
@@ -44,7 +44,8 @@ count_few k m (b ∷ bs) a =
 abbrev pub IsGrid : ℕ → ℕ → Type 0
 IsGrid classes reference = ((2 ≤ classes) × (classes ≤ MAX_CLASSES)) × ((1 ≤ reference) × (reference < classes))
 
-module _ (classes reference : ℕ) (e : EndPoints) (bins : List Bin) (k : IsGrid classes reference) (c : CanLoad classes e bins) where
+module _ (classes reference : ℕ) (e : EndPoints) (bins : List Bin) (k : IsGrid classes reference)
+    (c : CanLoadCrossings classes e bins) where
   begins_at : (i : ℕ) → get_or (table_with_bins 0 (replicate (classes + 1) 0) bins) i 0 ≡ count_at i bins
   begins_at = table_at 1 classes (classes + 1) bins c.bins_are (omega arith)
 
@@ -95,7 +96,8 @@ module _ (classes reference : ℕ) (e : EndPoints) (bins : List Bin) (k : IsGrid
   }
 
 -- tables are loaded in place of two as long
-pub crossed_closed : (classes reference : ℕ) (e : EndPoints) (bins : List Bin) (k : IsGrid classes reference) (c : CanLoad classes e bins)
+pub crossed_closed : (classes reference : ℕ) (e : EndPoints) (bins : List Bin) (k : IsGrid classes reference)
+    (c : CanLoadCrossings classes e bins)
     (n m : ℕ) (b s : List ℕ) → n ≡ classes + 1 → m ≡ classes + 1
     → b ≡ table_with_bins 0 (replicate n 0) bins → s ≡ table_with_bins 1 (replicate m 0) bins →
     IsCrossings (record {

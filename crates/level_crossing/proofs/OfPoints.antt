@@ -6,7 +6,7 @@ use Rattle.std.proofs.lemmas.Bool.Decides.{nat_tests}
 use Rattle.turning_points.specs.Points.{points, IsBetween}
 use Rattle.turning_points.specs.EndPoints.{last_point}
 use Rattle.turning_points.proofs.Zigzag.{Added, first, equal, second, turn, between, is_added, points_cons, zig_points}
-use Rattle.level_crossing.specs.Crossings.{step_crossings, crossings, first_of, has_level, CrossingsValue, Crosses}
+use Rattle.level_crossing.specs.Crossings.{step_crossings, crossings, start_level, has_level, CrossingsValue, Crosses}
 
 -- the step from x to the first level of p
 abbrev step : ℕ → ℕ → ℕ → List ℕ → ℕ
@@ -53,7 +53,7 @@ some_points : (h : List ℕ) → has_level (points h) ≡ has_level h
 some_points [] = refl
 some_points (x ∷ h) = refl
 
-first_points : (h : List ℕ) → first_of (points h) ≡ first_of h
+first_points : (h : List ℕ) → start_level (points h) ≡ start_level h
 first_points [] = refl
 first_points (x ∷ h) = refl
 

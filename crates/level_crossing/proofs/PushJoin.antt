@@ -5,7 +5,7 @@ use Rattle.std.proofs.lemmas.Bool.Decides.{nat_tests}
 use Rattle.turning_points.specs.EndPoints.{last_point}
 use Rattle.tables.specs.Tables.{raise, sum_of_tables as both}
 use Rattle.level_crossing.specs.Halves.{below_at}
-use Rattle.level_crossing.specs.Crossings.{step_crossings, crossings, first_of, has_level, CrossingsValue, count_at, IsCrossings, Crosses, low, high, begin_step, stop_step, level_of, append_of, between, no_crossings}
+use Rattle.level_crossing.specs.Crossings.{step_crossings, crossings, start_level, has_level, CrossingsValue, crossing_count, IsCrossings, Crosses, lowest_boundary, highest_boundary, begin_step, stop_step, push_of, join_of, joint_crossings, no_crossings}
 use Rattle.tables.proofs.Counting.{sum_cons, length_added, added_at}
 use Rattle.turning_points.specs.declared.ends.TheConstants.{MAX_POINTS}
 
@@ -47,10 +47,10 @@ sum_take_more (x ∷ t) (suc i) = omega (arith, sum_cons x (take (suc i) t), sum
 pub at_more : (t : List ℕ) (i : ℕ) → sum (take (i + 1) t) ≡ sum (take i t) + get_or t i 0
 at_more t i = let e : i + 1 ≡ suc i = omega arith in ap (λ k. sum (take k t)) e ∙ sum_take_more t i
 
-crossed_is : (r l x y : ℕ) → 1 ≤ r → step_crossings r l x y ≡ cond (leb (low r x y) l && leb l (high r x y)) 1 0
+crossed_is : (r l x y : ℕ) → 1 ≤ r → step_crossings r l x y ≡ cond (leb (lowest_boundary r x y) l && leb l (highest_boundary r x y)) 1 0
 crossed_is r l x y h = grind (arith, nat_tests)
 
-within_step : (r x y k : ℕ) → 1 ≤ r → x < k → y < k → (1 ≤ low r x y) × (high r x y < k)
+within_step : (r x y k : ℕ) → 1 ≤ r → x < k → y < k → (1 ≤ lowest_boundary r x y) × (highest_boundary r x y < k)
 within_step r x y k h p q = grind (arith, nat_tests)
 
 -- the sums after a step
@@ -61,23 +61,26 @@ one_step b s d e lo hi l h g p q = grind (arith, nat_tests)
 no_step : (lo hi l : ℕ) → hi < lo → ◌≡◌ {A = ℕ} (cond (leb lo l && leb l hi) 1 0) 0
 no_step lo hi l h = grind (arith, nat_tests)
 
-begin_yes : (r x y : ℕ) (t : List ℕ) → low r x y ≤ high r x y → begin_step true r x y t ≡ raise t (low r x y)
+begin_yes : (r x y : ℕ) (t : List ℕ) → lowest_boundary r x y ≤ highest_boundary r x y →
+    begin_step true r x y t ≡ raise t (lowest_boundary r x y)
 begin_yes r x y t h = pick _ refl
   where
-    pick : (b : Bool) → leb (low r x y) (high r x y) ≡ b → cond (true && b) (raise t (low r x y)) t ≡ raise t (low r x y)
+    pick : (b : Bool) → leb (lowest_boundary r x y) (highest_boundary r x y) ≡ b →
+        cond (true && b) (raise t (lowest_boundary r x y)) t ≡ raise t (lowest_boundary r x y)
     pick true e = refl
     pick false e = absurd (bad e)
       where
-        bad : leb (low r x y) (high r x y) ≡ false → ⊥
+        bad : leb (lowest_boundary r x y) (highest_boundary r x y) ≡ false → ⊥
         bad e = grind (arith, nat_tests)
 
-begin_no : (r x y : ℕ) (t : List ℕ) → high r x y < low r x y → begin_step true r x y t ≡ t
+begin_no : (r x y : ℕ) (t : List ℕ) → highest_boundary r x y < lowest_boundary r x y → begin_step true r x y t ≡ t
 begin_no r x y t h = grind (arith, nat_tests)
 
-stop_yes : (r x y : ℕ) (t : List ℕ) → low r x y ≤ high r x y → stop_step true r x y t ≡ raise t (high r x y + 1)
+stop_yes : (r x y : ℕ) (t : List ℕ) → lowest_boundary r x y ≤ highest_boundary r x y →
+    stop_step true r x y t ≡ raise t (highest_boundary r x y + 1)
 stop_yes r x y t h = grind (arith, nat_tests)
 
-stop_no : (r x y : ℕ) (t : List ℕ) → high r x y < low r x y → stop_step true r x y t ≡ t
+stop_no : (r x y : ℕ) (t : List ℕ) → highest_boundary r x y < lowest_boundary r x y → stop_step true r x y t ≡ t
 stop_no r x y t h = grind (arith, nat_tests)
 
 -- what the tables keep: no prefix stops more than begins before it, and no count is large
@@ -98,44 +101,52 @@ pub record Stepped (k : ℕ) (b s b' s' : List ℕ) (more : ℕ → ℕ) : Type 
   pub count : (l : ℕ) → sum (take (l + 1) b') - sum (take (l + 1) s') ≡ (sum (take (l + 1) b) - sum (take (l + 1) s)) + more l
 
 module _ (k r x y : ℕ) (b s : List ℕ) (h : 1 ≤ r) (p : x < k) (q : y < k) (g : Sound k b s) where
-  step_yes : low r x y ≤ high r x y → Stepped k b s (raise b (low r x y)) (raise s (high r x y + 1)) (λ l. step_crossings r l x y)
+  step_yes : lowest_boundary r x y ≤ highest_boundary r x y →
+      Stepped k b s (raise b (lowest_boundary r x y)) (raise s (highest_boundary r x y + 1)) (λ l. step_crossings r l x y)
   step_yes o =
       let w = within_step r x y k h p q in
-      let m : low r x y < length b = omega (arith, g.begins) in
-      let n : high r x y + 1 < length s = omega (arith, g.stops) in
+      let m : lowest_boundary r x y < length b = omega (arith, g.begins) in
+      let n : highest_boundary r x y + 1 < length s = omega (arith, g.stops) in
       record {
         sound = record {
-          begins = length-set b (low r x y) _ ∙ g.begins;
-          stops = length-set s (high r x y + 1) _ ∙ g.stops;
+          begins = length-set b (lowest_boundary r x y) _ ∙ g.begins;
+          stops = length-set s (highest_boundary r x y + 1) _ ∙ g.stops;
           enough = λ i. omega (
             arith,
-            sum_take_raise b (low r x y) i m,
-            sum_take_raise s (high r x y + 1) (i + 1) n,
+            sum_take_raise b (lowest_boundary r x y) i m,
+            sum_take_raise s (highest_boundary r x y + 1) (i + 1) n,
             g.enough i,
-            enough_one (low r x y) (high r x y) i o,
+            enough_one (lowest_boundary r x y) (highest_boundary r x y) i o,
           );
         };
         count = λ l. omega (
           arith,
-          one_step (sum (take (l + 1) b)) (sum (take (l + 1) s)) _ _ (low r x y) (high r x y) l o
-              (omega (arith, g.enough l, begins_grow b l)) (sum_take_raise b (low r x y) (l + 1) m)
-              (sum_take_raise s (high r x y + 1) (l + 1) n),
+          one_step (sum (take (l + 1) b)) (sum (take (l + 1) s)) _ _ (lowest_boundary r x y) (highest_boundary r x y) l o
+              (omega (arith, g.enough l, begins_grow b l)) (sum_take_raise b (lowest_boundary r x y) (l + 1) m)
+              (sum_take_raise s (highest_boundary r x y + 1) (l + 1) n),
           crossed_is r l x y h,
         );
       }
 
-  step_no : high r x y < low r x y → Stepped k b s b s (λ l. step_crossings r l x y)
-  step_no o = record { sound = g; count = λ l. omega (arith, crossed_is r l x y h, no_step (low r x y) (high r x y) l o) }
+  step_no : highest_boundary r x y < lowest_boundary r x y → Stepped k b s b s (λ l. step_crossings r l x y)
+  step_no o = record {
+    sound = g;
+    count = λ l. omega (
+      arith,
+      crossed_is r l x y h,
+      no_step (lowest_boundary r x y) (highest_boundary r x y) l o,
+    );
+  }
 
-  step_on : ((high r x y < low r x y) ⊎ (low r x y ≤ high r x y)) →
+  step_on : ((highest_boundary r x y < lowest_boundary r x y) ⊎ (lowest_boundary r x y ≤ highest_boundary r x y)) →
       Stepped k b s (begin_step true r x y b) (stop_step true r x y s) (λ l. step_crossings r l x y)
   step_on (inl o) = subst (λ t. Stepped k b s t (stop_step true r x y s) (λ l. step_crossings r l x y)) (sym (begin_no r x y b o))
       (subst (λ t. Stepped k b s b t (λ l. step_crossings r l x y)) (sym (stop_no r x y s o)) (step_no o))
   step_on (inr o) = subst (λ t. Stepped k b s t (stop_step true r x y s) (λ l. step_crossings r l x y)) (sym (begin_yes r x y b o))
-      (subst (λ t. Stepped k b s (raise b (low r x y)) t (λ l. step_crossings r l x y)) (sym (stop_yes r x y s o)) (step_yes o))
+      (subst (λ t. Stepped k b s (raise b (lowest_boundary r x y)) t (λ l. step_crossings r l x y)) (sym (stop_yes r x y s o)) (step_yes o))
 
-  pub stepped : (c : Bool) → Stepped k b s (begin_step c r x y b) (stop_step c r x y s) (λ l. between c r l x y)
-  stepped true = step_on (cases_lt (high r x y) (low r x y))
+  pub stepped : (c : Bool) → Stepped k b s (begin_step c r x y b) (stop_step c r x y s) (λ l. joint_crossings c r l x y)
+  stepped true = step_on (cases_lt (highest_boundary r x y) (lowest_boundary r x y))
   stepped false = record { sound = g; count = λ l. omega arith }
 
 -- the tables of two parts
@@ -159,7 +170,8 @@ count_both k b s c t l g h =
 
 -- a concatenation crosses what its parts cross, and what the step between them crosses
 pub crossings_append : (r l : ℕ) (u v : List ℕ) →
-    crossings r l (u ++ v) ≡ crossings r l u + crossings r l v + between (has_level u && has_level v) r l (last_point u) (first_of v)
+    crossings r l (u ++ v) ≡ crossings r l u + crossings r l v
+    + joint_crossings (has_level u && has_level v) r l (last_point u) (start_level v)
 crossings_append r l [] v = omega arith
 crossings_append r l (x ∷ []) [] = omega arith
 crossings_append r l (x ∷ []) (y ∷ v) = omega arith
@@ -179,7 +191,7 @@ first_below true x y k p q = p
 first_below false x y k p q = q
 
 pub level_rules : (x : ℕ) (v : CrossingsValue) → IsCrossings v → x < v.classes →
-    ((l : ℕ) → count_at v l + between v.some v.reference l v.last x ≤ MAX_POINTS) → IsCrossings (level_of x v)
+    ((l : ℕ) → crossing_count v l + joint_crossings v.some v.reference l v.last x ≤ MAX_POINTS) → IsCrossings (push_of x v)
 level_rules x v i h f =
     let s = stepped v.classes v.reference v.last x v.begins v.stops i.reference.0 i.last h (sound_of v i) v.some in
     record {
@@ -193,7 +205,7 @@ level_rules x v i h f =
       few = λ l. omega (arith, s.count l, f l);
     }
 
-first_push : (h : List ℕ) (x : ℕ) → first_of (h ++ (x ∷ [])) ≡ cond (has_level h) (first_of h) x
+first_push : (h : List ℕ) (x : ℕ) → start_level (h ++ (x ∷ [])) ≡ cond (has_level h) (start_level h) x
 first_push [] x = refl
 first_push (y ∷ h) x = refl
 
@@ -213,23 +225,24 @@ and_true false = refl
 cond_first : (b c : Bool) (x y z : ℕ) → b ≡ c → x ≡ z → cond b x y ≡ cond c z y
 cond_first b c x y z p q = cc
 
-between_same : (b c : Bool) (r l x y x' : ℕ) → b ≡ c → x ≡ x' → between b r l x y ≡ between c r l x' y
-between_same b c r l x y x' p q = cc
+joint_crossings_same : (b c : Bool) (r l x y x' : ℕ) → b ≡ c → x ≡ x' → joint_crossings b r l x y ≡ joint_crossings c r l x' y
+joint_crossings_same b c r l x y x' p q = cc
 
 pub level_crosses : (x : ℕ) (v : CrossingsValue) (h : List ℕ) → IsCrossings v → x < v.classes → Crosses v h →
-    Crosses (level_of x v) (h ++ (x ∷ []))
+    Crosses (push_of x v) (h ++ (x ∷ []))
 level_crosses x v h i p g =
     let s = stepped v.classes v.reference v.last x v.begins v.stops i.reference.0 i.last p (sound_of v i) v.some in
     record {
       some = sym (some_push h x);
-      first = cond_first v.some (has_level h) v.first x (first_of h) g.some g.first ∙ sym (first_push h x);
+      first = cond_first v.some (has_level h) v.first x (start_level h) g.some g.first ∙ sym (first_push h x);
       last = sym (last_push h x);
       counts = λ l a b. omega (
         arith,
         s.count l,
         g.counts l a b,
         crossings_append v.reference l h (x ∷ []),
-        between_same v.some (has_level h && true) v.reference l v.last x (last_point h) (g.some ∙ sym (and_true (has_level h))) g.last,
+        joint_crossings_same v.some (has_level h && true) v.reference l v.last x (last_point h) (g.some ∙ sym (and_true (has_level h)))
+            g.last,
       );
     }
 
@@ -240,7 +253,7 @@ last_append (x ∷ []) [] = refl
 last_append (x ∷ []) (y ∷ v) = refl
 last_append (x ∷ y ∷ u) v = last_append (y ∷ u) v
 
-first_append : (u v : List ℕ) → first_of (u ++ v) ≡ cond (has_level u) (first_of u) (first_of v)
+first_append : (u v : List ℕ) → start_level (u ++ v) ≡ cond (has_level u) (start_level u) (start_level v)
 first_append [] v = refl
 first_append (x ∷ u) v = refl
 
@@ -257,8 +270,8 @@ and_same a b c d p q = cc
 cond_same : (b c : Bool) (x y z w : ℕ) → b ≡ c → x ≡ z → y ≡ w → cond b x y ≡ cond c z w
 cond_same b c x y z w p q r = cc
 
-between_to : (b c : Bool) (r l x y x' y' : ℕ) → b ≡ c → x ≡ x' → y ≡ y' → between b r l x y ≡ between c r l x' y'
-between_to b c r l x y x' y' p q s = cc
+joint_crossings_to : (b c : Bool) (r l x y x' y' : ℕ) → b ≡ c → x ≡ x' → y ≡ y' → joint_crossings b r l x y ≡ joint_crossings c r l x' y'
+joint_crossings_to b c r l x y x' y' p q s = cc
 
 module _ (v w : CrossingsValue) (i : IsCrossings v) (j : IsCrossings w) (k : v.classes ≡ w.classes) where
   sound_right : Sound v.classes w.begins w.stops
@@ -267,17 +280,19 @@ module _ (v w : CrossingsValue) (i : IsCrossings v) (j : IsCrossings w) (k : v.c
   first_within : w.first < v.classes
   first_within = subst (λ n. w.first < n) (sym k) j.first
 
-  append_step : Stepped v.classes (both v.begins w.begins) (both v.stops w.stops) (append_of v w).begins (append_of v w).stops
-      (λ l. between (v.some && w.some) v.reference l v.last w.first)
+  append_step : Stepped v.classes (both v.begins w.begins) (both v.stops w.stops) (join_of v w).begins (join_of v w).stops
+      (λ l. joint_crossings (v.some && w.some) v.reference l v.last w.first)
   append_step = stepped v.classes v.reference v.last w.first (both v.begins w.begins) (both v.stops w.stops) i.reference.0 i.last
       first_within (sound_both v.classes v.begins v.stops w.begins w.stops (sound_of v i) sound_right) (v.some && w.some)
 
-  pub append_count : (l : ℕ) → count_at (append_of v w) l ≡ (count_at v l + count_at w l) + between (v.some && w.some) v.reference
+  pub append_count : (l : ℕ) → crossing_count (join_of v w) l ≡ (crossing_count v l + crossing_count w l)
+      + joint_crossings (v.some && w.some) v.reference
       l v.last w.first
   append_count l = omega (arith, append_step.count l, count_both v.classes v.begins v.stops w.begins w.stops l (sound_of v i) sound_right)
 
-  pub append_rules : ((l : ℕ) → count_at v l + count_at w l + between (v.some && w.some) v.reference l v.last w.first ≤ MAX_POINTS) →
-      IsCrossings (append_of v w)
+  pub append_rules : ((l : ℕ) → crossing_count v l + crossing_count w l
+      + joint_crossings (v.some && w.some) v.reference l v.last w.first ≤ MAX_POINTS) →
+      IsCrossings (join_of v w)
   append_rules f = record {
     classes = i.classes;
     reference = i.reference;
@@ -289,10 +304,10 @@ module _ (v w : CrossingsValue) (i : IsCrossings v) (j : IsCrossings w) (k : v.c
     few = λ l. omega (arith, append_count l, f l);
   }
 
-  pub append_crosses : v.reference ≡ w.reference → (g h : List ℕ) → Crosses v g → Crosses w h → Crosses (append_of v w) (g ++ h)
+  pub append_crosses : v.reference ≡ w.reference → (g h : List ℕ) → Crosses v g → Crosses w h → Crosses (join_of v w) (g ++ h)
   append_crosses e g h a b = record {
     some = or_same v.some w.some (has_level g) (has_level h) a.some b.some ∙ sym (some_append g h);
-    first = cond_same v.some (has_level g) v.first w.first (first_of g) (first_of h) a.some a.first b.first ∙ sym (first_append g h);
+    first = cond_same v.some (has_level g) v.first w.first (start_level g) (start_level h) a.some a.first b.first ∙ sym (first_append g h);
     last = cond_same w.some (has_level h) w.last v.last (last_point h) (last_point g) b.some b.last a.last ∙ sym (last_append g h);
     counts = λ l p q. omega (
       arith,
@@ -301,8 +316,8 @@ module _ (v w : CrossingsValue) (i : IsCrossings v) (j : IsCrossings w) (k : v.c
       b.counts l p (subst (λ n. l < n) k q),
       ap (λ r. crossings r l h) e,
       crossings_append v.reference l g h,
-      between_to (v.some && w.some) (has_level g && has_level h) v.reference l v.last w.first
-          (last_point g) (first_of h) (and_same v.some w.some (has_level g) (has_level h) a.some b.some) a.last b.first,
+      joint_crossings_to (v.some && w.some) (has_level g && has_level h) v.reference l v.last w.first
+          (last_point g) (start_level h) (and_same v.some w.some (has_level g) (has_level h) a.some b.some) a.last b.first,
     );
   }
 
@@ -342,7 +357,7 @@ value_same : (K r : ℕ) (a a' : Bool) (f f' l l' : ℕ) (b b' s s' : List ℕ) 
 value_same K r a a' f f' l l' b b' s s' p q x y z = cc
 
 pub closed : {v w : CrossingsValue} {a c : Bool} {f l : ℕ} {b s b' s' : List ℕ} → IsCrossings v → IsCrossings w → v.classes ≡ w.classes →
-    ((l : ℕ) → count_at v l + count_at w l + between (v.some && w.some) v.reference l v.last w.first ≤ MAX_POINTS) →
+    ((l : ℕ) → crossing_count v l + crossing_count w l + joint_crossings (v.some && w.some) v.reference l v.last w.first ≤ MAX_POINTS) →
     b ≡ both v.begins w.begins → s ≡ both v.stops w.stops → c ≡ (v.some && w.some) → a ≡ (v.some || w.some) →
     f ≡ cond v.some v.first w.first → l ≡ cond w.some w.last v.last → b' ≡ begin_step c v.reference v.last w.first b →
     s' ≡ stop_step c v.reference v.last w.first s →
@@ -355,7 +370,7 @@ closed {v} {w} {a} {c} {f} {l} {b} {s} {b'} {s'} i j e g p q o n m k x y =
     subst IsCrossings (value_same v.classes v.reference _ a _ f _ l _ b' _ s' n m k x' y') (append_rules v w i j e g)
 
 pub level_count : (x : ℕ) (v : CrossingsValue) → IsCrossings v → x < v.classes → (l : ℕ) →
-    count_at (level_of x v) l ≡ count_at v l + between v.some v.reference l v.last x
+    crossing_count (push_of x v) l ≡ crossing_count v l + joint_crossings v.some v.reference l v.last x
 level_count x v i h = (stepped v.classes v.reference v.last x v.begins v.stops i.reference.0 i.last h (sound_of v i) v.some).count
 
 sum_replicate : (i n : ℕ) → sum (take i (replicate n 0)) ≡ 0
@@ -363,5 +378,5 @@ sum_replicate zero n = refl
 sum_replicate (suc i) zero = refl
 sum_replicate (suc i) (suc n) = omega (arith, sum_cons 0 (take i (replicate n 0)), sum_replicate i n)
 
-pub none_counted : (v : CrossingsValue) (k r : ℕ) → v ≡ no_crossings k r → (l : ℕ) → count_at v l ≡ 0
-none_counted v k r e l = omega (arith, ap (λ w. count_at w l) e, sum_replicate (l + 1) (k + 1))
+pub none_counted : (v : CrossingsValue) (k r : ℕ) → v ≡ no_crossings k r → (l : ℕ) → crossing_count v l ≡ 0
+none_counted v k r e l = omega (arith, ap (λ w. crossing_count w l) e, sum_replicate (l + 1) (k + 1))

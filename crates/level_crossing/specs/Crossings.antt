@@ -1,14 +1,14 @@
 -- Level crossings (ASTM E1049-85, 5.1): how often a history crosses a boundary in the counted direction, upwards from
 -- the reference on and downwards below it. Boundary l lies below level l.
---   step_crossings  1 where the step from x to y crosses boundary l
---   crossings       how often a history does
---   CrossingsValue  what contracts see of a `Crossings`: its first and last level, and the counts as differences of
---                   two sums
---   count_at        the count of a boundary
---   IsCrossings     what holds of every `Crossings`
---   Crosses         a value stands for a history
---   CrossesPoints   a value has the counts of a list of points
---   level_of, append_of   a value after one level more, and two values one after the other
+--   step_crossings    1 where the step from x to y crosses boundary l
+--   crossings         how often a history does
+--   CrossingsValue    what contracts see of a `Crossings`: its first and last level, and the counts as differences of
+--                     two sums
+--   crossing_count    the count of a boundary
+--   IsCrossings       what holds of every `Crossings`
+--   Crosses           a value stands for a history
+--   CrossesPoints     a value has the counts of a list of points
+--   push_of, join_of  a value after one level more, and two values one after the other
 use Rattle.std.specs.Prelude.{◌≡◌, ℕ, ◌+◌, ◌-◌, ◌<◌, ◌≤◌, Bool, true, false, ◌&&◌, ◌||◌, nat_lt, nat_le, if◌then◌else◌, List, [], ◌∷◌, length, take, sum, replicate, max, min}
 use Rattle.turning_points.specs.Points.{points}
 use Rattle.turning_points.specs.EndPoints.{last_point}
@@ -25,9 +25,9 @@ crossings r l [] = 0
 crossings r l (x ∷ []) = 0
 crossings r l (x ∷ y ∷ h) = step_crossings r l x y + crossings r l (y ∷ h)
 
-abbrev pub first_of : List ℕ → ℕ
-first_of [] = 0
-first_of (x ∷ h) = x
+abbrev pub start_level : List ℕ → ℕ
+start_level [] = 0
+start_level (x ∷ h) = x
 
 abbrev pub has_level : List ℕ → Bool
 has_level [] = false
@@ -54,8 +54,8 @@ no_crossings k r = record {
 }
 
 -- the runs over a boundary: those that begin at or below it, less those that stop there
-abbrev pub count_at : CrossingsValue → ℕ → ℕ
-count_at v l = sum (take (l + 1) v.begins) - sum (take (l + 1) v.stops)
+abbrev pub crossing_count : CrossingsValue → ℕ → ℕ
+crossing_count v l = sum (take (l + 1) v.begins) - sum (take (l + 1) v.stops)
 
 -- no sum of stops passes the sum of what began before
 pub record IsCrossings (v : CrossingsValue) : Type 0 where
@@ -70,51 +70,51 @@ pub record IsCrossings (v : CrossingsValue) : Type 0 where
 
 pub record Crosses (v : CrossingsValue) (h : List ℕ) : Type 0 where
   pub some : v.some ≡ has_level h
-  pub first : v.first ≡ first_of h
+  pub first : v.first ≡ start_level h
   pub last : v.last ≡ last_point h
-  pub counts : (l : ℕ) → 1 ≤ l → l < v.classes → count_at v l ≡ crossings v.reference l h
+  pub counts : (l : ℕ) → 1 ≤ l → l < v.classes → crossing_count v l ≡ crossings v.reference l h
 
 -- it has the grid, the ends and the counts of the points p
 pub record CrossesPoints (v : CrossingsValue) (classes reference : ℕ) (p : List ℕ) : Type 0 where
   pub grid : (v.classes ≡ classes) × (v.reference ≡ reference)
   pub some : v.some ≡ has_level p
-  pub first : v.first ≡ first_of p
+  pub first : v.first ≡ start_level p
   pub last : v.last ≡ last_point p
-  pub counts : (l : ℕ) → count_at v l ≡ crossings reference l p
+  pub counts : (l : ℕ) → crossing_count v l ≡ crossings reference l p
 
--- the boundaries that the step from x to y crosses: from low to high
-abbrev pub low : ℕ → ℕ → ℕ → ℕ
-low r x y = if nat_lt x y then max (x + 1) r else y + 1
+-- the step from x to y crosses the boundaries from the lowest to the highest, and none where they lie the other way
+abbrev pub lowest_boundary : ℕ → ℕ → ℕ → ℕ
+lowest_boundary r x y = if nat_lt x y then max (x + 1) r else y + 1
 
-abbrev pub high : ℕ → ℕ → ℕ → ℕ
-high r x y = if nat_lt x y then y else min x (r - 1)
+abbrev pub highest_boundary : ℕ → ℕ → ℕ → ℕ
+highest_boundary r x y = if nat_lt x y then y else min x (r - 1)
 
 -- the tables after the step from x to y, if there is one
 abbrev pub begin_step : Bool → ℕ → ℕ → ℕ → List ℕ → List ℕ
-begin_step b r x y t = if b && nat_le (low r x y) (high r x y) then raise t (low r x y) else t
+begin_step b r x y t =
+    if b && nat_le (lowest_boundary r x y) (highest_boundary r x y) then raise t (lowest_boundary r x y) else t
 
 abbrev pub stop_step : Bool → ℕ → ℕ → ℕ → List ℕ → List ℕ
-stop_step b r x y t = if b && nat_le (low r x y) (high r x y) then raise t (high r x y + 1) else t
+stop_step b r x y t =
+    if b && nat_le (lowest_boundary r x y) (highest_boundary r x y) then raise t (highest_boundary r x y + 1) else t
 
--- one crossing more where there is a step
-abbrev pub between : Bool → ℕ → ℕ → ℕ → ℕ → ℕ
-between b r l x y = if b then step_crossings r l x y else 0
+-- the crossings of the step that joins two levels, if there is one
+abbrev pub joint_crossings : Bool → ℕ → ℕ → ℕ → ℕ → ℕ
+joint_crossings b r l x y = if b then step_crossings r l x y else 0
 
-abbrev pub level_of : ℕ → CrossingsValue → CrossingsValue
-level_of x v = record {
+abbrev pub push_of : ℕ → CrossingsValue → CrossingsValue
+push_of x v = record {
   classes = v.classes;
   reference = v.reference;
   some = true;
-  first = if v.some then v.first
-      else x;
+  first = if v.some then v.first else x;
   last = x;
   begins = begin_step v.some v.reference v.last x v.begins;
-  stops = stop_step v.some v.reference
-      v.last x v.stops;
+  stops = stop_step v.some v.reference v.last x v.stops;
 }
 
-abbrev pub append_of : CrossingsValue → CrossingsValue → CrossingsValue
-append_of v w = record {
+abbrev pub join_of : CrossingsValue → CrossingsValue → CrossingsValue
+join_of v w = record {
   classes = v.classes;
   reference = v.reference;
   some = v.some || w.some;

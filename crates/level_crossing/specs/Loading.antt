@@ -1,7 +1,7 @@
 -- What a `Crossings` takes over in place of its own counts.
---   CanLoad    ends and counts of boundaries that it can take over
---   loaded_of  the value with them
---   HasEnds    whether there is a level, the first one and the last one
+--   CanLoadCrossings  ends and counts of boundaries that it can take over
+--   loaded_of         the value with them
+--   HasEnds           whether there is a level, the first one and the last one
 use Rattle.std.specs.Prelude.{◌≡◌, ◌<◌, ◌≤◌, ℕ, ◌+◌, ◌==◌, not, List, All, replicate}
 use Rattle.tally.specs.declared.cells.Bin.{Bin}
 use Rattle.turning_points.specs.EndPoints.{EndPoints}
@@ -11,7 +11,7 @@ use Rattle.level_crossing.specs.Crossings.{CrossingsValue}
 use Rattle.turning_points.specs.declared.ends.TheConstants.{MAX_POINTS}
 
 -- levels below `classes`; the keys are boundaries and ascend, and no count is 0 or above `MAX_POINTS`
-pub record CanLoad (classes : ℕ) (e : EndPoints) (bins : List Bin) : Type 0 where
+pub record CanLoadCrossings (classes : ℕ) (e : EndPoints) (bins : List Bin) : Type 0 where
   pub first : e.first < classes
   pub last : e.last < classes
   pub bins_are : AreBinsFrom 1 classes bins

@@ -1,11 +1,11 @@
 ghost use Rattle.std.specs.Prelude.{All, replicate, true, List, [], ◌∷◌, ◌++◌, ◌+◌, ◌-◌, ◌<◌, ◌≡◌, ◌≤◌, ◌^◌, ◌&&◌, ◌||◌, if◌then◌else◌, length, slice_index, sum, take, IfOk, ℕ};
 ghost use Rattle.turning_points.specs.Points.{points};
 ghost use Rattle.tables.specs.Tables.{table_with_bins};
-ghost use Rattle.tables.specs.Bins.{count_at as count_of_bins};
+ghost use Rattle.tables.specs.Bins.{count_at};
 ghost use Rattle.turning_points.specs.Ends.{end_points};
 ghost use Rattle.turning_points.specs.EndPoints.{last_point};
-ghost use Rattle.level_crossing.specs.Loading.{CanLoad, HasEnds, loaded_of};
-ghost use Rattle.level_crossing.specs.Crossings.{Crosses, IsCrossings, append_of, begin_step, between, count_at, crossings, first_of, high, has_level, level_of, low, no_crossings, stop_step};
+ghost use Rattle.level_crossing.specs.Loading.{CanLoadCrossings, HasEnds, loaded_of};
+ghost use Rattle.level_crossing.specs.Crossings.{Crosses, IsCrossings, join_of, begin_step, joint_crossings, crossing_count, crossings, start_level, highest_boundary, has_level, push_of, lowest_boundary, no_crossings, stop_step};
 ghost use Rattle.level_crossing.specs.Extremes.{extremes_at};
 ghost use Rattle.turning_points.specs.declared.ends.TheConstants.{MAX_POINTS};
 
@@ -51,14 +51,13 @@ impl Model for Crossings {
       first = s.first;
       last = s.last;
       begins = s.begins.items;
-      stops =
-          s.stops.items;
+      stops = s.stops.items;
     }) };
 }
 
 // The boundaries that a step crosses.
-fn crossed_from(reference: u16, x: u16, y: u16) -> usize
-    ensures { result ≡ low reference x y }
+fn lowest_boundary(reference: u16, x: u16, y: u16) -> usize
+    ensures { result ≡ lowest_boundary reference x y }
 {
     if x < y {
         (usize::from(x) + 1).max(usize::from(reference))
@@ -67,9 +66,9 @@ fn crossed_from(reference: u16, x: u16, y: u16) -> usize
     }
 }
 
-fn crossed_to(reference: u16, x: u16, y: u16) -> usize
+fn highest_boundary(reference: u16, x: u16, y: u16) -> usize
     requires { 1 ≤ reference }
-    ensures { result ≡ high reference x y }
+    ensures { result ≡ highest_boundary reference x y }
 {
     if x < y {
         usize::from(y)
@@ -92,8 +91,8 @@ fn step(begins: &mut [u64], stops: &mut [u64], yes: bool, reference: u16, x: u16
     if !yes {
         return;
     }
-    let low = crossed_from(reference, x, y);
-    let high = crossed_to(reference, x, y);
+    let low = lowest_boundary(reference, x, y);
+    let high = highest_boundary(reference, x, y);
     if low > high {
         return;
     }
@@ -162,7 +161,7 @@ impl Crossings {
     /// How often a boundary was crossed.
     pub fn at(&self, boundary: u16) -> u64
         requires { boundary < self.now.classes }
-        ensures value { result ≡ count_at self.now boundary }
+        ensures value { result ≡ crossing_count self.now boundary }
         ensures rules { IsCrossings self.now }
     {
         count_to(&self.begins, &self.stops, usize::from(boundary))
@@ -170,9 +169,9 @@ impl Crossings {
 
     fn push_level(&mut self, level: u16)
         requires level { level < self.old.classes }
-        requires few { (l : ℕ) → count_at self.old l
-            + between self.old.some self.old.reference l self.old.last level ≤ MAX_POINTS }
-        ensures value { self.new ≡ level_of level self.old }
+        requires few { (l : ℕ) → crossing_count self.old l
+            + joint_crossings self.old.some self.old.reference l self.old.last level ≤ MAX_POINTS }
+        ensures value { self.new ≡ push_of level self.old }
         ensures rules { IsCrossings self.old }
     {
         step_in(
@@ -192,15 +191,16 @@ impl Crossings {
     /// One level more.
     pub fn push(&mut self, level: u16)
         requires level { level < self.old.classes }
-        requires few { (l : ℕ) → count_at self.old l
-            + between self.old.some self.old.reference l self.old.last level ≤ MAX_POINTS }
+        requires few { (l : ℕ) → crossing_count self.old l
+            + joint_crossings self.old.some self.old.reference l self.old.last level ≤ MAX_POINTS }
         ensures grid { (self.new.classes ≡ self.old.classes)
             × (self.new.reference ≡ self.old.reference) }
         ensures some { self.new.some ≡ true }
         ensures first { self.new.first ≡ (if self.old.some then self.old.first else level) }
         ensures last { self.new.last ≡ level }
-        ensures counts { (l : ℕ) → count_at self.new l ≡
-            count_at self.old l + between self.old.some self.old.reference l self.old.last level }
+        ensures counts { (l : ℕ) → crossing_count self.new l ≡
+            crossing_count self.old l
+            + joint_crossings self.old.some self.old.reference l self.old.last level }
         ensures rules { IsCrossings self.new }
         ensures histories { (h : List ℕ) → Crosses self.old h → Crosses self.new (h ++ level ∷ []) }
     {
@@ -209,10 +209,10 @@ impl Crossings {
 
     fn append_history(&mut self, right: &Crossings)
         requires classes { self.old.classes ≡ right.now.classes }
-        requires few { (l : ℕ) → count_at self.old l + count_at right.now l
-            + between (self.old.some && right.now.some) self.old.reference l
+        requires few { (l : ℕ) → crossing_count self.old l + crossing_count right.now l
+            + joint_crossings (self.old.some && right.now.some) self.old.reference l
             self.old.last right.now.first ≤ MAX_POINTS }
-        ensures value { self.new ≡ append_of self.old right.now }
+        ensures value { self.new ≡ join_of self.old right.now }
         ensures left { IsCrossings self.old }
         ensures right { IsCrossings right.now }
     {
@@ -239,8 +239,8 @@ impl Crossings {
     pub fn join(&mut self, right: &Crossings)
         requires classes { self.old.classes ≡ right.now.classes }
         requires reference { self.old.reference ≡ right.now.reference }
-        requires few { (l : ℕ) → count_at self.old l + count_at right.now l
-            + between (self.old.some && right.now.some) self.old.reference l
+        requires few { (l : ℕ) → crossing_count self.old l + crossing_count right.now l
+            + joint_crossings (self.old.some && right.now.some) self.old.reference l
             self.old.last right.now.first ≤ MAX_POINTS }
         ensures grid { (self.new.classes ≡ self.old.classes)
             × (self.new.reference ≡ self.old.reference) }
@@ -249,8 +249,9 @@ impl Crossings {
             (if self.old.some then self.old.first else right.now.first) }
         ensures last { self.new.last ≡
             (if right.now.some then right.now.last else self.old.last) }
-        ensures counts { (l : ℕ) → count_at self.new l ≡ count_at self.old l + count_at right.now l
-            + between (self.old.some && right.now.some) self.old.reference l
+        ensures counts { (l : ℕ) → crossing_count self.new l ≡
+            crossing_count self.old l + crossing_count right.now l
+            + joint_crossings (self.old.some && right.now.some) self.old.reference l
             self.old.last right.now.first }
         ensures rules { IsCrossings self.new }
         ensures histories { (g h : List ℕ) → Crosses self.old g → Crosses right.now h →
@@ -271,9 +272,10 @@ impl Crossings {
         ensures grid { (self.new.classes ≡ self.old.classes)
             × (self.new.reference ≡ self.old.reference) }
         ensures some { self.new.some ≡ has_level list.now }
-        ensures first { self.new.first ≡ first_of list.now }
+        ensures first { self.new.first ≡ start_level list.now }
         ensures last { self.new.last ≡ last_point list.now }
-        ensures counts { (l : ℕ) → count_at self.new l ≡ crossings self.old.reference l list.now }
+        ensures counts { (l : ℕ) →
+            crossing_count self.new l ≡ crossings self.old.reference l list.now }
         ensures rules { IsCrossings self.new }
         ensures extremes { (k : ℕ) → k < self.old.classes →
             slice_index extremes.new.items k ≡ extremes_at self.old.reference k list.now }
@@ -294,7 +296,7 @@ impl Crossings {
 
     // Takes ends and counts in place of its own; what the value is then.
     fn replace_by(&mut self, ends: &Ends, bins: &[Bin])
-        requires { CanLoad self.old.classes (end_points ends.now) bins.now }
+        requires { CanLoadCrossings self.old.classes (end_points ends.now) bins.now }
         ensures value { self.new ≡ loaded_of self.old.classes self.old.reference
             (end_points ends.now) bins.now }
         ensures rules { IsCrossings self.old }
@@ -309,11 +311,11 @@ impl Crossings {
 
     /// Takes the ends of a history and its counts of boundaries in place of its own.
     pub fn load(&mut self, ends: &Ends, bins: &[Bin])
-        requires { CanLoad self.old.classes (end_points ends.now) bins.now }
+        requires { CanLoadCrossings self.old.classes (end_points ends.now) bins.now }
         ensures grid { (self.new.classes ≡ self.old.classes)
             × (self.new.reference ≡ self.old.reference) }
         ensures ends { HasEnds self.new (end_points ends.now) }
-        ensures counts { (l : ℕ) → count_at self.new l ≡ count_of_bins l bins.now }
+        ensures counts { (l : ℕ) → crossing_count self.new l ≡ count_at l bins.now }
         ensures rules { IsCrossings self.new }
     {
         self.replace_by(ends, bins)

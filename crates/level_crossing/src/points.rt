@@ -1,8 +1,8 @@
-ghost use Rattle.std.specs.Prelude.{◌≡◌, ℕ, ◌+◌, ◌-◌, ◌*◌, ◌^◌, ◌<◌, ◌≤◌, ◌⊎◌, nat_le, if◌then◌else◌, All, length, slice_index, sum, take};
+ghost use Rattle.std.specs.Prelude.{◌≡◌, ℕ, ◌+◌, ◌-◌, ◌^◌, ◌<◌, ◌≤◌, nat_le, if◌then◌else◌, All, length, slice_index, sum, take};
 ghost use Rattle.turning_points.specs.Points.{points};
 ghost use Rattle.turning_points.specs.EndPoints.{last_point};
 ghost use Rattle.tables.specs.Tables.{raise};
-ghost use Rattle.level_crossing.specs.Crossings.{crossings, first_of, has_level};
+ghost use Rattle.level_crossing.specs.Crossings.{crossings, start_level, has_level};
 ghost use Rattle.level_crossing.specs.Halves.{HasExtremes, IsOpen, IsSettled};
 ghost use Rattle.level_crossing.specs.Extremes.{extremes_at};
 ghost use Rattle.turning_points.specs.declared.ends.TheConstants.{MAX_POINTS};
@@ -231,7 +231,7 @@ pub fn has_some(list: &[u16]) -> bool
 
 /// The first point of a list, or 0 where there is none.
 pub fn first_level(list: &[u16]) -> u16
-    ensures { result ≡ first_of list.now }
+    ensures { result ≡ start_level list.now }
 {
     if list.is_empty() { 0 } else { list[0] }
 }

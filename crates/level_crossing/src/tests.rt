@@ -1,5 +1,5 @@
 ghost use Rattle.std.specs.Prelude.{◌≡◌, ◌≤◌, ◌^◌, ℕ, IfOk, length};
-ghost use Rattle.level_crossing.specs.Crossings.{count_at};
+ghost use Rattle.level_crossing.specs.Crossings.{crossing_count};
 
 use super::*;
 use calibration::Grid;
@@ -20,7 +20,7 @@ const EXTREMES: [u64; 16] = [0, 0, 0, 0, 1, 1, 0, 1, 0, 1, 0, 1, 1, 1, 0, 0];
 // The crossings of levels that come one at a time; a level that the grid doesn't have is left out.
 fn counted(alloc: Global, grid: &Grid, levels: &[u16]) -> Result<Crossings, AllocError>
     requires { length levels.now ≤ 2 ^ 20 }
-    ensures few { IfOk result (λ s. (l : ℕ) → count_at s l ≤ 2 ^ 20) }
+    ensures few { IfOk result (λ s. (l : ℕ) → crossing_count s l ≤ 2 ^ 20) }
     ensures grid { IfOk result (λ s.
         (s.classes ≡ grid.now.classes) × (s.reference ≡ grid.now.reference)) }
 {

@@ -21,6 +21,7 @@ audit_without_memory before after s is tells ends same none = subst (λ (x : Sta
   prints = λ o c bridge is2. same;
   nothing = λ o p. same;
   quiet = λ k c. tells k;
+  silent = λ k no. absurd (cc);
   last = λ k c n. ends k;
   named = λ no. cc;
   read = λ no. absurd (cc);

@@ -2,7 +2,7 @@
 use Rattle.std.proofs.Common.{◌≡◌, inr, ℕ, List, [], refl, sym, subst}
 use Rattle.station.specs.Station.{Image, Lines}
 use Rattle.recorded.specs.Recorded.{recordings, Recorded}
-use Rattle.held_samples.specs.Going.{AllHold, IsKept}
+use Rattle.held_samples.specs.Going.{AllHold, KeepsTold}
 use Rattle.outside.specs.Site.{AsksNothing}
 use Rattle.site_config.specs.Configuration.{config_of_bytes}
 use Rattle.recorded.specs.Asked.{names_in}
@@ -20,7 +20,7 @@ kept_moments : (before after : Shown) (r : Recorded) (a : List ℕ)
     → ((lines : Lines) (image : Image) → before.moments before.clock lines image → (lines ≡ before.told) × before.leaves image)
     → Tells (fault_line OutOfMemory []) before after → AllHold r a before.leaves → (lines : Lines) (image : Image) →
     after.moments before.clock lines image
-    → IsKept r a before.told lines image
+    → KeepsTold r a before.told lines image
 kept_moments before after r a only tells holds lines image was =
     let safe = safe_starts r a before.clock before.moments before.told before.seen before.leaves holds only in
     (safe_fault r a _ _ _ _ _ _ _ _ _ _ _ _ _ safe (fault_line OutOfMemory []) (fault_below r OutOfMemory []) tells).run.each

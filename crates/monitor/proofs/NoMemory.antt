@@ -83,6 +83,7 @@ report_without_memory before after s is tells ends same none = subst (λ (x : St
       (kept_unprinted OutOfMemory bridge bodies before.written refl);
   nothing = λ o p. same;
   quiet = λ k. tells k;
+  silent = λ k no. absurd (cc);
   last = λ k n. ends k;
   answer_is = λ k c. tt;
   complete = λ k c sound r f w. inr refl;

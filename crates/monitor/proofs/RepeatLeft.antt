@@ -15,6 +15,7 @@ repeat_without_memory before after s is tells ends same none = subst (λ (x : St
   prints = λ o k c bridge is2 w n holds. same;
   nothing = λ o p. same;
   quiet = λ k. tells k;
+  silent = λ k no. absurd (cc);
   last = λ k n. ends k;
   answer_is = λ k c. tt;
   complete = λ k c sound r f w. inr refl;

@@ -18,6 +18,7 @@ sheet_without_memory before after s is tells ends same none = subst (λ (x : Sta
   prints = λ o t c bridge is2. same;
   nothing = λ o d w. same;
   quiet = λ k c. tells k;
+  silent = λ k no. absurd (cc);
   last = λ k c n. ends k;
   answer_is = λ t c. tt;
   complete = λ t c r f w. inr refl;

@@ -36,6 +36,7 @@ pub record AuditRuns (before after : Shown) (answer : Status) : Type 0 where
   pub nothing : before.output_tells → ¬ IsPrinting answer → after.written ≡ before.written
   -- At most the line of the answer is told, and the store stays.
   pub quiet : before.station_tells → before.config_tells → Tells (line_for before answer) before after
+  pub silent : before.station_tells → answer ≡ Done → after.told ≡ before.told
   pub last : before.station_tells → before.config_tells → answer ≢ Done → Ends (line_for before answer) before after
   pub named : answer ≢ Usage
   pub read : answer ≡ ReadFault → CountRose before.config_faults after.config_faults ⊎

@@ -7,7 +7,7 @@ use Rattle.site_config.specs.Configuration.{config_of_bytes}
 use Rattle.site_config.specs.declared.config.Config.{Config}
 use Rattle.recorded.specs.Recorded.{recordings}
 use Rattle.recorded.specs.Asked.{AsksFirst, names_in}
-use Rattle.held_samples.specs.Going.{AllHold, IsKept}
+use Rattle.held_samples.specs.Going.{AllHold, KeepsTold}
 use Rattle.held_samples.specs.Told.{Acknowledges}
 use Rattle.site_lanes.specs.Answers.{HeadsFit, AllSound}
 use Rattle.status.specs.declared.status.Status.{Status}
@@ -25,7 +25,7 @@ pub record CountRuns (before after : Shown) (answer : Status) : Type 0 where
   pub every_moment : before.station_tells → before.site_tells → before.config_tells → (c : Config) →
       config_of_bytes before.config ≡ Ok c → (a : List ℕ) → AllHold (recordings c before.files) a before.leaves →
       (lines : Lines) (image : Image) → after.moments before.clock lines image →
-      IsKept (recordings c before.files) a before.told lines image
+      KeepsTold (recordings c before.files) a before.told lines image
   -- At a good end all samples are held, and where a recording is torn or too long, as many as a recording may have.
   pub ended : before.station_tells → before.site_tells → before.config_tells → (c : Config) →
       config_of_bytes before.config ≡ Ok c → (a : List ℕ) → AllHold (recordings c before.files) a before.leaves →

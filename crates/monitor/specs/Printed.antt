@@ -8,8 +8,8 @@ use Rattle.calibration.specs.Gain.{GainValue}
 use Rattle.calibration.specs.Grid.{GridValue}
 use Rattle.calibration.specs.History.{history}
 use Rattle.three_point.specs.Run.{half_units}
-use Rattle.monitor.specs.declared.grid.TheConstants.{CLASSES, REFERENCE, WIDTH}
-use Rattle.report.specs.Counts.{counts_of}
+use Rattle.monitor.specs.declared.grid.TheConstants.{CLASSES, REFERENCE, WIDTH, KPA}
+use Rattle.report.specs.Counts.{kinds_of}
 use Rattle.report.specs.Texts.{table_text}
 use Rattle.recording.specs.declared.head.TheConstants.{HEAD_LENGTH}
 
@@ -17,12 +17,12 @@ abbrev pub table_grid : GridValue
 table_grid = record { classes = CLASSES; w2 = WIDTH; low_kpa = pos 0; reference = REFERENCE }
 
 abbrev pub table_gain : GainValue
-table_gain = record { num = pos 1000; den = 1; offset = pos 0 }
+table_gain = record { num = KPA; den = 1; offset = pos 0 }
 
 -- The half units are those of the three-point count over the whole level history.
 abbrev pub text_of_samples : List ℤ → List ℕ
 text_of_samples w =
-    table_text table_grid (counts_of table_grid table_gain w) (half_units (history table_grid table_gain w))
+    table_text table_grid (kinds_of table_grid table_gain w) (half_units (history table_grid table_gain w))
 
 -- the body of a recording stands behind the 32 bytes of its head
 abbrev pub text_of : List ℕ → List ℕ

@@ -30,6 +30,7 @@ pub record ReportRuns (before after : Shown) (answer : Status) : Type 0 where
   pub nothing : before.output_tells → ¬ IsPrinting answer → after.written ≡ before.written
   -- At most the line of the answer is told, and the store stays.
   pub quiet : before.station_tells → Tells (fault_line answer []) before after
+  pub silent : before.station_tells → answer ≡ Done → after.told ≡ before.told
   pub last : before.station_tells → answer ≢ Done → Ends (fault_line answer []) before after
   -- Which answer it is, and when it is `Done`.
   pub answer_is : before.station_tells → before.config_tells →

@@ -17,6 +17,7 @@ pub record SheetRuns (before after : Shown) (answer : Status) : Type 0 where
   pub nothing : before.output_tells → answer ≢ Done → answer ≢ WriteFault → after.written ≡ before.written
   -- At most the line of the answer is told, and the store stays.
   pub quiet : before.station_tells → before.config_tells → Tells (line_for before answer) before after
+  pub silent : before.station_tells → answer ≡ Done → after.told ≡ before.told
   pub last : before.station_tells → before.config_tells → answer ≢ Done → Ends (line_for before answer) before after
   -- Which answer it is, and when it is the configuration's and the files' own.
   pub answer_is : before.site_tells → before.config_tells →

@@ -6,7 +6,7 @@ ghost use Rattle.monitor.specs.Figures.{AreFigures};
 ghost use Rattle.monitor.specs.Printed.{table_grid, table_gain, text_of_samples};
 ghost use Rattle.file_tasks.specs.Run.{Runs, outside};
 ghost use Rattle.monitor.specs.Task.{table_task};
-ghost use Rattle.file_tasks.specs.Answer.{IsPrinting};
+ghost use Rattle.file_tasks.specs.Answer.{IsPrintingOrNoMemory};
 
 use crate::counting::table_page;
 use crate::read::read_recording;
@@ -56,7 +56,7 @@ fn print_table<O: Sink>(alloc: Global, figures: RunningCount<HalfUnits>, out: &m
     ensures nothing { O.tells → result ≢ Status.Done → result ≢ Status.WriteFault →
         O.written out.new ≡ O.written out.old }
     ensures write { result ≡ Status.WriteFault → CountRose (O.faults out.old) (O.faults out.new) }
-    ensures printing { IsPrinting result }
+    ensures printing { IsPrintingOrNoMemory result }
 {
     let Ok(page) = table_page(alloc, figures) else {
         return Status::OutOfMemory;

@@ -12,6 +12,9 @@ pub const WIDTH: u16 = 2;
 /// The reference level of `table`, in the middle of its classes.
 pub const REFERENCE: u16 = 32;
 
+/// One N/mm² in kPa: the stress of a raw value of 1.
+pub const KPA: i64 = 1000;
+
 /// The grid of `table`: 64 classes of 1 N/mm² from 0 N/mm² on.
 pub fn grid_of_table() -> Grid
     ensures { result ≡ table_grid }
@@ -27,7 +30,7 @@ pub fn table_classifier() -> Classifier
     ensures gain { result.gain ≡ table_gain }
     ensures grid { result.grid ≡ table_grid }
 {
-    match Gain::new(1000, 1, 0) {
+    match Gain::new(KPA, 1, 0) {
         Ok(gain) => Classifier::new(&gain, &grid_of_table()),
         Err(_) => unreachable!(),
     }

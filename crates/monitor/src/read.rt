@@ -1,4 +1,4 @@
-ghost use Rattle.std.specs.Prelude.{◌≡◌, ◌≤◌, ◌<◌, ℤ, List, IfOk, Err, drop, length};
+ghost use Rattle.std.specs.Prelude.{◌≡◌, ◌≤◌, ◌<◌, ℤ, List, IfOk, Err, drop};
 ghost use Rattle.outside.specs.Fault.{CountRose};
 ghost use Rattle.recording.specs.Samples.{samples};
 ghost use Rattle.file_tasks.specs.FileState.{state_of};
@@ -28,8 +28,8 @@ pub fn read_recording<S: Source>(
         AreFigures table_grid table_gain figures w ×
         (S.tells → w ≡ samples (drop HEAD_LENGTH (S.left src.old)))) }
     ensures few { IfOk result (λ figures. figures.counts.samples ≤ MAX_SAMPLES) }
-    ensures cause { S.tells → MayGive 0 result (state_of (S.left src.old)) }
-    ensures fault { result ≡ Err ReadFault → CountRose (S.faults src.old) (S.faults src.new) }
+    ensures answer { S.tells → MayGive 0 result (state_of (S.left src.old)) }
+    ensures cause { result ≡ Err ReadFault → CountRose (S.faults src.old) (S.faults src.new) }
     ensures later { S.faults src.old ≤ S.faults src.new }
 {
     read_head(src)?;

@@ -34,6 +34,7 @@ pub(crate) fn told_table<T: Site, K: Station, O: Sink>(
         (K.clock station.old) (K.moments station.old) (K.clock station.new) (K.moments station.new)
         (K.told station.old) (K.told station.new) (K.seen station.old) (K.seen station.new)
         (K.leaves station.old) (K.leaves station.new) }
+    ensures silent { K.tells → result ≡ Status.Done → K.told station.new ≡ K.told station.old }
     ensures last { K.tells → result ≢ Status.Done →
         CountRose (K.faults station.old) (K.faults station.new) ⊎
         EndsIn (fault_line result file.now) (K.told station.new) }

@@ -144,6 +144,9 @@ pub fn monitor<
         config.old site.old station.old out.old)
         (shown_by ⟦<C as Source>⟧ ⟦<T as Site>⟧ ⟦<K as Station>⟧ ⟦<O as Sink>⟧
         config.new site.new station.new out.new) }
+    ensures silent { (name : List ℕ) →
+        IsToldOf (command_of (map string_bytes words.now)) name → K.tells →
+        result ≡ Status.Done → K.told station.new ≡ K.told station.old }
     ensures last { (name : List ℕ) →
         IsToldOf (command_of (map string_bytes words.now)) name → K.tells →
         result ≢ Status.Done → Ends (fault_line result name)
@@ -151,6 +154,9 @@ pub fn monitor<
         config.old site.old station.old out.old)
         (shown_by ⟦<C as Source>⟧ ⟦<T as Site>⟧ ⟦<K as Station>⟧ ⟦<O as Sink>⟧
         config.new site.new station.new out.new) }
+    // These read no configuration.
+    ensures unread { (name : List ℕ) →
+        IsToldOf (command_of (map string_bytes words.now)) name → config.new ≡ config.old }
     ensures back { T.out site.new ≡ 0 }
     ensures files { T.tells → T.files site.new ≡ T.files site.old }
 {

@@ -20,7 +20,8 @@ pub struct NamedFile<'a> {
 impl<'a> NamedFile<'a> {
     /// The file of this name, which is not opened yet.
     pub fn new(rt: &'a HostRuntime, name: &'static str) -> NamedFile<'a>
-        ensures { result.faults ≡ 0 }
+        ensures name { result.name ≡ name.entry }
+        ensures faults { result.faults ≡ 0 }
     {
         NamedFile {
             rt,

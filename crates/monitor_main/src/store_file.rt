@@ -1,4 +1,4 @@
-ghost use Rattle.std.specs.Prelude.{◌≡◌, ◌≤◌, [], ⊤};
+ghost use Rattle.std.specs.Prelude.{◌≡◌, [], ⊤, false};
 ghost use Rattle.outside.specs.Fault.{HasCause};
 
 #[cfg(test)]
@@ -28,7 +28,10 @@ pub struct FileStation<'a, R: Files<File = File>, W: Write + Drop> {
 impl<'a, R: Files<File = File>, W: Write + Drop> FileStation<'a, R, W> {
     /// The store in the file of this name, which is not opened yet, and the line to the operator.
     pub fn new(rt: &'a R, name: &'static str, line: W) -> FileStation<'a, R, W>
-        ensures { result.faults ≡ 0 }
+        ensures name { result.name ≡ name.entry }
+        ensures unnamed { result.is_named ≡ false }
+        ensures line { result.line ≡ line }
+        ensures faults { result.faults ≡ 0 }
     {
         FileStation {
             rt,

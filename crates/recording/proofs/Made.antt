@@ -1,5 +1,5 @@
 -- Samples that are made one by one.
-use Rattle.std.proofs.Common.{◌≡◌, ◌<◌, ◌≤◌, ℕ, zero, suc, ◌+◌, ◌-◌, ◌*◌, List, ◌∷◌, ◌++◌, length, take, drop, sym, ap, ◌∙◌, arith, append_assoc, length-drop, length-take-le}
+use Rattle.std.proofs.Common.{◌≡◌, ◌<◌, ◌≤◌, ℕ, zero, suc, ◌+◌, ◌-◌, ◌*◌, List, ◌++◌, length, take, drop, sym, ap, ◌∙◌, arith, append_assoc, length-drop, length-take-le}
 use Rattle.std.proofs.lemmas.List.{take_at, take-append-le, drop-append-le}
 use Rattle.lemmas.proofs.Lists.{take-append-taken}
 use Rattle.std.specs.Int.{to_le_bytes, cast_unsigned, w32}

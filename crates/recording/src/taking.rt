@@ -13,7 +13,7 @@ pub(crate) const LARGE: usize = 65536;
 
 /// How far takes have filled a buffer of bytes.
 #[derive(Clone, Copy)]
-pub(crate) struct Taken {
+pub(crate) struct ByteFill {
     pub(crate) n: usize,
     pub(crate) stop: Stop,
 }
@@ -26,7 +26,7 @@ pub(crate) enum Stop {
 }
 
 /// Takes until the buffer is full, input ends or a take fails.
-pub(crate) fn take_all<S: Source>(src: &mut S, bytes: &mut [u8]) -> Taken
+pub(crate) fn take_all<S: Source>(src: &mut S, bytes: &mut [u8]) -> ByteFill
     ensures length { length bytes.new ≡ length bytes.old }
     ensures within { result.n ≤ length bytes.old }
     ensures bytes { S.tells → S.left src.old ≡ take result.n bytes.new ++ S.left src.new }
@@ -39,18 +39,18 @@ pub(crate) fn take_all<S: Source>(src: &mut S, bytes: &mut [u8]) -> Taken
     let mut n = 0;
     while n < bytes.len() {
         match src.take(&mut bytes[n..]) {
-            Ok(0) => return Taken {
+            Ok(0) => return ByteFill {
                 n,
                 stop: Stop::Ended,
             },
             Ok(taken) => n += taken,
-            Err(_) => return Taken {
+            Err(_) => return ByteFill {
                 n,
                 stop: Stop::Failed,
             },
         }
     }
-    Taken {
+    ByteFill {
         n,
         stop: Stop::Full,
     }

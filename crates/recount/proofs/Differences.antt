@@ -5,7 +5,7 @@ use Rattle.calibration.specs.Gain.{GainValue}
 use Rattle.calibration.specs.History.{history}
 use Rattle.three_point.specs.Run.{three_point}
 use Rattle.tally.specs.Counts.{Counts, count_of}
-use Rattle.report.specs.Counts.{counts_of}
+use Rattle.report.specs.Counts.{kinds_of}
 use Rattle.report.specs.declared.counts.SampleCounts.{SampleCounts}
 use Rattle.segment.specs.Segment.{SegmentValue}
 use Rattle.segment.specs.Figures.{halves_of}
@@ -23,7 +23,7 @@ differs what held found = Some (record { what = what; held = held; found = found
 module _ (v : SegmentValue) (r : Recount) (gain : GainValue) (w : List ℤ) (is : IsRecount v.grid gain r w)
     (result : Option Difference) where
   abbrev pub Comparing : Type 0
-  Comparing = Compares v (counts_of v.grid gain w) (three_point (history v.grid gain w)) result
+  Comparing = Compares v (kinds_of v.grid gain w) (three_point (history v.grid gain w)) result
 
   of_counts : Compares v r.counts (three_point (history v.grid gain w)) result → Comparing
   of_counts c = subst (λ (k : SampleCounts). Compares v k (three_point (history v.grid gain w)) result) is.counts c
@@ -71,7 +71,7 @@ CellsAnswer v found result = MatchOption result (AreSame v.grid.classes (halves_
 
 pub cells_compared : (v : SegmentValue) (r : Recount) (gain : GainValue) (w : List ℤ) (is : IsRecount v.grid gain r w)
     → v.used ≡ r.counts.used → v.missing ≡ r.counts.missing → v.refused ≡ r.counts.refused
-    → (result : Option Difference) → CellsAnswer v r.pairs result → Compares v (counts_of v.grid gain w)
+    → (result : Option Difference) → CellsAnswer v r.pairs result → Compares v (kinds_of v.grid gain w)
     (three_point (history v.grid gain w)) result
 cells_compared v r gain w is used missing refused None same = none_differs v r gain w is None used missing refused refl same
 cells_compared v r gain w is used missing refused (Some other) o = cell_first v r gain w is (Some other) used missing refused other refl o

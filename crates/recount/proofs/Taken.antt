@@ -20,9 +20,9 @@ use Rattle.turning_points.proofs.Given.{All-next_given}
 use Rattle.turning_points.proofs.Levels.{All-points}
 use Rattle.three_point.specs.Live.{HasCounted}
 use Rattle.three_point.specs.Run.{CountedRange, run}
-use Rattle.report.specs.Counts.{counts_of, sum_of}
+use Rattle.report.specs.Counts.{kinds_of, kinds_sum}
 use Rattle.report.specs.declared.counts.SampleCounts.{SampleCounts}
-use Rattle.report.proofs.Counted.{counts, counts_of-append, kinds_are}
+use Rattle.report.proofs.Counted.{counts, kinds_of-append, kinds_are}
 use Rattle.recount.specs.Counted.{HasCountedPairs, HasCountedSamples, HoldsPairs, IsRecount}
 use Rattle.tally.specs.Counts.{Counts}
 use Rattle.recount.specs.declared.running.RunningCount.{RunningCount}
@@ -46,7 +46,7 @@ module _ (grid : GridValue) (gain : GainValue) where
           subst (λ (n : ℕ). All (λ point. point < n) more) (sym are.levels)
           (All-next_given (λ point. point < grid.classes) are.decided more (history_below grid gain (w ++ raws)) (turned_more are))
 
-      pub counted_more : (new : RunningCount C) → new.turner ≡ turner → new.counts ≡ sum_of old.counts
+      pub counted_more : (new : RunningCount C) → new.turner ≡ turner → new.counts ≡ kinds_sum old.counts
           (counts (length raws) used missing refused)
           → ((before : List ℕ) → HasCounted before old.run.live (holds old.counter) → HasCounted (before ++ more) new.run.live
           (holds new.counter))
@@ -56,9 +56,9 @@ module _ (grid : GridValue) (gain : GainValue) where
           → HasCountedSamples classes room holds start grid gain old w → HasCountedSamples classes room holds start grid gain new
           (w ++ raws)
       counted_more new t sum counted same_classes same few rooms are = record {
-        counts = sum ∙ ap (λ (c : SampleCounts). sum_of c (counts (length raws) used missing refused)) are.counts ∙ ap
-            (λ (c : SampleCounts). sum_of (counts_of grid gain w) c) (kinds_are grid gain raws used missing refused u m r) ∙ sym
-            (counts_of-append grid gain w raws);
+        counts = sum ∙ ap (λ (c : SampleCounts). kinds_sum c (counts (length raws) used missing refused)) are.counts ∙ ap
+            (λ (c : SampleCounts). kinds_sum (kinds_of grid gain w) c) (kinds_are grid gain raws used missing refused u m r) ∙ sym
+            (kinds_of-append grid gain w raws);
         decided = are.decided ++ more;
         turned = subst (λ (k : Recent). HasGiven (history grid gain (w ++ raws)) (are.decided ++ more) k) (sym t) (turned_more are);
         counted = counted are.decided are.counted;

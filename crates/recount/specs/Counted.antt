@@ -10,7 +10,7 @@ use Rattle.three_point.specs.Run.{CountedRange, half_units_of_pair, three_point}
 use Rattle.three_point.specs.Live.{HasCounted}
 use Rattle.tally.specs.Counts.{Counts, count_of, total_of}
 use Rattle.tally.specs.declared.cells.TheConstants.{MAX_TOTAL}
-use Rattle.report.specs.Counts.{counts_of}
+use Rattle.report.specs.Counts.{kinds_of}
 use Rattle.recount.specs.declared.running.RunningCount.{RunningCount}
 use Rattle.recount.specs.declared.count.Recount.{Recount}
 
@@ -24,7 +24,7 @@ HoldsPairs t given = (lo hi : ℕ) → lo < hi → count_of t.cells lo hi ≡ ha
 -- for each sample still to come.
 pub record HasCountedSamples {C : Type 0} (classes room : C → ℕ) (holds : C → List CountedRange → Type 0) (start : ℕ)
     (grid : GridValue) (gain : GainValue) (count : RunningCount C) (w : List ℤ) : Type 0 where
-  pub counts : count.counts ≡ counts_of grid gain w
+  pub counts : count.counts ≡ kinds_of grid gain w
   pub decided : List ℕ
   pub turned : HasGiven (history grid gain w) decided count.turner
   pub counted : HasCounted decided count.run.live (holds count.counter)
@@ -42,6 +42,6 @@ HasCountedPairs grid gain count w =
 -- By a gain and a grid: how many of the samples w are of each kind, and the half units of each pair of levels in the
 -- three-point count of their history.
 pub record IsRecount (grid : GridValue) (gain : GainValue) (r : Recount) (w : List ℤ) : Type 0 where
-  pub counts : r.counts ≡ counts_of grid gain w
+  pub counts : r.counts ≡ kinds_of grid gain w
   pub classes : r.pairs.classes ≡ grid.classes
   pub halves : (lo hi : ℕ) → lo < hi → count_of r.pairs.cells lo hi ≡ three_point (history grid gain w) lo hi

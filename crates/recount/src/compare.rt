@@ -1,10 +1,10 @@
-ghost use Rattle.std.specs.Prelude.{◌≡◌, ◌≢◌, ◌≤◌, ◌<◌, ◌+◌, ℕ, ℤ, List, MatchOption, Some, length, slice_index};
+ghost use Rattle.std.specs.Prelude.{◌≡◌, ◌≢◌, ◌<◌, ◌+◌, ℤ, List, MatchOption, Some, length, slice_index};
 ghost use Rattle.calibration.specs.Gain.{GainValue};
 ghost use Rattle.calibration.specs.History.{history};
 ghost use Rattle.calibration.specs.declared.grid.TheConstants.{MAX_CLASSES};
 ghost use Rattle.three_point.specs.Run.{three_point};
 ghost use Rattle.tally.specs.Counts.{count_of};
-ghost use Rattle.report.specs.Counts.{counts_of};
+ghost use Rattle.report.specs.Counts.{kinds_of};
 ghost use Rattle.segment.specs.Figures.{halves_of};
 ghost use Rattle.recount.specs.Counted.{IsRecount};
 ghost use Rattle.recount.specs.Compared.{AreSame, AreSameFrom, Compares, IsCellOther};
@@ -38,7 +38,7 @@ pub struct Difference {
 pub fn first_difference(segment: &Segment, recount: &Recount) -> Option<Difference>
     requires classes { recount.now.pairs.classes ≡ segment.now.grid.classes }
     ensures { (gain : GainValue) (w : List ℤ) → IsRecount segment.now.grid gain recount.now w →
-        Compares segment.now (counts_of segment.now.grid gain w)
+        Compares segment.now (kinds_of segment.now.grid gain w)
         (three_point (history segment.now.grid gain w)) result }
 {
     let found = &recount.counts;

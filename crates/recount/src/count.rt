@@ -60,7 +60,8 @@ impl Error for RecountFault {}
 
 /// Counts the first `samples` samples that a source gives, in the classes of a grid under a gain,
 /// by the run of ASTM E1049-85, 5.4.4. Besides 96 KiB for a piece it takes the memory of a tally
-/// with room for each pair of levels, and each sample takes constant time.
+/// with room for each pair of levels, and each sample takes constant time. What the source has left
+/// afterwards is left open.
 pub fn count_again<S: Source>(
     alloc: Global,
     src: &mut S,

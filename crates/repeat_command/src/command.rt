@@ -1,4 +1,4 @@
-ghost use Rattle.std.specs.Prelude.{◌≡◌, ◌≢◌, ◌≤◌, ◌⊎◌, ◌++◌, [], ◌∷◌, ℕ, ℤ, List, Ok, length};
+ghost use Rattle.std.specs.Prelude.{◌≡◌, ◌≢◌, ◌≤◌, ◌⊎◌, ◌++◌, [], ◌∷◌, ℕ, ℤ, List, Ok};
 ghost use Rattle.outside.specs.Fault.{CountRose};
 ghost use Rattle.segment_store.specs.Holds.{Holds};
 ghost use Rattle.segment_store.specs.Quiet.{IsQuiet};
@@ -10,7 +10,7 @@ ghost use Rattle.fault_lines.specs.Telling.{TellsAtMost};
 ghost use Rattle.status.specs.declared.status.Status.TheVariants.{Done, ReadFault, WriteFault, DiskFault, OutOfMemory};
 ghost use Rattle.status.specs.Printing.{IsPrinting};
 ghost use Rattle.report_command.specs.Printing.{held_of};
-ghost use Rattle.report_command.specs.Answers.{IsSound, ReadsAs, ReportAnswers, MayAnswerOver, IsReporting};
+ghost use Rattle.report_command.specs.Answers.{IsSound, IsStoreOf, ReportAnswers, MayAnswerOver, IsReporting};
 ghost use Rattle.repeat_command.specs.Printing.{Prints};
 
 use crate::printing::print_held;
@@ -96,7 +96,7 @@ fn repeat_by<K: Station, O: Sink>(
         (K.seen station.old) (K.seen station.new) (K.leaves station.old) (K.leaves station.new) }
     ensures later { K.faults station.old ≤ K.faults station.new }
     ensures answer { K.tells → MayAnswerOver bridge.now (K.seen station.old) result }
-    ensures complete { K.tells → ReadsAs bridge.now.setup (K.seen station.old) →
+    ensures complete { K.tells → IsStoreOf bridge.now.setup (K.seen station.old) →
         (CountRose (K.faults station.old) (K.faults station.new) → ⊥) →
         (CountRose (O.faults out.old) (O.faults out.new) → ⊥) →
         (result ≡ Done) ⊎ (result ≡ OutOfMemory) }

@@ -1,4 +1,4 @@
-ghost use Rattle.std.specs.Prelude.{◌≡◌, ◌≢◌, ◌<◌, ◌≤◌, ◌⊎◌, ◌++◌, ℕ, ℤ, List, length, OnOk, OnErr};
+ghost use Rattle.std.specs.Prelude.{◌≡◌, ◌<◌, ◌≤◌, ◌++◌, ℕ, ℤ, List, length, OnOk, OnErr};
 ghost use Rattle.outside.specs.Fault.{CountRose, HasCause};
 ghost use Rattle.outside.specs.Sink.{AppendsPrefix};
 ghost use Rattle.calibration.specs.Gain.{GainValue};

@@ -8,7 +8,7 @@ use Rattle.std.specs.Prelude.{All}
 use Rattle.std.proofs.lemmas.List.Elements.{All-head, All-tail}
 use Rattle.turning_points.specs.Pairs.{Pair, pair, range}
 use Rattle.turning_points.proofs.Zigzag.{IsZigzag, two, inner, zig_tail}
-use Rattle.three_point.specs.Run.{live_after, run, same, half_units_of_pair}
+use Rattle.three_point.specs.Run.{live_after, run, half_units_of_pair}
 use Rattle.three_point.proofs.Steps.{live_after_half, live_after_cycle}
 use Rattle.three_point.proofs.Bounds.{All-live_after}
 use Rattle.four_point.proofs.Drops.{here, past}
@@ -18,7 +18,7 @@ use Rattle.four_point.proofs.HasNoCycle.{IsNoCycle, HasNoCycle, three_points, in
 use Rattle.four_point.proofs.Reach.{reach, chain_past, zig_chain, no_cycle_or_cycle}
 use Rattle.residue_join.specs.HalfUnits.{neighbours}
 use Rattle.residue_join.proofs.Live.{Live, no_point, live_tail, Onto, turns, onto_deeper, strict}
-use Rattle.residue_join.proofs.OneDeletion.{Fits, onto_nothing, onto_one, onto_more, read, run_step, one_deletion, onto_of, pair_swap}
+use Rattle.residue_join.proofs.OneDeletion.{Fits, onto_nothing, onto_one, onto_more, read, run_step, one_deletion, onto_of, one_of_pair, pair_swap}
 use Rattle.residue_join.proofs.Neighbours.{residue_counts}
 use Rattle.residue_join.proofs.HalfUnits.{all_deletions}
 use Rattle.repeating.proofs.Below.{All-chain}
@@ -31,14 +31,16 @@ chain_first (more (past h e) c) = chain_first c
 
 module _ (lo hi : ℕ) where
   tie : (y m a d : ℕ) (t : List ℕ) → d ≡ m →
-      half_units_of_pair lo hi (run [] (y ∷ m ∷ a ∷ d ∷ t)) ≡ 2 * same lo hi (pair m a) + half_units_of_pair lo hi (run [] (y ∷ d ∷ t)) →
-      half_units_of_pair lo hi (run [] (y ∷ m ∷ t)) ≡ same lo hi (pair y m) + half_units_of_pair lo hi (neighbours (m ∷ t)) →
-      half_units_of_pair lo hi (run [] (y ∷ m ∷ a ∷ d ∷ t)) ≡ same lo hi (pair y m) + half_units_of_pair lo hi (neighbours (m ∷ a ∷ d ∷ t))
+      half_units_of_pair lo hi (run [] (y ∷ m ∷ a ∷ d ∷ t)) ≡ 2 * one_of_pair lo hi (pair m a)
+      + half_units_of_pair lo hi (run [] (y ∷ d ∷ t)) →
+      half_units_of_pair lo hi (run [] (y ∷ m ∷ t)) ≡ one_of_pair lo hi (pair y m) + half_units_of_pair lo hi (neighbours (m ∷ t)) →
+      half_units_of_pair lo hi (run [] (y ∷ m ∷ a ∷ d ∷ t)) ≡ one_of_pair lo hi (pair y m)
+      + half_units_of_pair lo hi (neighbours (m ∷ a ∷ d ∷ t))
   tie y m a d t e h k =
       let p = ap (λ n. half_units_of_pair lo hi (run [] (y ∷ n ∷ t))) e in
       let q = ap (λ n. half_units_of_pair lo hi (neighbours (n ∷ t))) e in
-      let r = ap (λ n. same lo hi (pair a n)) e in
-      let s = ap (same lo hi) (pair_swap a m) in
+      let r = ap (λ n. one_of_pair lo hi (pair a n)) e in
+      let s = ap (one_of_pair lo hi) (pair_swap a m) in
       omega (arith, h, k, p, q, r, s)
 
   fits_top : {y m a d : ℕ} {t : List ℕ} → IsZigzag (y ∷ m ∷ a ∷ d ∷ t) → y < m → d ≤ m → range m a ≤ range y m → range m a ≤ range a d →
@@ -49,8 +51,9 @@ module _ (lo hi : ℕ) where
   before_pick : (y m a d : ℕ) (t : List ℕ) → IsZigzag (y ∷ m ∷ a ∷ d ∷ t) → HasNoCycle (m ∷ a ∷ d ∷ t) → d ≤ m → y < m →
       (IsNoCycle y m a d ⊎ ((range m a ≤ range y m) × (range m a ≤ range a d))) →
       (IsZigzag (y ∷ m ∷ t) → HasNoCycle (m ∷ t) →
-      half_units_of_pair lo hi (run [] (y ∷ m ∷ t)) ≡ same lo hi (pair y m) + half_units_of_pair lo hi (neighbours (m ∷ t))) →
-      half_units_of_pair lo hi (run [] (y ∷ m ∷ a ∷ d ∷ t)) ≡ same lo hi (pair y m) + half_units_of_pair lo hi (neighbours (m ∷ a ∷ d ∷ t))
+      half_units_of_pair lo hi (run [] (y ∷ m ∷ t)) ≡ one_of_pair lo hi (pair y m) + half_units_of_pair lo hi (neighbours (m ∷ t))) →
+      half_units_of_pair lo hi (run [] (y ∷ m ∷ a ∷ d ∷ t)) ≡ one_of_pair lo hi (pair y m)
+      + half_units_of_pair lo hi (neighbours (m ∷ a ∷ d ∷ t))
   before_pick y m a d t g c k h (inl u) next = omega (arith, residue_counts lo hi (y ∷ m ∷ a ∷ d ∷ t) (inner_stay u c))
   before_pick y m a d t g c k h (inr f) next =
       let q = fits_top g h k f.0 f.1 in
@@ -60,7 +63,7 @@ module _ (lo hi : ℕ) where
       tie y m a d t q.0 (one_deletion lo hi [] no_point (onto_nothing g) e) (next z w)
 
   before_residue : (y m : ℕ) (t : List ℕ) → IsZigzag (y ∷ m ∷ t) → HasNoCycle (m ∷ t) → All (λ y. y < suc m) t → y < m →
-      half_units_of_pair lo hi (run [] (y ∷ m ∷ t)) ≡ same lo hi (pair y m) + half_units_of_pair lo hi (neighbours (m ∷ t))
+      half_units_of_pair lo hi (run [] (y ∷ m ∷ t)) ≡ one_of_pair lo hi (pair y m) + half_units_of_pair lo hi (neighbours (m ∷ t))
   before_residue y m [] g c b h = omega arith
   before_residue y m (a ∷ []) g c b h = omega (arith, residue_counts lo hi (y ∷ m ∷ a ∷ []) three_points)
   before_residue y m (a ∷ d ∷ t) g c b h =
@@ -71,7 +74,7 @@ module _ (lo hi : ℕ) where
 
   -- the same before any list of points that begins with its greatest level
   pub before_greatest : (y m : ℕ) (t : List ℕ) → IsZigzag (y ∷ m ∷ t) → All (λ y. y < suc m) (m ∷ t) → y < m →
-      half_units_of_pair lo hi (run [] (y ∷ m ∷ t)) ≡ same lo hi (pair y m) + half_units_of_pair lo hi (run [] (m ∷ t))
+      half_units_of_pair lo hi (run [] (y ∷ m ∷ t)) ≡ one_of_pair lo hi (pair y m) + half_units_of_pair lo hi (run [] (m ∷ t))
   before_greatest y m t g b h =
       let r = reach (m ∷ t) (zig_tail g) in
       let f = chain_first r.by in
@@ -128,7 +131,7 @@ module _ (lo hi : ℕ) where
       let j = run_step lo hi m (a ∷ v) [] in
       let q = ap (λ k. half_units_of_pair lo hi (run k t)) top.is in
       let r = ap (λ k. half_units_of_pair lo hi (run k [])) top.is in
-      let s = ap (same lo hi) (pair_swap top.y m) in
+      let s = ap (one_of_pair lo hi) (pair_swap top.y m) in
       omega (arith, e, i, j, q, r, s)
 
   -- what is counted before a greatest level, and what is counted from it on

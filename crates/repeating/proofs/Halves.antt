@@ -6,13 +6,13 @@ use Rattle.std.specs.Prelude.{All}
 use Rattle.std.proofs.lemmas.List.Elements.{All-nil, All-cons, All-head, All-tail}
 use Rattle.turning_points.specs.Pairs.{pair, range}
 use Rattle.turning_points.proofs.Zigzag.{IsZigzag, zig_tail}
-use Rattle.three_point.specs.Run.{live_after, ranges_left, run, same, half_units_of_pair}
+use Rattle.three_point.specs.Run.{live_after, ranges_left, run, half_units_of_pair}
 use Rattle.three_point.proofs.Steps.{live_after_half, ranges_counted_half, live_after_less, ranges_counted_less, live_after_cycle, ranges_counted_cycle}
 use Rattle.three_point.proofs.Bounds.{All-live_after}
 use Rattle.four_point.specs.Reduction.{count_in}
 use Rattle.four_point.proofs.Histories.{count_in-append}
 use Rattle.residue_join.proofs.Live.{Live, lone, live_tail, half_units_counted, Onto, alone, turns, onto_deeper}
-use Rattle.residue_join.proofs.OneDeletion.{Fits, onto_one, read, run_step, onto_of, pair_swap}
+use Rattle.residue_join.proofs.OneDeletion.{Fits, onto_one, read, run_step, onto_of, one_of_pair, cycle_counted, pair_swap}
 use Rattle.repeating.specs.Repeating.{live_after_cycles, cycles_closed, cycle_run}
 use Rattle.repeating.proofs.Ending.{EndsIn, ends_here, ends_on}
 use Rattle.repeating.proofs.Cut.{before_greatest, zig_from_fits, tail_is}
@@ -41,7 +41,7 @@ module _ (lo hi : ℕ) where
     still : z < m → live_after z v ≡ live_after_cycles z v → EndsIn m (live_after_cycles z v) →
         half_units_counted lo hi z v ≡ 2 * count_in lo hi (cycles_closed z v) → Closing m z v
     shut : (a : ℕ) → z ≡ m → live_after z v ≡ z ∷ a ∷ [] → live_after_cycles z v ≡ z ∷ [] → a < m →
-        half_units_counted lo hi z v + same lo hi (pair a m) ≡ 2 * count_in lo hi (cycles_closed z v) → Closing m z v
+        half_units_counted lo hi z v + one_of_pair lo hi (pair a m) ≡ 2 * count_in lo hi (cycles_closed z v) → Closing m z v
 
   closing_less : (m z a x : ℕ) (v : List ℕ) → EndsIn m (a ∷ x ∷ v) → z < m → range a z < range x a → Closing m z (a ∷ x ∷ v)
   closing_less m z a x v e h p =
@@ -58,6 +58,7 @@ module _ (lo hi : ℕ) where
         g,
         ap (half_units_of_pair lo hi) (ranges_counted_cycle z a x w v p),
         ap (count_in lo hi) (cycles_closed_one z a x (w ∷ v) p),
+        cycle_counted lo hi (pair x a),
       ))
   closing_cycle m z a x w v p (shut b h e f l g) =
       shut b h (live_after_cycle z a x w v p ∙ e) (live_after_cycles_closed z a x (w ∷ v) p ∙ f) l
@@ -66,6 +67,7 @@ module _ (lo hi : ℕ) where
         g,
         ap (half_units_of_pair lo hi) (ranges_counted_cycle z a x w v p),
         ap (count_in lo hi) (cycles_closed_one z a x (w ∷ v) p),
+        cycle_counted lo hi (pair x a),
       ))
 
   closing_two : (m z a x : ℕ) → x ≡ m → a ≤ m → IsTurn z a x → z ≤ m → ((range a z < range x a) ⊎ (range x a ≤ range a z)) →
@@ -73,8 +75,8 @@ module _ (lo hi : ℕ) where
   closing_two m z a x e h t b (inl s) = closing_less m z a x [] (ends_on (ends_here e)) (omega arith) s
   closing_two m z a x e h t b (inr s) =
       let q : z ≡ m = omega arith in
-      let u = ap (same lo hi) (pair_swap a x) in
-      let v = ap (λ n. same lo hi (pair a n)) e in
+      let u = ap (one_of_pair lo hi) (pair_swap a x) in
+      let v = ap (λ n. one_of_pair lo hi (pair a n)) e in
       shut a q (live_after_half z a x s) (live_after_cycles_closed z a x [] s) (omega arith)
       (omega (
         arith,
@@ -115,7 +117,7 @@ module _ (lo hi : ℕ) where
   go_still z v l e g h = omega (arith, run_step lo hi z v l, closed_step z v l, ap (λ k. half_units_of_pair lo hi (run k l)) e, g, h)
 
   go_shut : (m z a : ℕ) (v l : List ℕ) → z ≡ m → live_after z v ≡ z ∷ a ∷ [] → live_after_cycles z v ≡ z ∷ [] → a < m →
-      half_units_counted lo hi z v + same lo hi (pair a m) ≡ 2 * count_in lo hi (cycles_closed z v) → IsZigzag (a ∷ z ∷ l) →
+      half_units_counted lo hi z v + one_of_pair lo hi (pair a m) ≡ 2 * count_in lo hi (cycles_closed z v) → IsZigzag (a ∷ z ∷ l) →
       All (λ y. y < suc m) (m ∷ l) → half_units_of_pair lo hi (run (m ∷ []) l) ≡ 2 * count_in lo hi (cycle_run (m ∷ []) l) →
       half_units_of_pair lo hi (run v (z ∷ l)) ≡ 2 * count_in lo hi (cycle_run v (z ∷ l))
   go_shut m z a v l e f g h i w b k =

@@ -9,7 +9,7 @@ use Rattle.turning_points.proofs.Zigzag.{zig_points}
 use Rattle.turning_points.proofs.Levels.{All-points}
 use Rattle.three_point.specs.Run.{three_point}
 use Rattle.four_point.specs.Reduction.{count_in}
-use Rattle.repeating.specs.Repeating.{greatest, from_first, before_first, cycle_run, repeating_cycles, AddsItsCycles}
+use Rattle.repeating.specs.Repeating.{greatest_level, from_first, before_first, cycle_run, repeating_cycles, AddsItsCycles}
 use Rattle.repeating.proofs.Ending.{EndsIn, ends_points, ends_behind}
 use Rattle.repeating.proofs.CutHistory.{cut_history}
 use Rattle.repeating.proofs.Halves.{closed_half}
@@ -19,18 +19,19 @@ data Has (m : ℕ) : List ℕ → Type 0 where
   here : {x : ℕ} {h : List ℕ} → x ≡ m → Has m (x ∷ h)
   there : {x : ℕ} {h : List ℕ} → Has m h → Has m (x ∷ h)
 
-below_greatest : (h : List ℕ) → All (λ y. y < suc (greatest h)) h
-below_greatest [] = All-nil (λ y. y < suc (greatest []))
+below_greatest : (h : List ℕ) → All (λ y. y < suc (greatest_level h)) h
+below_greatest [] = All-nil (λ y. y < suc (greatest_level []))
 below_greatest (x ∷ h) =
-    All-cons (λ y. y < suc (greatest (x ∷ h))) x h (omega arith) (λ i d lt. let p = below_greatest h i d lt in omega (arith, p))
+    All-cons (λ y. y < suc (greatest_level (x ∷ h))) x h (omega arith) (λ i d lt. let p = below_greatest h i d lt in omega (arith, p))
 
-has_pick : (x : ℕ) (h : List ℕ) → Has (greatest h) h → ((x < greatest h) ⊎ (greatest h ≤ x)) → Has (greatest (x ∷ h)) (x ∷ h)
-has_pick x h k (inl p) = let e : max x (greatest h) ≡ greatest h = omega arith in there (subst (λ n. Has n h) (sym e) k)
+has_pick : (x : ℕ) (h : List ℕ) → Has (greatest_level h) h → ((x < greatest_level h) ⊎ (greatest_level h ≤ x)) →
+    Has (greatest_level (x ∷ h)) (x ∷ h)
+has_pick x h k (inl p) = let e : max x (greatest_level h) ≡ greatest_level h = omega arith in there (subst (λ n. Has n h) (sym e) k)
 has_pick x h k (inr p) = here (omega arith)
 
-has_greatest : (x : ℕ) (h : List ℕ) → Has (greatest (x ∷ h)) (x ∷ h)
+has_greatest : (x : ℕ) (h : List ℕ) → Has (greatest_level (x ∷ h)) (x ∷ h)
 has_greatest x [] = here (omega arith)
-has_greatest x (y ∷ h) = has_pick x (y ∷ h) (has_greatest y h) (cases_lt x (greatest (y ∷ h)))
+has_greatest x (y ∷ h) = has_pick x (y ∷ h) (has_greatest y h) (cases_lt x (greatest_level (y ∷ h)))
 
 record Split (m : ℕ) (h : List ℕ) : Type 0 where
   u : List ℕ
@@ -84,11 +85,11 @@ module _ (lo hi m : ℕ) (u v : List ℕ) (b : All (λ y. y < suc m) u) (c : All
       let g = ap (λ l. three_point (m ∷ l) lo hi) (append_assoc v u (m ∷ [])) in
       omega (arith, p, q, r, e, f, g)
 
-by_split : (x : ℕ) (k : List ℕ) (lo hi : ℕ) → Split (greatest (x ∷ k)) (x ∷ k) →
+by_split : (x : ℕ) (k : List ℕ) (lo hi : ℕ) → Split (greatest_level (x ∷ k)) (x ∷ k) →
     three_point ((x ∷ k) ++ (x ∷ k)) lo hi ≡ three_point (x ∷ k) lo hi + 2 * repeating_cycles (x ∷ k) lo hi
 by_split x k lo hi s =
     let h = x ∷ k in
-    let m = greatest h in
+    let m = greatest_level h in
     let b = subst (All (λ y. y < suc m)) s.is (below_greatest h) in
     let c = All-front (λ y. y < suc m) s.u (m ∷ s.v) b in
     let d = All-tail (λ y. y < suc m) m s.v (All-behind (λ y. y < suc m) s.u (m ∷ s.v) b) in
@@ -102,4 +103,4 @@ by_split x k lo hi s =
 
 pub adds_its_cycles : AddsItsCycles
 adds_its_cycles [] lo hi = refl
-adds_its_cycles (x ∷ h) lo hi = by_split x h lo hi (split (greatest (x ∷ h)) (x ∷ h) (has_greatest x h))
+adds_its_cycles (x ∷ h) lo hi = by_split x h lo hi (split (greatest_level (x ∷ h)) (x ∷ h) (has_greatest x h))

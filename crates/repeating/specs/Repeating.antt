@@ -1,7 +1,7 @@
 -- The rainflow count of a history that repeats (ASTM E1049-85, 5.4.5), over levels: the history is arranged to begin
 -- and to end with its greatest peak, and then full cycles alone are counted. X is the range under consideration, and Y
 -- the previous range adjacent to X.
---   greatest               the greatest level
+--   greatest_level         the greatest level
 --   from_first             the levels from the first of this level on
 --   before_first           those before it
 --   history_from_greatest  the history arranged so
@@ -19,9 +19,9 @@ use Rattle.turning_points.specs.Pairs.{Pair, pair, range}
 use Rattle.three_point.specs.Run.{three_point}
 use Rattle.four_point.specs.Reduction.{IsFourPointResult, count_in}
 
-abbrev pub greatest : List ℕ → ℕ
-greatest [] = 0
-greatest (x ∷ h) = max x (greatest h)
+abbrev pub greatest_level : List ℕ → ℕ
+greatest_level [] = 0
+greatest_level (x ∷ h) = max x (greatest_level h)
 
 abbrev pub from_first : ℕ → List ℕ → List ℕ
 from_first m [] = []
@@ -35,7 +35,7 @@ before_first m (x ∷ h) = if x == m then [] else x ∷ before_first m h
 abbrev pub history_from_greatest : List ℕ → List ℕ
 history_from_greatest [] = []
 history_from_greatest (x ∷ h) =
-    let m = greatest (x ∷ h) in
+    let m = greatest_level (x ∷ h) in
     from_first m (x ∷ h) ++ (before_first m (x ∷ h) ++ (m ∷ []))
 
 -- Step 2: with fewer than three points the next one is read. Step 3: so it is where X < Y. Step 4, where X >= Y: the

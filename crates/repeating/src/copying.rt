@@ -1,4 +1,4 @@
-ghost use Rattle.std.specs.Prelude.{◌≡◌, ℕ, ◌+◌, ◌<◌, ◌≤◌, ◌^◌, ◌==◌, if◌then◌else◌, [], length};
+ghost use Rattle.std.specs.Prelude.{◌≡◌, ℕ, ◌+◌, ◌≤◌, ◌^◌, ◌==◌, if◌then◌else◌, [], length};
 ghost use Rattle.tally.specs.Counts.{IsCounts, HasGreatestRoom, count_of, total_of};
 ghost use Rattle.tally.specs.declared.cells.TheConstants.{MAX_TOTAL};
 ghost use Rattle.segment.specs.Segment.{IsSegment};

@@ -5,8 +5,8 @@ use Rattle.calibration.specs.Grid.{GridValue, IsGrid}
 use Rattle.report.specs.Figures.{Figures, AreFew, AreFewCounts}
 use Rattle.report.specs.declared.counts.SampleCounts.{SampleCounts}
 use Rattle.report.specs.Lines.{count_line, pair_line, lines_from, range_lines}
-use Rattle.report.specs.Texts.{samples_line, table_text, row_lines, matrix, crossings, peaks, valleys, ranges, gauge_line, gauge_text}
-use Rattle.report.specs.Page.{PageValue, Fits, room_for}
+use Rattle.report.specs.Texts.{samples_line, table_text, row_lines, matrix_section, crossings_section, peaks_section, valleys_section, ranges_section, gauge_line, gauge_text}
+use Rattle.report.specs.Page.{PageValue, Fits, page_room}
 use Rattle.std.proofs.lemmas.Nat.{mul-le}
 use Rattle.report.proofs.Lengths.{number-short, count_line-short, pair_line-short, lines_from-short, range_lines-short, rows-short}
 use Rattle.lemmas.proofs.Lists.{length-append-le as appended}
@@ -46,8 +46,9 @@ row-short : (f : Figures) (classes lo : ℕ) → classes ≤ MAX_CLASSES → Are
 row-short f classes lo most few below = lines_from-short (λ hi. pair_line lo hi (f.pairs lo hi)) (lo + 1) (classes - 1 - lo) 26
     (λ hi h. pair_line-short lo hi (f.pairs lo hi) (omega arith) (omega arith) (few.pairs lo hi))
 
-matrix-short : (grid : GridValue) (f : Figures) → IsGrid grid → AreFew f → length (matrix grid f) ≤ 7 + 13 * (grid.classes * grid.classes)
-matrix-short grid f is few = appended (codes "matrix\n") (lines_from (row_lines f.pairs grid.classes) 0 grid.classes) 7
+matrix_section-short : (grid : GridValue) (f : Figures) → IsGrid grid → AreFew f → length (matrix_section grid f) ≤ 7
+    + 13 * (grid.classes * grid.classes)
+matrix_section-short grid f is few = appended (codes "matrix\n") (lines_from (row_lines f.pairs grid.classes) 0 grid.classes) 7
     (13 * (grid.classes * grid.classes)) (omega arith)
     (rows-short (row_lines f.pairs grid.classes) 0 grid.classes grid.classes (omega arith)
     (λ lo below. row-short f grid.classes lo (omega (arith, is.classes_to)) few below))
@@ -58,7 +59,7 @@ counts-short counts key n most few =
     lines_from-short (λ l. count_line l (counts l)) key n 19 (λ l below. count_line-short l (counts l) (omega arith) (few l))
 
 pub gauge_text-short : (grid : GridValue) (name : List ℕ) (f : Figures) → IsGrid grid → AreFew f → length name ≤ 32 →
-    length (gauge_text grid name f) ≤ room_for grid.classes
+    length (gauge_text grid name f) ≤ page_room grid.classes
 unfolding gauge_text
 gauge_text-short grid name f is few short =
     let k : ℕ = grid.classes in
@@ -73,41 +74,44 @@ gauge_text-short grid name f is few short =
     let named = appended (codes "gauge ") name 6 32 (omega arith) short in
     let a = appended (codes "gauge " ++ name) (codes "\n") 38 1 named (omega arith) in
     let b = table_text-short grid f.samples f.half_units is few.counts_are few.half_units in
-    let m = matrix-short grid f is few in
+    let m = matrix_section-short grid f is few in
     let c = appended (codes "crossings\n") crossed 10 (p * 19) (omega arith) (counts-short f.crossings 1 p (omega arith) few.crossings) in
     let d = appended (codes "peaks\n") high 6 (k * 19) (omega arith) (counts-short f.peaks 0 k (omega arith) few.peaks) in
     let e = appended (codes "valleys\n") low 8 (k * 19) (omega arith) (counts-short f.valleys 0 k (omega arith) few.valleys) in
     let r = appended (codes "ranges\n") simple 7 (p * 32) (omega arith) (range_lines-short grid.w2 f.ranges p (span grid is) few.ranges) in
     let table = table_text grid f.samples f.half_units in
     let one = appended (gauge_line name) table 39 (94 + p * 32) a b in
-    let two = appended (gauge_line name ++ table) (matrix grid f) _ _ one m in
-    let three = appended (gauge_line name ++ table ++ matrix grid f) (crossings grid f) _ _ two c in
-    let four = appended (gauge_line name ++ table ++ matrix grid f ++ crossings grid f) (peaks grid f) _ _ three d in
-    let five = appended (gauge_line name ++ table ++ matrix grid f ++ crossings grid f ++ peaks grid f) (valleys grid f) _ _ four e in
+    let two = appended (gauge_line name ++ table) (matrix_section grid f) _ _ one m in
+    let three = appended (gauge_line name ++ table ++ matrix_section grid f) (crossings_section grid f) _ _ two c in
+    let four = appended (gauge_line name ++ table ++ matrix_section grid f ++ crossings_section grid f) (peaks_section grid f) _ _ three
+    d in
+    let five = appended (gauge_line name ++ table ++ matrix_section grid f ++ crossings_section grid f ++ peaks_section grid f)
+    (valleys_section grid f) _ _ four e in
     omega (
       arith,
       less,
-      appended (gauge_line name ++ table ++ matrix grid f ++ crossings grid f ++ peaks grid f ++ valleys grid f)
-          (ranges grid f) _ _ five r,
+      appended (gauge_line name ++ table ++ matrix_section grid f ++ crossings_section grid f ++ peaks_section grid f
+          ++ valleys_section grid f)
+          (ranges_section grid f) _ _ five r,
     )
 
-table_fits : (k n : ℕ) → 2 ≤ k → n ≤ 94 + (k - 1) * 32 → n ≤ room_for k
+table_fits : (k n : ℕ) → 2 ≤ k → n ≤ 94 + (k - 1) * 32 → n ≤ page_room k
 table_fits k n some h = omega arith
 
 -- a page that is empty has room for what fits a page over fewer classes
-pub fits_empty : (p : PageValue) (k : ℕ) (text : List ℕ) → p.bytes ≡ [] → p.room ≡ room_for p.classes → k ≤ p.classes →
-    length text ≤ room_for k → Fits p text
+pub fits_empty : (p : PageValue) (k : ℕ) (text : List ℕ) → p.bytes ≡ [] → p.room ≡ page_room p.classes → k ≤ p.classes →
+    length text ≤ page_room k → Fits p text
 fits_empty p k text none room fewer short =
     let square : k * k ≤ p.classes * p.classes = mul-le k k p.classes p.classes fewer fewer in
     omega (arith, ap length none, room, square, short, fewer)
 
-pub table_text-fits : (p : PageValue) (grid : GridValue) (n : SampleCounts) (halves : ℕ → ℕ) → p.bytes ≡ [] → p.room ≡ room_for p.classes →
+pub table_text-fits : (p : PageValue) (grid : GridValue) (n : SampleCounts) (halves : ℕ → ℕ) → p.bytes ≡ [] → p.room ≡ page_room p.classes →
     grid.classes ≤ p.classes → IsGrid grid → AreFewCounts n → ((k : ℕ) → halves k ≤ 2 ^ 41) → Fits p (table_text grid n halves)
 table_text-fits p grid n halves none room fewer is few small =
     fits_empty p grid.classes (table_text grid n halves) none room fewer
     (table_fits grid.classes (length (table_text grid n halves)) is.classes_from (table_text-short grid n halves is few small))
 
-pub gauge_text-fits : (p : PageValue) (grid : GridValue) (name : List ℕ) (f : Figures) → p.bytes ≡ [] → p.room ≡ room_for p.classes →
+pub gauge_text-fits : (p : PageValue) (grid : GridValue) (name : List ℕ) (f : Figures) → p.bytes ≡ [] → p.room ≡ page_room p.classes →
     grid.classes ≤ p.classes → IsGrid grid → AreFew f → length name ≤ 32 → Fits p (gauge_text grid name f)
 gauge_text-fits p grid name f none room fewer is few short =
     fits_empty p grid.classes (gauge_text grid name f) none room fewer (gauge_text-short grid name f is few short)

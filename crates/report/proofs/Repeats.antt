@@ -8,7 +8,7 @@ use Rattle.three_point.specs.Sums.{sum_at_range}
 use Rattle.tally.specs.declared.cells.Cell.{Cell}
 use Rattle.tally.specs.Counts.{count_of, total_of}
 use Rattle.report.specs.Figures.{MAX_FIGURE}
-use Rattle.report.specs.Page.{PageValue, Fits, room_for}
+use Rattle.report.specs.Page.{PageValue, Fits, page_room}
 use Rattle.report.specs.Repeat.{cycle_lines, doubled_at, repeat_line, repeat_text}
 use Rattle.report.proofs.Fitting.{fits_empty, span}
 use Rattle.report.proofs.Lengths.{range_lines-short}
@@ -38,10 +38,10 @@ repeat_text-short grid name cycles is few short =
     appended (repeat_line name) (cycle_lines grid cycles) 40 ((grid.classes - 1) * 32) head
     (range_lines-short grid.w2 (doubled_at cycles grid.classes) (grid.classes - 1) (span grid is) few)
 
-few_bytes : (k n : ℕ) → n ≤ 40 + (k - 1) * 32 → n ≤ room_for k
+few_bytes : (k n : ℕ) → n ≤ 40 + (k - 1) * 32 → n ≤ page_room k
 few_bytes k n h = omega arith
 
-pub repeat_text-fits : (p : PageValue) (grid : GridValue) (name : List ℕ) (cycles : ℕ → ℕ → ℕ) → p.bytes ≡ [] → p.room ≡ room_for p.classes
+pub repeat_text-fits : (p : PageValue) (grid : GridValue) (name : List ℕ) (cycles : ℕ → ℕ → ℕ) → p.bytes ≡ [] → p.room ≡ page_room p.classes
     → grid.classes ≤ p.classes → IsGrid grid → ((k : ℕ) → doubled_at cycles grid.classes k ≤ MAX_FIGURE) → length name ≤ 32
     → Fits p (repeat_text grid name cycles)
 repeat_text-fits p grid name cycles none room fewer is few short =

@@ -12,11 +12,11 @@ use Rattle.calibration.specs.History.{history}
 use Rattle.turning_points.specs.Points.{points}
 use Rattle.three_point.specs.Run.{half_units as history_half_units, three_point}
 use Rattle.three_point.specs.Sums.{sum_at_range}
-use Rattle.level_crossing.specs.Crossings.{count_at, crossings as history_crossings}
+use Rattle.level_crossing.specs.Crossings.{crossing_count, crossings as history_crossings}
 use Rattle.simple_counts.specs.Simple.{peak_count, peaks_at, range_count, ranges_at, valley_count, valleys_at}
 use Rattle.segment.specs.Segment.{SegmentValue}
 use Rattle.segment.specs.Figures.{halves_of}
-use Rattle.report.specs.Counts.{counts_of}
+use Rattle.report.specs.Counts.{kinds_of}
 use Rattle.report.specs.declared.counts.SampleCounts.{SampleCounts}
 
 -- the half units by pair and by range, the crossings by boundary, peaks and valleys by level, the simple ranges
@@ -48,8 +48,8 @@ pub record AreFew (f : Figures) : Type 0 where
   pub ranges : (k : ℕ) → f.ranges k ≤ MAX_FIGURE
 
 -- samples, used, missing and refused, as a row of four
-abbrev pub counts_in : List ℕ → SampleCounts
-counts_in samples = record {
+abbrev pub counts_of_row : List ℕ → SampleCounts
+counts_of_row samples = record {
   samples = slice_index samples 0;
   used = slice_index samples 1;
   missing = slice_index samples 2;
@@ -63,7 +63,7 @@ AreFewHalves halves = (k : ℕ) → slice_index halves k ≤ MAX_FIGURE
 -- 5.3.
 abbrev pub figures : GridValue → GainValue → List ℤ → Figures
 figures grid gain w = record {
-  samples = counts_of grid gain w;
+  samples = kinds_of grid gain w;
   pairs = three_point (history grid gain w);
   half_units = history_half_units (history grid gain w);
   crossings = λ l. history_crossings grid.reference l (history grid gain w);
@@ -77,7 +77,7 @@ figures_of v = record {
   samples = record { samples = v.to - v.from; used = v.used; missing = v.missing; refused = v.refused };
   pairs = halves_of v;
   half_units = λ k. sum_at_range (halves_of v) k (v.grid.classes - k);
-  crossings = λ l. count_at v.crossings l;
+  crossings = λ l. crossing_count v.crossings l;
   peaks = λ l. peak_count v.simple l;
   valleys = λ l. valley_count v.simple l;
   ranges = λ k. range_count v.simple k;

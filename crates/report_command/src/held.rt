@@ -1,4 +1,4 @@
-ghost use Rattle.std.specs.Prelude.{◌≡◌, ◌≢◌, ◌≤◌, ◌⊎◌, ℕ, length};
+ghost use Rattle.std.specs.Prelude.{◌≡◌, ℕ, length};
 ghost use Rattle.outside.specs.Fault.{CountRose};
 ghost use Rattle.report.specs.Figures.{Figures};
 ghost use Rattle.site_config.specs.Valid.{IsConfig};

@@ -20,7 +20,7 @@ pub struct PairCounter {
 
 // Clauses see the tally.
 impl Model for PairCounter {
-    ghost use Rattle.tally.specs.Counts.{Counts, IsCounts, HasGreatestRoom};
+    ghost use Rattle.tally.specs.Counts.{Counts, HasGreatestRoom};
 
     ghost Value = { Counts };
 

@@ -10,7 +10,7 @@ use Rattle.std.proofs.lemmas.List.{append-nil, get_or_default}
 use Rattle.outside.specs.Fault.{CountRose}
 use Rattle.recording.specs.Samples.{samples}
 use Rattle.lane_ends.specs.declared.end.End.TheVariants.{More, ReadFault}
-use Rattle.lane_ends.specs.Ends.{Gives}
+use Rattle.lane_ends.specs.Ends.{IsRead}
 use Rattle.lane_ends.proofs.Giving.{more_or_not}
 use Rattle.gauge_ring.specs.declared.taker.Taker.{Taker}
 use Rattle.gauge_ring.specs.declared.feeder.Feeder.{Feeder}
@@ -54,7 +54,7 @@ module _ {C : Type 0} where
     pub has : r3.src ≡ Some now
     pub samples : tells → samples_of units ≡ take (r3.desk.at - l0.at) (samples (left before))
     pub limit : r3.desk.at ≤ MAX_SAMPLES
-    pub gives : l0.end ≡ More → tells → Gives (BLOCKS_PER_WINDOW * r0.desk.block) (MAX_SAMPLES - l0.at) (left before) (r3.desk.at - l0.at)
+    pub gives : l0.end ≡ More → tells → IsRead (BLOCKS_PER_WINDOW * r0.desk.block) (MAX_SAMPLES - l0.at) (left before) (r3.desk.at - l0.at)
         r3.desk.end (left now)
     pub cause : l0.end ≡ More → r3.desk.end ≡ ReadFault → CountRose (faults before) (faults now)
     pub later : faults before ≤ faults now
@@ -114,9 +114,10 @@ module _ {C : Type 0} where
         has = same.src ∙ job.has;
         samples = λ t. rd.samples t ∙ ap (λ k. take k (samples (left b))) long;
         limit = let l = rd.limit in let e = same.at in omega (arith, l, e);
-        gives = λ m t. subst (λ e. Gives (BLOCKS_PER_WINDOW * r0.desk.block) (MAX_SAMPLES - l0.at) (left b) (r3.desk.at - l0.at) e (left n))
+        gives = λ m t. subst (λ e. IsRead (BLOCKS_PER_WINDOW * r0.desk.block) (MAX_SAMPLES - l0.at) (left b)
+            (r3.desk.at - l0.at) e (left n))
             (sym same.end)
-            (subst (λ a. Gives (BLOCKS_PER_WINDOW * r0.desk.block) (MAX_SAMPLES - a) (left b) (r3.desk.at - l0.at) r2.desk.end (left n))
+            (subst (λ a. IsRead (BLOCKS_PER_WINDOW * r0.desk.block) (MAX_SAMPLES - a) (left b) (r3.desk.at - l0.at) r2.desk.end (left n))
             lent.at
             (gives_as (BLOCKS_PER_WINDOW * r1.desk.block) (BLOCKS_PER_WINDOW * r0.desk.block) (MAX_SAMPLES - r1.desk.at)
             (r2.desk.at - r1.desk.at) (r3.desk.at - l0.at) (left b) (left n) r2.desk.end (ap (λ k. BLOCKS_PER_WINDOW * k) lent.block) long

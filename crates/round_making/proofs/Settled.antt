@@ -45,7 +45,7 @@ use Rattle.round_making.proofs.Ran.{LaneRan, lane_ran, WorkerRan, worker_ran}
 use Rattle.std.specs.Prelude.{ℤ, pos, replicate, slice_range}
 use Rattle.std.proofs.lemmas.Option.{same_Some}
 use Rattle.recording.specs.Samples.{samples}
-use Rattle.lane_ends.specs.Ends.{Gives}
+use Rattle.lane_ends.specs.Ends.{IsRead}
 use Rattle.calibration.specs.Gain.{GainValue}
 use Rattle.segment.specs.Segment.{SegmentValue}
 use Rattle.segment.specs.Name.{name_of}
@@ -523,7 +523,7 @@ module _ {C : Type 0} (tells : Type 0) (left : C → List ℕ) (faults : C → �
           samples = let e = b.at in let f = start_at g m in let h = end_at g m in
               (omega (arith, flows.0, e, f, h), omega (arith, flows.1, e, f, h));
           limit = let e = b.at in let u = x.limit in omega (arith, e, u);
-          gives = λ o t. subst (λ e. Gives (BLOCKS_PER_WINDOW * p0.block) (MAX_SAMPLES - (get_or ls0 g l).at) (left x.before)
+          gives = λ o t. subst (λ e. IsRead (BLOCKS_PER_WINDOW * p0.block) (MAX_SAMPLES - (get_or ls0 g l).at) (left x.before)
               ((get_or ls2 g l).at - (get_or ls0 g l).at) e (left x.now)) (sym b.end)
               (gives_as (BLOCKS_PER_WINDOW * (get_or rs0 g r).desk.block) (BLOCKS_PER_WINDOW * p0.block) (MAX_SAMPLES - (get_or ls0 g l).at)
               (to g - (get_or ls0 g l).at) ((get_or ls2 g l).at - (get_or ls0 g l).at) (left x.before) (left x.now)

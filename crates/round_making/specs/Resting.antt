@@ -87,8 +87,7 @@ module _ {C : Type 0} where
     gauges = length readers;
     block = p.block;
     workers = length workers;
-    board =
-        b;
+    board = b;
     inside = p.inside;
     rings = rings_of workers;
   }

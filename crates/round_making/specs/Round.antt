@@ -10,7 +10,7 @@ use Rattle.recording.specs.declared.TheConstants.{MAX_SAMPLES}
 use Rattle.flow.specs.declared.TheConstants.{BLOCKS_PER_WINDOW}
 use Rattle.recording.specs.Samples.{samples}
 use Rattle.lane_ends.specs.declared.end.End.TheVariants.{More, ReadFault}
-use Rattle.lane_ends.specs.Ends.{Gives}
+use Rattle.lane_ends.specs.Ends.{IsRead}
 use Rattle.segment.specs.Segment.{SegmentValue, Stands}
 use Rattle.segment.specs.Name.{name_of}
 use Rattle.flow.specs.Flow.{name_of_samples, hits}
@@ -47,7 +47,7 @@ module _ {C : Type 0} where
     pub samples : (old.at ≤ new.at) × (new.at ≤ old.at + BLOCKS_PER_WINDOW * block)
     pub limit : new.at ≤ MAX_SAMPLES
     pub gives : old.end ≡ More → tells →
-        Gives (BLOCKS_PER_WINDOW * block) (MAX_SAMPLES - old.at) (left before) (new.at - old.at) new.end (left now)
+        IsRead (BLOCKS_PER_WINDOW * block) (MAX_SAMPLES - old.at) (left before) (new.at - old.at) new.end (left now)
     pub cause : old.end ≡ More → new.end ≡ ReadFault → CountRose (faults before) (faults now)
     pub later : faults before ≤ faults now
     pub ended : old.end ≢ More → (new.at ≡ old.at) × (new.end ≡ old.end) × (now ≡ before)

@@ -3,11 +3,11 @@ use Rattle.std.proofs.Common.{◌≡◌, ◌≢◌, ℕ, ◌+◌, ◌<◌, ◌�
 use Rattle.std.proofs.lemmas.Bool.{cases_eq, cases_lt}
 use Rattle.turning_points.specs.Points.{IsBetween, IsTurn, OnSide}
 use Rattle.turning_points.specs.EndPoints.{EndPoints, IsEnds, ends_prepend, ends_of_both}
-use Rattle.turning_points.proofs.Put.{PutCase, at_none, at_equal, at_second, at_turn, at_passed, put_none, put_equal, put_second, put_turn, put_two, put_passed, put_first, put_side}
+use Rattle.turning_points.proofs.Put.{PutCase, at_none, at_equal, at_second, at_turn, at_passed, put_none, put_equal, put_second, put_turn, put_two, put_passed, put_first, put_side, side_self}
 use Rattle.turning_points.proofs.PutEnds.{case_of, put_ends}
 use Rattle.turning_points.proofs.MeetEnds.{Left, left_zero, left_one, left_two, left_long, left_of, ends_of_both_zero, ends_of_both_one, ends_of_both_two, ends_of_both_long, twice}
 use Rattle.segment.specs.Alike.{Alike}
-use Rattle.segment.proofs.Deleted.{side_self, side_next}
+use Rattle.segment.proofs.Deleted.{side_next}
 
 -- after a level was put before each, where the levels lie on one side
 pub record Opened (g s h k : EndPoints) : Type 0 where

@@ -1,9 +1,10 @@
 -- A deletion keeps the ends of a residue alike to those of the points.
-use Rattle.std.proofs.Common.{◌≡◌, ◌≢◌, ℕ, ◌<◌, ◌≤◌, ◌⊎◌, inl, inr, List, [], ◌∷◌, length, get_or, refl, sym, ◌∙◌, subst, arith}
+use Rattle.std.proofs.Common.{◌≡◌, ℕ, ◌<◌, ◌≤◌, ◌⊎◌, inl, inr, List, [], ◌∷◌, length, get_or, refl, sym, ◌∙◌, subst, arith}
 use Rattle.std.proofs.lemmas.Bool.{cases_lt}
 use Rattle.turning_points.specs.Pairs.{Pair}
 use Rattle.turning_points.specs.EndPoints.{EndPoints, ends_of, last_point, last_but_one}
 use Rattle.turning_points.proofs.Zigzag.{IsZigzag, zig_tail, ends_differ}
+use Rattle.turning_points.proofs.Put.{side_self}
 use Rattle.four_point.proofs.Drops.{Drops, here, past, Encloses}
 use Rattle.four_point.proofs.Chain.{Chain, done, more}
 use Rattle.four_point.proofs.Unique.{zig_drops}
@@ -24,9 +25,6 @@ fit_second a b c d f = grind arith
 
 fit_before : (a b c d : ℕ) → Encloses a b c d → OnSide d c a
 fit_before a b c d f = grind arith
-
-pub side_self : (a b : ℕ) → a ≢ b → OnSide a b b
-side_self a b n = grind arith
 
 end_side : (x : ℕ) (l : List ℕ) (d : ℕ) → IsZigzag (d ∷ x ∷ l) →
     OnSide (last_point (d ∷ x ∷ l)) (last_but_one (d ∷ x ∷ l)) (last_but_one (d ∷ x ∷ l))

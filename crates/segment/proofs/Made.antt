@@ -12,12 +12,12 @@ use Rattle.turning_points.specs.Points.{IsTurn, OnSide}
 use Rattle.turning_points.proofs.EndPlaces.{last_place, before_place}
 use Rattle.four_point.specs.Residue.{IsResidue, ReducerValue}
 use Rattle.calibration.specs.Grid.{GridValue, IsGrid}
-use Rattle.level_crossing.specs.Crossings.{CrossingsValue, count_at as crossing_count}
+use Rattle.level_crossing.specs.Crossings.{CrossingsValue, crossing_count}
 use Rattle.level_crossing.specs.Loading.{HasEnds}
 use Rattle.simple_counts.specs.Simple.{SimpleValue, IsSimple, peak_count, range_count, valley_count}
 use Rattle.segment_rules.specs.Parts.{PartsValue}
-use Rattle.segment_rules.specs.Rules.{IsEnded}
-use Rattle.segment_rules.specs.Rules.{IsSegment as AreSegment}
+use Rattle.segment_rules.specs.Rules.{EndsAgree}
+use Rattle.segment_rules.specs.Rules.{AreSegmentParts}
 use Rattle.segment.specs.Alike.{Alike}
 use Rattle.segment.specs.Segment.{SegmentValue, IsSegment}
 use Rattle.segment.specs.Parts.{parts_of}
@@ -43,7 +43,7 @@ side_of_turn : (p x n q : ℕ) → p ≡ q → IsTurn x q n → OnSide p x n
 side_of_turn p x n q e h = grind arith
 
 -- the ends of a residue, where the points' ends lie beside it
-module _ (k : ℕ) (e : EndPoints) (r : List ℕ) (i : IsEnded k e r) where
+module _ (k : ℕ) (e : EndPoints) (r : List ℕ) (i : EndsAgree k e r) where
   first_same : ((e.points ≡ 0) ⊎ ((e.points ≡ 1) ⊎ (2 ≤ e.points))) → (ends_of r).first ≡ e.first
   first_same (inl z) = let n = i.short (omega (arith, z)) in none_first r (omega (arith, n, z))
       ∙ sym (ap (λ (v : EndPoints). v.first) (i.none z))
@@ -99,7 +99,7 @@ made_of g p n t r x c = record {
 }
 
 module _ (g : GridValue) (p : PartsValue) (n : ℕ) (t : Counts) (r : ReducerValue) (x : CrossingsValue) (c : SimpleValue) (grid : IsGrid g)
-    (s : AreSegment g p)
+    (s : AreSegmentParts g p)
     (longest : n ≡ longest_of p.name) (cells : t ≡ record { classes = g.classes; room = room_for g.classes n; cells = p.cells })
     (residue : r ≡ record { classes = g.classes; residue = p.residue })
     (x_grid : (x.classes ≡ g.classes) × (x.reference ≡ g.reference)) (crossed : (l : ℕ) → crossing_count x l ≡ count_at l p.crossings)

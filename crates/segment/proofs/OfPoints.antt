@@ -9,19 +9,20 @@ use Rattle.turning_points.specs.Points.{points}
 use Rattle.turning_points.specs.EndPoints.{EndPoints, IsEnds, ends_of, last_point}
 use Rattle.turning_points.proofs.Over.{zig_own}
 use Rattle.turning_points.proofs.PushEnds.{list_ends}
-use Rattle.tally.specs.Counts.{Counts as Tallied, count_of, total_of}
+use Rattle.tally.specs.Counts.{Counts, count_of, total_of}
 use Rattle.four_point.specs.Reduction.{IsFourPointResult}
 use Rattle.four_point.specs.Residue.{AddsCycles, IsResidue, ReducerValue}
 use Rattle.four_point.proofs.Unique.{chain_of}
 use Rattle.calibration.proofs.HistoryBelow.{history_below}
 use Rattle.turning_points.proofs.Levels.{All-points}
-use Rattle.level_crossing.specs.Crossings.{CrossingsValue, count_at, crossings, first_of, has_level}
+use Rattle.level_crossing.specs.Crossings.{CrossingsValue, crossing_count, crossings, start_level, has_level}
 use Rattle.level_crossing.proofs.OfPoints.{crossings_few}
 use Rattle.simple_counts.specs.Simple.{SimpleValue, IsSimple}
 use Rattle.simple_counts.proofs.OfPoints.{level_below}
 use Rattle.segment.specs.Alike.{Alike}
 use Rattle.segment.specs.Segment.{SegmentValue, IsSegment}
-use Rattle.segment.proofs.Deleted.{chain_alike, side_self}
+use Rattle.turning_points.proofs.Put.{side_self}
+use Rattle.segment.proofs.Deleted.{chain_alike}
 use Rattle.segment.proofs.SameEnds.{listed_ends}
 
 self_alike : (k : ℕ) (e : EndPoints) → IsEnds k e → Alike e e
@@ -36,13 +37,13 @@ self_alike k e i = record {
   three = λ q. refl;
 }
 
-pub block_rules : (v : SegmentValue) (p : List ℕ) (u m f : ℕ) (t : Tallied) (q : ReducerValue) (x : CrossingsValue) (z : SimpleValue) →
+pub block_rules : (v : SegmentValue) (p : List ℕ) (u m f : ℕ) (t : Counts) (q : ReducerValue) (x : CrossingsValue) (z : SimpleValue) →
     IsSegment v → points p ≡ p → All (λ l. l < v.grid.classes) p → length p ≤ u → (length p ≡ 0 → u ≡ 0) →
     v.from + (u + m + f) ≤ MAX_SAMPLES → u + m + f ≤ v.longest →
     AddsCycles p (λ lo hi. 0) q.residue (count_of t.cells) → 2 * total_of t.cells + length q.residue ≡ length p →
     IsResidue q.classes q.residue → q.classes ≡ v.reducer.classes → t.classes ≡ v.tally.classes → t.room ≡ v.tally.room →
-    (x.classes ≡ v.crossings.classes) × (x.reference ≡ v.crossings.reference) → x.some ≡ has_level p → x.first ≡ first_of p →
-    x.last ≡ last_point p → ((l : ℕ) → count_at x l ≡ crossings v.crossings.reference l p) →
+    (x.classes ≡ v.crossings.classes) × (x.reference ≡ v.crossings.reference) → x.some ≡ has_level p → x.first ≡ start_level p →
+    x.last ≡ last_point p → ((l : ℕ) → crossing_count x l ≡ crossings v.crossings.reference l p) →
     (z.classes ≡ v.simple.classes) × (z.reference ≡ v.simple.reference) → z.ends ≡ ends_of p → IsSimple z →
     IsSegment (record {
       grid = v.grid;

@@ -11,11 +11,11 @@ use Rattle.turning_points.proofs.PushEnds.{five_same}
 use Rattle.tally.specs.Counts.{IsCell, IsCounts}
 use Rattle.tables.specs.Bins.{count_at, sum_of}
 use Rattle.tables.specs.Tables.{is_at}
-use Rattle.level_crossing.specs.Crossings.{count_at as crossing_count}
+use Rattle.level_crossing.specs.Crossings.{crossing_count}
 use Rattle.simple_counts.specs.Simple.{SimpleValue, IsSimple, open_at, peak_count, range_count, valley_count}
 use Rattle.simple_counts.specs.Loading.{CountsEnds, first_range, last_range}
-use Rattle.segment_rules.specs.Rules.{AreCells, HasEndsBeside, IsEnded, IsOrdered, IsSummed}
-use Rattle.segment_rules.specs.Rules.{IsSegment as AreSegment}
+use Rattle.segment_rules.specs.Rules.{AreCells, HasEndsBeside, EndsAgree, IsOrdered, SumsAgree}
+use Rattle.segment_rules.specs.Rules.{AreSegmentParts}
 use Rattle.segment.specs.Alike.{Alike}
 use Rattle.segment.specs.Segment.{SegmentValue, IsSegment}
 use Rattle.segment.specs.Parts.{bins_from, parts_of}
@@ -157,7 +157,7 @@ module _ (k : ℕ) (e : EndPoints) (r : List ℕ) (i : IsEnds k e) (a : Alike e 
         three = λ z. let t = i.three z in (sym (a.three z), t.0 ∙ sym (a.three z));
       }
 
-  pub ended : IsEnded k e r
+  pub ended : EndsAgree k e r
   ended = record {
     short = a.short;
     long = λ h. a.long (omega (arith, h));
@@ -189,7 +189,7 @@ module _ (v : SegmentValue) (s : IsSegment v) where
         ranges = bins_ordered (range_count v.simple) 1 v.grid.classes (v.grid.classes - 1) (omega (arith, f));
       }
 
-  summed_parts : IsSummed (parts_of v)
+  summed_parts : SumsAgree (parts_of v)
   summed_parts = record {
     span = s.span;
     readings = omega (arith, s.readings, s.span.0);
@@ -210,17 +210,17 @@ module _ (v : SegmentValue) (s : IsSegment v) where
   }
 
   -- the rules of a segment are those of its parts
-  pub parts_kept : AreCells v.grid.classes v.tally.cells → AreSegment v.grid (parts_of v)
+  pub parts_kept : AreCells v.grid.classes v.tally.cells → AreSegmentParts v.grid (parts_of v)
   parts_kept cells = record {
     ordered = ordered_parts cells;
     summed = summed_parts;
     residue = s.residue;
-    ended = subst (λ k. IsEnded k v.simple.ends v.reducer.residue) classes_are
+    ended = subst (λ k. EndsAgree k v.simple.ends v.reducer.residue) classes_are
         (ended v.simple.classes v.simple.ends v.reducer.residue s.simple.ends s.alike);
   }
 
 -- of any segment, whose tally is one
-pub parts_kept_by : (v w : SegmentValue) → v ≡ w → IsSegment v → IsCounts v.tally → AreSegment w.grid (parts_of w)
+pub parts_kept_by : (v w : SegmentValue) → v ≡ w → IsSegment v → IsCounts v.tally → AreSegmentParts w.grid (parts_of w)
 parts_kept_by v w e s t =
-    subst (λ u. AreSegment u.grid (parts_of u)) e
+    subst (λ u. AreSegmentParts u.grid (parts_of u)) e
     (parts_kept v s (record { each = subst (λ k. All (IsCell k) v.tally.cells) s.over.tally t.each; ascending = t.ascending }))

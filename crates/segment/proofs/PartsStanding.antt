@@ -10,13 +10,13 @@ use Rattle.calibration.specs.History.{history}
 use Rattle.turning_points.specs.Points.{points}
 use Rattle.turning_points.specs.Pairs.{range}
 use Rattle.turning_points.specs.EndPoints.{EndPoints}
-use Rattle.tables.specs.Bins.{count_at as listed_at}
+use Rattle.tables.specs.Bins.{count_at}
 use Rattle.tables.specs.Tables.{is_at}
 use Rattle.tables.proofs.Filled.{count_above, count_below}
-use Rattle.level_crossing.specs.Crossings.{Crosses, count_at, crossings, first_of, has_level}
+use Rattle.level_crossing.specs.Crossings.{Crosses, crossing_count, crossings, start_level, has_level}
 use Rattle.level_crossing.proofs.OfPoints.{crosses_points, crossings_points}
 use Rattle.level_crossing.specs.Extremes.{extremes_at}
-use Rattle.simple_counts.specs.Simple.{Counts, open_at, peak_count, range_count, peaks_at, valleys_at, valley_count}
+use Rattle.simple_counts.specs.Simple.{CountsHistory, open_at, peak_count, range_count, peaks_at, valleys_at, valley_count}
 use Rattle.simple_counts.proofs.Readers.{peak_counts, range_counts, valley_counts}
 use Rattle.simple_counts.proofs.Triples.{peaks_are, ranges_are, valleys_are}
 use Rattle.segment.specs.Segment.{SegmentValue, IsSegment, Stands}
@@ -44,15 +44,15 @@ some_points (x ∷ p) = grind (arith, nat_tests)
 -- what the lists of the parts tell is what the segment tells
 module _ (v : SegmentValue) (i : IsSegment v) where
   crossing_listed : (l : ℕ) → 1 ≤ l → l < v.grid.classes →
-      listed_at l (bins_from (count_at v.crossings) 1 (v.grid.classes - 1)) ≡ count_at v.crossings l
-  crossing_listed l from to = bins_count (count_at v.crossings) 1 (v.grid.classes - 1) l from (omega (arith, from, to))
+      count_at l (bins_from (crossing_count v.crossings) 1 (v.grid.classes - 1)) ≡ crossing_count v.crossings l
+  crossing_listed l from to = bins_count (crossing_count v.crossings) 1 (v.grid.classes - 1) l from (omega (arith, from, to))
 
   peak_listed : (l : ℕ) → l < v.grid.classes →
-      listed_at l (bins_from (peak_count v.simple) v.grid.reference (v.grid.classes - v.grid.reference)) ≡ peak_count v.simple l
+      count_at l (bins_from (peak_count v.simple) v.grid.reference (v.grid.classes - v.grid.reference)) ≡ peak_count v.simple l
   peak_listed l to = by (cases_lt l v.grid.reference)
     where
       by : ((l < v.grid.reference) ⊎ (v.grid.reference ≤ l)) →
-          listed_at l (bins_from (peak_count v.simple) v.grid.reference (v.grid.classes - v.grid.reference)) ≡ peak_count v.simple l
+          count_at l (bins_from (peak_count v.simple) v.grid.reference (v.grid.classes - v.grid.reference)) ≡ peak_count v.simple l
       by (inl under) =
           let order = bins_ordered (peak_count v.simple) v.grid.reference v.grid.classes (v.grid.classes - v.grid.reference)
           (omega (arith, i.over.limits.reference_to)) in
@@ -61,11 +61,11 @@ module _ (v : SegmentValue) (i : IsSegment v) where
       by (inr over) = bins_count (peak_count v.simple) v.grid.reference (v.grid.classes - v.grid.reference) l over (omega (arith, over, to))
 
   valley_listed : (l : ℕ) → l < v.grid.classes →
-      listed_at l (bins_from (valley_count v.simple) 0 v.grid.reference) ≡ valley_count v.simple l
+      count_at l (bins_from (valley_count v.simple) 0 v.grid.reference) ≡ valley_count v.simple l
   valley_listed l to = by (cases_lt l v.grid.reference)
     where
       by : ((l < v.grid.reference) ⊎ (v.grid.reference ≤ l)) →
-          listed_at l (bins_from (valley_count v.simple) 0 v.grid.reference) ≡ valley_count v.simple l
+          count_at l (bins_from (valley_count v.simple) 0 v.grid.reference) ≡ valley_count v.simple l
       by (inl under) = bins_count (valley_count v.simple) 0 v.grid.reference l (omega arith) (omega (arith, under))
       by (inr over) =
           let order = bins_ordered (valley_count v.simple) 0 v.grid.reference v.grid.reference (omega arith) in
@@ -73,11 +73,11 @@ module _ (v : SegmentValue) (i : IsSegment v) where
           ∙ sym (above_valley v.simple.reference l (slice_index v.simple.extremes l) (omega (arith, over, i.over.simple.1)))
 
   range_listed : (k : ℕ) → k < v.grid.classes →
-      listed_at k (bins_from (range_count v.simple) 1 (v.grid.classes - 1)) ≡ range_count v.simple k
+      count_at k (bins_from (range_count v.simple) 1 (v.grid.classes - 1)) ≡ range_count v.simple k
   range_listed k to = by k to (cases_lt k 1)
     where
       by : (k : ℕ) → k < v.grid.classes → ((k < 1) ⊎ (1 ≤ k)) →
-          listed_at k (bins_from (range_count v.simple) 1 (v.grid.classes - 1)) ≡ range_count v.simple k
+          count_at k (bins_from (range_count v.simple) 1 (v.grid.classes - 1)) ≡ range_count v.simple k
       by k to (inl none) =
           let order = bins_ordered (range_count v.simple) 1 v.grid.classes (v.grid.classes - 1) (omega (arith, to)) in
           let zero_is : k ≡ 0 = omega (arith, none) in
@@ -126,11 +126,11 @@ module _ (v : SegmentValue) (i : IsSegment v) where
               ∙ ap (λ r. crossings r l (points h)) (sym i.over.crossings.1);
         })
       where
-        first_points : (p : List ℕ) → slice_index p 0 ≡ first_of p
+        first_points : (p : List ℕ) → slice_index p 0 ≡ start_level p
         first_points [] = refl
         first_points (x ∷ p) = refl
 
-    counts_by : PartsStand v.grid gain (parts_of v) w → Counts v.simple h
+    counts_by : PartsStand v.grid gain (parts_of v) w → CountsHistory v.simple h
     counts_by p = record {
       ends = p.ends;
       decided = λ k to.

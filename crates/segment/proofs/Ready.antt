@@ -13,7 +13,7 @@ use Rattle.four_point.specs.Residue.{IsResidue, ReducerValue}
 use Rattle.calibration.specs.Grid.{GridValue, IsGrid}
 use Rattle.simple_counts.specs.Loading.{CanLoad}
 use Rattle.segment_rules.specs.Parts.{PartsValue}
-use Rattle.segment_rules.specs.Rules.{IsEnded, IsSegment as AreSegment}
+use Rattle.segment_rules.specs.Rules.{EndsAgree, AreSegmentParts}
 use Rattle.lemmas.proofs.Naturals.{few_cases}
 
 apart : (x y z : ℕ) → IsTurn y x z → x ≢ y
@@ -34,7 +34,7 @@ long_enough p n h s l = grind arith
 at_place : (r : List ℕ) (i j : ℕ) → i ≡ j → (slice_index r i) ≡ (slice_index r j)
 at_place r i j e = ap (λ k. (slice_index r k)) e
 
-module _ (k : ℕ) (e : EndPoints) (r : List ℕ) (some : 1 ≤ k) (res : IsResidue k r) (i : IsEnded k e r) where
+module _ (k : ℕ) (e : EndPoints) (r : List ℕ) (some : 1 ≤ k) (res : IsResidue k r) (i : EndsAgree k e r) where
   ends_more : 2 ≤ e.points → IsEnds k e
   ends_more m =
       let is = i.more m in
@@ -92,7 +92,7 @@ module _ (k : ℕ) (e : EndPoints) (r : List ℕ) (some : 1 ≤ k) (res : IsResi
   pub ends_are : IsEnds k e
   ends_are = ends_by (few_cases e.points)
 
-pub can_load : (g : GridValue) (p : PartsValue) → IsGrid g → AreSegment g p →
+pub can_load : (g : GridValue) (p : PartsValue) → IsGrid g → AreSegmentParts g p →
     CanLoad g.classes g.reference p.ends p.peaks p.valleys p.ranges
 can_load g p grid s =
     let t = s.summed in
@@ -103,7 +103,7 @@ can_load g p grid s =
       valleys_are = s.ordered.valleys;
       ranges_are = s.ordered.ranges;
       extremes = t.extremes;
-      sides = t.ranges;
+      ranges_sum = t.ranges;
       counted = t.end_ranges;
     }
 

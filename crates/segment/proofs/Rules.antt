@@ -10,11 +10,11 @@ use Rattle.turning_points.specs.EndPoints.{IsEnds, ends_of, ends_push, ends_of_b
 use Rattle.turning_points.proofs.Zigzag.{one as single}
 use Rattle.turning_points.proofs.MeetEnds.{ends_of_both_few}
 use Rattle.turning_points.proofs.PushEnds.{list_ends, ends_of_both_none, push_is_meets}
-use Rattle.tally.specs.Counts.{Counts as Tallied, count_of, total_of}
+use Rattle.tally.specs.Counts.{Counts, count_of, total_of}
 use Rattle.tally.specs.Room.{room_for}
 use Rattle.four_point.specs.Residue.{AddsCycles, IsResidue, ReducerValue}
 use Rattle.four_point.proofs.Index.{residue_none}
-use Rattle.level_crossing.specs.Crossings.{CrossingsValue, between, count_at, no_crossings}
+use Rattle.level_crossing.specs.Crossings.{CrossingsValue, joint_crossings, crossing_count, no_crossings}
 use Rattle.level_crossing.proofs.PushJoin.{none_counted}
 use Rattle.level_crossing.proofs.OfPoints.{few_added}
 use Rattle.simple_counts.specs.Simple.{SimpleValue, IsSimple, nothing}
@@ -41,24 +41,25 @@ one_ends k y h = list_ends k (y ∷ []) (omega arith) single (λ i p. at i p)
     at zero p = h
     at (suc i) p = absurd (omega arith)
 
-crossed_more : (b : Bool) (r l x y n used : ℕ) → (b ≡ true → 1 ≤ used) → n ≤ used - 1 → n + between b r l x y ≤ used
+crossed_more : (b : Bool) (r l x y n used : ℕ) → (b ≡ true → 1 ≤ used) → n ≤ used - 1 → n + joint_crossings b r l x y ≤ used
 crossed_more true r l x y n used f h = let o = f refl in omega (arith, few_added r l x y)
 crossed_more false r l x y n used f h = omega arith
 
 pub crossed_both : (a b : Bool) (r l x y m n s t : ℕ) → (a ≡ true → 1 ≤ s) → (b ≡ true → 1 ≤ t) → m ≤ s - 1 → n ≤ t - 1 →
-    m + n + between (a && b) r l x y ≤ s + t - 1
+    m + n + joint_crossings (a && b) r l x y ≤ s + t - 1
 crossed_both true true r l x y m n s t f g h k = let o = f refl in let p = g refl in omega (arith, few_added r l x y)
 crossed_both true false r l x y m n s t f g h k = omega arith
 crossed_both false b r l x y m n s t f g h k = omega arith
 
-pub taken_rules : (v : SegmentValue) (y : ℕ) (t : Tallied) (q : ReducerValue) (x : CrossingsValue) (z : SimpleValue) → IsSegment v →
+pub taken_rules : (v : SegmentValue) (y : ℕ) (t : Counts) (q : ReducerValue) (x : CrossingsValue) (z : SimpleValue) → IsSegment v →
     y < v.grid.classes → v.to < MAX_SAMPLES → v.to - v.from < v.longest →
     AddsCycles (points (v.reducer.residue ++ (y ∷ []))) (count_of v.tally.cells) q.residue (count_of t.cells) →
     2 * total_of t.cells + length q.residue ≡ 2 * total_of v.tally.cells + length (points (v.reducer.residue ++ (y ∷ []))) →
     IsResidue q.classes q.residue → q.classes ≡ v.reducer.classes → t.classes ≡ v.tally.classes → t.room ≡ v.tally.room →
     (x.classes ≡ v.crossings.classes) × (x.reference ≡ v.crossings.reference) → x.some ≡ true →
     x.first ≡ (if v.crossings.some then v.crossings.first else y) → x.last ≡ y →
-    ((l : ℕ) → count_at x l ≡ count_at v.crossings l + between v.crossings.some v.crossings.reference l v.crossings.last y) →
+    ((l : ℕ) → crossing_count x l ≡ crossing_count v.crossings l
+    + joint_crossings v.crossings.some v.crossings.reference l v.crossings.last y) →
     (z.classes ≡ v.simple.classes) × (z.reference ≡ v.simple.reference) → z.ends ≡ ends_push y v.simple.ends → IsSimple z →
     IsSegment (record {
       grid = v.grid;
@@ -106,7 +107,7 @@ taken_rules v y t q x z i h room long j b s qc tc rc xg xs xf xl xn zg ze zc =
       crossed = λ l. omega (
         arith,
         xn l,
-        crossed_more v.crossings.some v.crossings.reference l v.crossings.last y (count_at v.crossings l)
+        crossed_more v.crossings.some v.crossings.reference l v.crossings.last y (crossing_count v.crossings l)
             v.used (some_used v.crossings v.simple.ends v.used i.ends i.used) (i.crossed l),
       );
       simple = zc;
@@ -115,7 +116,7 @@ taken_rules v y t q x z i h room long j b s qc tc rc xg xs xf xl xn zg ze zc =
       alike = subst (λ n. Alike n (ends_of q.residue)) (sym f) r.alike;
     }
 
-pub joined_rules : (v w : SegmentValue) (m t : Tallied) (q : ReducerValue) (x : CrossingsValue) (z : SimpleValue) → IsSegment v →
+pub joined_rules : (v w : SegmentValue) (m t : Counts) (q : ReducerValue) (x : CrossingsValue) (z : SimpleValue) → IsSegment v →
     IsSegment w → v.grid ≡ w.grid → v.to ≡ w.from → (v.to - v.from) + (w.to - w.from) ≤ v.longest →
     total_of m.cells ≡ total_of v.tally.cells + total_of w.tally.cells →
     AddsCycles (points (v.reducer.residue ++ w.reducer.residue)) (count_of m.cells) q.residue (count_of t.cells) →
@@ -124,7 +125,8 @@ pub joined_rules : (v w : SegmentValue) (m t : Tallied) (q : ReducerValue) (x : 
     (x.classes ≡ v.crossings.classes) × (x.reference ≡ v.crossings.reference) → x.some ≡ (v.crossings.some || w.crossings.some) →
     x.first ≡ (if v.crossings.some then v.crossings.first else w.crossings.first) →
     x.last ≡ (if w.crossings.some then w.crossings.last else v.crossings.last) →
-    ((l : ℕ) → count_at x l ≡ count_at v.crossings l + count_at w.crossings l + between (v.crossings.some && w.crossings.some)
+    ((l : ℕ) → crossing_count x l ≡ crossing_count v.crossings l + crossing_count w.crossings l
+    + joint_crossings (v.crossings.some && w.crossings.some)
     v.crossings.reference l v.crossings.last w.crossings.first) →
     (z.classes ≡ v.simple.classes) × (z.reference ≡ v.simple.reference) → z.ends ≡ ends_of_both v.simple.ends w.simple.ends → IsSimple z →
     IsSegment (record {
@@ -177,7 +179,7 @@ joined_rules v w m t q x z i j n next long tt y b s qc tc rc xg xs xf xl xn zg z
         arith,
         xn l0,
         crossed_both v.crossings.some w.crossings.some v.crossings.reference l0 v.crossings.last
-            w.crossings.first (count_at v.crossings l0) (count_at w.crossings l0) v.used w.used
+            w.crossings.first (crossing_count v.crossings l0) (crossing_count w.crossings l0) v.used w.used
             (some_used v.crossings v.simple.ends v.used i.ends i.used) (some_used w.crossings w.simple.ends w.used j.ends j.used)
             (i.crossed l0) (j.crossed l0),
       );
@@ -212,7 +214,7 @@ empty_rules grid gauge from longest z l f o m e c = record {
   };
 }
 
-same_parts : (v : SegmentValue) (grid : GridValue) (gauge from longest : ℕ) (t : Tallied) (q : ReducerValue) (x : CrossingsValue)
+same_parts : (v : SegmentValue) (grid : GridValue) (gauge from longest : ℕ) (t : Counts) (q : ReducerValue) (x : CrossingsValue)
     (z : SimpleValue) → t ≡ record { classes = grid.classes; room = room_for grid.classes longest; cells = [] } →
     q ≡ record { classes = grid.classes; residue = [] } → x ≡ no_crossings grid.classes grid.reference →
     z ≡ nothing grid.classes grid.reference →
@@ -233,10 +235,10 @@ same_parts : (v : SegmentValue) (grid : GridValue) (gauge from longest : ℕ) (t
 same_parts v grid gauge from longest t q x z a b c d = cc
 
 tally_none : (k l r s : ℕ) → k ≡ l → r ≡ s →
-    ◌≡◌ {A = Tallied} (record { classes = k; room = r; cells = [] }) (record { classes = l; room = s; cells = [] })
+    ◌≡◌ {A = Counts} (record { classes = k; room = r; cells = [] }) (record { classes = l; room = s; cells = [] })
 tally_none k l r s a b = cc
 
-pub cleared_rules : (v : SegmentValue) (gauge from : ℕ) (t : Tallied) (q : ReducerValue) (x : CrossingsValue) (z : SimpleValue) →
+pub cleared_rules : (v : SegmentValue) (gauge from : ℕ) (t : Counts) (q : ReducerValue) (x : CrossingsValue) (z : SimpleValue) →
     IsSegment v → from ≤ MAX_SAMPLES → t ≡ record { classes = v.tally.classes; room = v.tally.room; cells = [] } →
     q ≡ record { classes = v.reducer.classes; residue = [] } → x ≡ no_crossings v.crossings.classes v.crossings.reference →
     z ≡ nothing v.simple.classes v.simple.reference → IsSimple z →

@@ -11,7 +11,7 @@ use Rattle.turning_points.proofs.Put.{PutCase, at_none, at_equal, at_second, at_
 use Rattle.turning_points.proofs.PutEnds.{case_of, put_ends}
 use Rattle.turning_points.proofs.MeetEnds.{Left, left_zero, left_one, left_two, left_long, left_of, ends_of_both_long, ends_of_both_one, ends_of_both_two, ends_of_both_zero, twice}
 use Rattle.turning_points.proofs.PushEnds.{push_is_meets}
-use Rattle.level_crossing.specs.Crossings.{CrossingsValue, first_of, has_level}
+use Rattle.level_crossing.specs.Crossings.{CrossingsValue, start_level, has_level}
 use Rattle.level_crossing.specs.Loading.{HasEnds}
 
 -- a level that is put before ends leaves the last one
@@ -140,14 +140,15 @@ pushed_ends k y v x e g i j a some first last is =
           (λ s. t.last s (omega arith)),
     )
 
-pub listed_ends : (p : List ℕ) (x : CrossingsValue) (e : EndPoints) → x.some ≡ has_level p → x.first ≡ first_of p → x.last ≡ last_point p →
+pub listed_ends : (p : List ℕ) (x : CrossingsValue) (e : EndPoints) → x.some ≡ has_level p → x.first ≡ start_level p
+    → x.last ≡ last_point p →
     e ≡ ends_of p → HasEnds x e
 listed_ends p x e some first last is = subst (HasEnds x) (sym is) (by p some first last)
   where
     some_of : (n : ℕ) → true ≡ not (suc n == 0)
     some_of n = grind (arith, nat_tests)
 
-    by : (p : List ℕ) → x.some ≡ has_level p → x.first ≡ first_of p → x.last ≡ last_point p → HasEnds x (ends_of p)
+    by : (p : List ℕ) → x.some ≡ has_level p → x.first ≡ start_level p → x.last ≡ last_point p → HasEnds x (ends_of p)
     by [] a b c = (a, b, c)
     by (y ∷ p) a b c = (a ∙ some_of (length p), b, c)
 

@@ -64,7 +64,7 @@ above_step out l i lo hi one h w =
     let y = get_or l i 0 in
     let n : i - 1 + 1 ≡ i = omega arith in
     let m : i - 1 + 1 < length l = omega arith in
-    let more : half_units_of_pair lo hi (neighbours (drop (i - 1) l)) ≡ 1 * (if lo == min x y && hi == max x y then 1 else 0) +
+    let more : half_units_of_pair lo hi (neighbours (drop (i - 1) l)) ≡ (if lo == min x y && hi == max x y then 1 else 0) +
     half_units_of_pair lo hi (neighbours (drop i l)) =
     ap (half_units_of_pair lo hi) (neighbours_more l (i - 1) m) ∙ ap (λ j. half_units_of_pair lo hi
     (counted_range x (get_or l j 0) 1 ∷ neighbours (drop j l))) n in

@@ -1,7 +1,7 @@
 -- The ends of a segment's points, and those of its residue.
 --   Alike    the same ends, with their neighbours on the same sides, and as many levels where there are at most three
 --            points
-use Rattle.std.specs.Prelude.{ℕ, ◌≤◌, ◌≡◌}
+use Rattle.std.specs.Prelude.{◌≤◌, ◌≡◌}
 use Rattle.turning_points.specs.Points.{OnSide}
 use Rattle.turning_points.specs.EndPoints.{EndPoints}
 

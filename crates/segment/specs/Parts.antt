@@ -3,7 +3,7 @@
 --   parts_of    the parts of a segment
 use Rattle.std.specs.Prelude.{◌+◌, ◌-◌, ◌==◌, ℕ, zero, suc, if◌then◌else◌, List, [], ◌∷◌}
 use Rattle.tally.specs.declared.cells.Bin.{Bin}
-use Rattle.level_crossing.specs.Crossings.{count_at}
+use Rattle.level_crossing.specs.Crossings.{crossing_count}
 use Rattle.simple_counts.specs.Simple.{peak_count, range_count, valley_count}
 use Rattle.segment_rules.specs.Parts.{PartsValue}
 use Rattle.segment.specs.Segment.{SegmentValue}
@@ -22,7 +22,7 @@ parts_of v = record {
   ends = v.simple.ends;
   residue = v.reducer.residue;
   cells = v.tally.cells;
-  crossings = bins_from (count_at v.crossings) 1 (v.grid.classes - 1);
+  crossings = bins_from (crossing_count v.crossings) 1 (v.grid.classes - 1);
   peaks = bins_from (peak_count v.simple) v.grid.reference (v.grid.classes - v.grid.reference);
   valleys = bins_from (valley_count v.simple) 0 v.grid.reference;
   ranges = bins_from (range_count v.simple) 1 (v.grid.classes - 1);

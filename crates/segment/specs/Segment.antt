@@ -13,13 +13,13 @@ use Rattle.calibration.specs.Grid.{GridValue, IsGrid}
 use Rattle.calibration.specs.History.{history, missing_count, refused_count}
 use Rattle.turning_points.specs.Points.{points}
 use Rattle.turning_points.specs.EndPoints.{ends_of}
-use Rattle.tally.specs.Counts.{Counts as Tallied, count_of, total_of}
+use Rattle.tally.specs.Counts.{Counts, count_of, total_of}
 use Rattle.tally.specs.Room.{room_for}
 use Rattle.four_point.specs.Reduction.{IsFourPointResult}
 use Rattle.four_point.specs.Residue.{IsResidue, ReducerValue}
-use Rattle.level_crossing.specs.Crossings.{CrossingsValue, Crosses, count_at, no_crossings}
+use Rattle.level_crossing.specs.Crossings.{CrossingsValue, Crosses, crossing_count, no_crossings}
 use Rattle.level_crossing.specs.Loading.{HasEnds}
-use Rattle.simple_counts.specs.Simple.{SimpleValue, Counts, IsSimple, nothing}
+use Rattle.simple_counts.specs.Simple.{SimpleValue, CountsHistory, IsSimple, nothing}
 use Rattle.segment.specs.Alike.{Alike}
 
 pub record SegmentValue : Type 0 where
@@ -31,7 +31,7 @@ pub record SegmentValue : Type 0 where
   pub used : ℕ
   pub missing : ℕ
   pub refused : ℕ
-  pub tally : Tallied
+  pub tally : Counts
   pub reducer : ReducerValue
   pub crossings : CrossingsValue
   pub simple : SimpleValue
@@ -71,7 +71,7 @@ pub record IsSegment (v : SegmentValue) : Type 0 where
   pub used : v.simple.ends.points ≤ v.used
   pub none : v.simple.ends.points ≡ 0 → v.used ≡ 0
   pub balance : length v.reducer.residue + 2 * total_of v.tally.cells ≡ v.simple.ends.points
-  pub crossed : (l : ℕ) → count_at v.crossings l ≤ v.used - 1
+  pub crossed : (l : ℕ) → crossing_count v.crossings l ≤ v.used - 1
   pub simple : IsSimple v.simple
   -- the crossings begin and end where the points do
   pub ends : HasEnds v.crossings v.simple.ends
@@ -83,7 +83,7 @@ pub record StandsFor (v : SegmentValue) (h : List ℕ) : Type 0 where
   pub used : v.used ≡ length h
   pub result : IsFourPointResult (points h) (count_of v.tally.cells) v.reducer.residue
   pub crossings : Crosses v.crossings h
-  pub simple : Counts v.simple h
+  pub simple : CountsHistory v.simple h
 
 pub record Stands (v : SegmentValue) (gain : GainValue) (samples : List ℤ) : Type 0 where
   pub span : v.to ≡ v.from + length samples

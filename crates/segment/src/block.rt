@@ -1,4 +1,4 @@
-ghost use Rattle.std.specs.Prelude.{◌≡◌, ◌⊎◌, ℕ, [], ◌+◌, ◌*◌, ◌<◌, ◌≤◌, All, length, take};
+ghost use Rattle.std.specs.Prelude.{◌≡◌, ◌⊎◌, [], ◌+◌, ◌*◌, ◌<◌, ◌≤◌, All, length, take};
 ghost use Rattle.calibration.specs.History.{history, missing_count, refused_count};
 ghost use Rattle.turning_points.specs.Points.{points};
 ghost use Rattle.tally.specs.Counts.{count_of, total_of, HasGreatestRoom};

@@ -6,7 +6,7 @@ use std::marker::Model;
 
 // A gain, and what it makes of raw values over a grid.
 #[derive(Drop)]
-struct Calibrated {
+struct GainClassifier {
     gain: Gain,
     classifier: Classifier,
 }
@@ -16,19 +16,19 @@ struct Calibrated {
 #[derive(Drop)]
 pub struct Classes {
     grid: Grid,
-    last: Option<Calibrated>,
+    last: Option<GainClassifier>,
 }
 
 impl Model for Classes {
     ghost use Rattle.std.specs.Prelude.{◌≡◌, Some};
     ghost use Rattle.calibration.specs.Grid.{GridValue};
-    ghost use Rattle.segment.specs.declared.classes.Calibrated.{Calibrated};
+    ghost use Rattle.segment.specs.declared.classes.GainClassifier.{GainClassifier};
 
     ghost Value = { GridValue };
 
     ghost view = { λ c. c.grid };
 
-    ghost invariant = { λ c. (l : Calibrated) → c.last ≡ Some l →
+    ghost invariant = { λ c. (l : GainClassifier) → c.last ≡ Some l →
         l.classifier ≡ record { gain = l.gain; grid = c.grid } };
 }
 
@@ -62,7 +62,7 @@ impl Classes {
         }
         let classifier = Classifier::new(gain, &self.grid);
         let reading = classifier.level(raw);
-        self.last = Some(Calibrated {
+        self.last = Some(GainClassifier {
             gain: *gain,
             classifier,
         });

@@ -10,7 +10,7 @@
 //! them goes on to meet them.
 //!
 //! Only `new` takes memory. A sample, or the whole of a block at once, takes constant time for each
-//! level; a joint takes what the smaller part has in its tally and residue, and a pass over the
+//! level; a joint takes what the right part has in its tally and residue, and a pass over the
 //! places of the classes.
 #![tactic(auto)]
 

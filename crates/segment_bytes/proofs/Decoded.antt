@@ -14,7 +14,7 @@ use Rattle.segment_bytes.specs.Fields.{◌>>=◌, list_at, list_bytes}
 use Rattle.segment_bytes.specs.declared.layout.Layout.{Layout}
 use Rattle.segment_bytes.specs.declared.layout.Layout.TheVariants.{One, Two}
 use Rattle.segment_bytes.specs.Rows.{RowValue, rows_of, wrong_row}
-use Rattle.segment_bytes.specs.Grammar.{cell, row, cell_at, row_at, Body, parts_of_body, flat, with_list0, body_with, body_of, FitsCells, FitsRows}
+use Rattle.segment_bytes.specs.Grammar.{cell, row, cell_at, row_at, Body, parts_of_body, flat_body, with_list0, body_with, body_of, FitsCells, FitsRows}
 use Rattle.segment_bytes.specs.Decoding.{or_fault, all_of, parts_in, segment_in, IsBodyOf, NoPrefix}
 use Rattle.segment_bytes.proofs.Formats.{IsBytes, bind_ok, ok_is}
 use Rattle.segment_bytes.proofs.Bodies.{cells_format, rows_format, all_takes, all_again, front_is_whole}
@@ -27,8 +27,8 @@ or_fault_ok (Some f) p q e = absurd cc
 
 -- the parts of a body in rows have these rows again
 rows_whole : (g : GridValue) (x : Body (List RowValue)) → wrong_row 0 g.classes 0 x.1.1.0 ≡ None →
-    with_list0 (rows_of (parts_of_body (flat x)).cells) (parts_of_body (flat x)) ≡ x
-rows_whole g x e = ap (λ (r : List RowValue). with_list0 r (parts_of_body (flat x)))
+    with_list0 (rows_of (parts_of_body (flat_body x)).cells) (parts_of_body (flat_body x)) ≡ x
+rows_whole g x e = ap (λ (r : List RowValue). with_list0 r (parts_of_body (flat_body x)))
     (rows_again 0 g.classes x.1.1.0 (rows_ok 0 g.classes 0 x.1.1.0 e))
 
 -- parts that were read have these bytes
@@ -44,8 +44,8 @@ parts_take One g bytes p fits e =
     subst (λ (q : PartsValue). AreRead One q bytes) (ok_is (parts_of_body a.0) p a.2) (record { gauge = t.0.0.0.0; bytes_are = t.1 })
 parts_take Two g bytes p fits e =
     let a = bind_ok (all_of (list_at w16 row_at) bytes) (λ x. or_fault (order_broken 0 (wrong_row 0 g.classes 0 x.1.1.0))
-    (parts_of_body (flat x))) p e in
-    let o = or_fault_ok (order_broken 0 (wrong_row 0 g.classes 0 a.0.1.1.0)) (parts_of_body (flat a.0)) p a.2 in
+    (parts_of_body (flat_body x))) p e in
+    let o = or_fault_ok (order_broken 0 (wrong_row 0 g.classes 0 a.0.1.1.0)) (parts_of_body (flat_body a.0)) p a.2 in
     let t = all_takes FitsRows (list_bytes w16 row) (list_at w16 row_at) rows_format bytes a.0 fits a.1 in
     let whole = rows_whole g a.0 (no_place 0 (wrong_row 0 g.classes 0 a.0.1.1.0) o.0) in
     subst (λ (q : PartsValue). AreRead Two q bytes) o.1 (record {
@@ -66,12 +66,12 @@ parts_again Two g bytes p grid is =
     let read : all_of (list_at w16 row_at) bytes ≡ Ok (with_list0 rows p) = ap (all_of (list_at w16 row_at)) is.bytes_are
     ∙ all_again FitsRows (list_bytes w16 row) (list_at w16 row_at) rows_format (with_list0 rows p)
     (segment_fits Two g p grid is.gauge is.segment) in
-    let whole : parts_of_body (flat (with_list0 rows p)) ≡ p =
+    let whole : parts_of_body (flat_body (with_list0 rows p)) ≡ p =
     ap (λ (c : List Cell). parts_of_body (with_list0 c p)) (cells_again p.cells) in
     let ordered = ok_rows 0 g.classes 0 rows (rows_are g.classes p.cells (cells_in_order g.classes p.cells is.segment.ordered.cells)) in
     ap (λ (r : Result (Body (List RowValue)) BytesFault). r >>= λ x. or_fault (order_broken 0 (wrong_row 0 g.classes 0 x.1.1.0))
-    (parts_of_body (flat x))) read
-    ∙ ap (λ o. or_fault (order_broken 0 o) (parts_of_body (flat (with_list0 rows p)))) ordered ∙ ap (λ (q : PartsValue). Ok q) whole
+    (parts_of_body (flat_body x))) read
+    ∙ ap (λ o. or_fault (order_broken 0 o) (parts_of_body (flat_body (with_list0 rows p)))) ordered ∙ ap (λ (q : PartsValue). Ok q) whole
 
 pub decoded_takes : (l : Layout) (g : GridValue) (bytes : List ℕ) (p : PartsValue) → IsBytes bytes → segment_in l g bytes ≡ Ok p
     → IsBodyOf l g p bytes

@@ -12,17 +12,17 @@ use Rattle.segment_rules.specs.Parts.{PartsValue}
 use Rattle.segment_bytes.specs.declared.layout.Layout.{Layout}
 use Rattle.segment_bytes.specs.declared.layout.Layout.TheVariants.{One, Two}
 use Rattle.segment_bytes.specs.Sizes.{body_length, list0_length}
-use Rattle.segment_bytes.specs.Writing.{Puts, bins_in, bins_of, count_in, first_key, keys, row_bins}
+use Rattle.segment_bytes.specs.Writing.{Puts, bins_in, bins_of, table_count, first_key, keys, row_bins}
 use Rattle.segment_bytes.proofs.Listed.{listed_same}
 
 -- the counts of a table, filled into a list, are its bins
 pub table_bins : (v : SegmentValue) (t : Table) (first n : ℕ) (out : List ℕ) → first ≡ first_key v.grid t → n ≡ keys v.grid t
     → length out ≡ n
-    → ((k : ℕ) → k < length out → slice_index out k ≡ count_in v t (first + k)) → bins_of first out ≡ bins_in (parts_of v) t
-table_bins v t first n out e f g h = listed_same (count_in v t) first out h ∙ ap (bins_from (count_in v t) first) (g ∙ f)
-    ∙ ap (λ k. bins_from (count_in v t) k (keys v.grid t)) e ∙ is t
+    → ((k : ℕ) → k < length out → slice_index out k ≡ table_count v t (first + k)) → bins_of first out ≡ bins_in (parts_of v) t
+table_bins v t first n out e f g h = listed_same (table_count v t) first out h ∙ ap (bins_from (table_count v t) first) (g ∙ f)
+    ∙ ap (λ k. bins_from (table_count v t) k (keys v.grid t)) e ∙ is t
   where
-    is : (t : Table) → bins_from (count_in v t) (first_key v.grid t) (keys v.grid t) ≡ bins_in (parts_of v) t
+    is : (t : Table) → bins_from (table_count v t) (first_key v.grid t) (keys v.grid t) ≡ bins_in (parts_of v) t
     is Crossings = refl
     is Peaks = refl
     is Valleys = refl

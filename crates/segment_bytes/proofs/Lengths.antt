@@ -18,12 +18,12 @@ use Rattle.turning_points.specs.EndPoints.{EndPoints}
 use Rattle.lemmas.proofs.Naturals.{few_cases}
 use Rattle.tables.specs.Bins.{AreBinsFrom, sum_of}
 use Rattle.segment_rules.specs.Parts.{PartsValue}
-use Rattle.segment_rules.specs.Rules.{IsEnded, IsSegment}
+use Rattle.segment_rules.specs.Rules.{EndsAgree, AreSegmentParts}
 use Rattle.segment_rules.proofs.CellsFrom.{AreCellsFrom, cells_in_order}
 use Rattle.segment_rules.proofs.Sizes.{IsSmall, is_small, bins_few}
 use Rattle.segment_bytes.specs.declared.layout.Layout.{Layout}
 use Rattle.segment_bytes.specs.declared.layout.Layout.TheVariants.{One, Two}
-use Rattle.segment_bytes.specs.Rows.{RowValue, AreRowsFrom, cell_in, row_cells, cells_of, rows_of}
+use Rattle.segment_bytes.specs.Rows.{RowValue, AreRowsFrom, cell_in, row_cells, cells_of_rows, rows_of}
 use Rattle.segment_bytes.specs.Fields.{list_bytes}
 use Rattle.segment_bytes.specs.Grammar.{cell, bin, row, name_and_counts_bytes, ends, back, name_and_counts_of, back_of, with_list0, body_of, list0, FitsCell, FitsBin, FitsRow, FitsBins, FitsCells, FitsRows, FitsEnds, FitsBody, Fits}
 use Rattle.segment_bytes.proofs.Rows.{cells_again, rows_are, rows_few, rows_sum}
@@ -55,7 +55,7 @@ listed16 n l = length-append (to_be_bytes w16 n) l
 listed32 : (n : ℕ) (l : List ℕ) → length (to_be_bytes w32 n ++ l) ≡ 4 + length l
 listed32 n l = length-append (to_be_bytes w32 n) l
 
-pub rows_long : (l : List RowValue) → length (flat_map row l) ≡ 4 * length l + 10 * length (cells_of l)
+pub rows_long : (l : List RowValue) → length (flat_map row l) ≡ 4 * length l + 10 * length (cells_of_rows l)
 rows_long [] = refl
 rows_long (r ∷ l) =
     omega (
@@ -66,7 +66,7 @@ rows_long (r ∷ l) =
       length-append (to_be_bytes w16 r.lo) (list_bytes w16 bin r.bins),
       listed16 (length r.bins) (flat_map bin r.bins),
       bins_long r.bins,
-      length-append (row_cells r) (cells_of l),
+      length-append (row_cells r) (cells_of_rows l),
       length-map r.bins (cell_in r.lo),
     )
 
@@ -148,11 +148,11 @@ body_small Two classes samples p two rows s = (
   omega (arith, two, rows_sum p.cells, s.crossings, s.points, s.inner, s.sides),
 )
 
-pub rows_within : (g : GridValue) (p : PartsValue) → IsSegment g p → length (rows_of p.cells) ≤ g.classes - 1
+pub rows_within : (g : GridValue) (p : PartsValue) → AreSegmentParts g p → length (rows_of p.cells) ≤ g.classes - 1
 rows_within g p s = let n = rows_few 0 g.classes (rows_of p.cells)
     (rows_are g.classes p.cells (cells_in_order g.classes p.cells s.ordered.cells)) in omega (arith, n)
 
-pub segment_small : (l : Layout) (g : GridValue) (p : PartsValue) → IsGrid g → IsSegment g p
+pub segment_small : (l : Layout) (g : GridValue) (p : PartsValue) → IsGrid g → AreSegmentParts g p
     → (length (body_of l p) ≤ max_body l g.classes) × (length (body_of l p) ≤ max_body_of g.classes (p.name.to - p.name.from))
 segment_small l g p grid s =
     let f = grid.classes_from in
@@ -192,7 +192,7 @@ level_fits k l i b a = by (cases_lt i (length l))
     by (inl lt) = let h = a i 0 lt in omega (arith, h, b)
     by (inr le) = let h = get_or_past l i 0 le in omega (arith, h)
 
-ends_fit : (k : ℕ) (e : EndPoints) (l : List ℕ) → k ≤ MAX_CLASSES → e.points < 2 ^ 64 → All (λ x. x < k) l → IsEnded k e l → FitsEnds e
+ends_fit : (k : ℕ) (e : EndPoints) (l : List ℕ) → k ≤ MAX_CLASSES → e.points < 2 ^ 64 → All (λ x. x < k) l → EndsAgree k e l → FitsEnds e
 ends_fit k e l b few a i = by (few_cases e.points)
   where
     by : ((e.points ≡ 0) ⊎ ((e.points ≡ 1) ⊎ (2 ≤ e.points))) → FitsEnds e
@@ -240,7 +240,8 @@ row_fits from to bs b t a = let few = bins_few from to bs a in (omega (arith, fe
     each from [] t a = tt
     each from (x ∷ bs) t a = ((omega (arith, a.1, b), t.0), each (x.key + 1) bs t.1 a.3)
 
-rows_fit : (from to : ℕ) (rs : List RowValue) → to ≤ MAX_CLASSES → AllByRecursion (λ c. c.n < 2 ^ 64) (cells_of rs) → AreRowsFrom from to rs
+rows_fit : (from to : ℕ) (rs : List RowValue) → to ≤ MAX_CLASSES → AllByRecursion (λ c. c.n < 2 ^ 64) (cells_of_rows rs)
+    → AreRowsFrom from to rs
     → AllByRecursion FitsRow rs
 rows_fit from to [] b t a = tt
 rows_fit from to (r ∷ rs) b t a =
@@ -248,8 +249,8 @@ rows_fit from to (r ∷ rs) b t a =
     let low = below r.bins a.1 a.2 in
     ((omega (arith, low, b), row_fits (r.lo + 1) to r.bins b h.0 a.2), rows_fit (r.lo + 1) to rs b h.1 a.3)
   where
-    halves : (l : List Bin) → AllByRecursion (λ c. c.n < 2 ^ 64) (map (cell_in r.lo) l ++ cells_of rs)
-        → AllByRecursion (λ b. b.n < 2 ^ 64) l × AllByRecursion (λ c. c.n < 2 ^ 64) (cells_of rs)
+    halves : (l : List Bin) → AllByRecursion (λ c. c.n < 2 ^ 64) (map (cell_in r.lo) l ++ cells_of_rows rs)
+        → AllByRecursion (λ b. b.n < 2 ^ 64) l × AllByRecursion (λ c. c.n < 2 ^ 64) (cells_of_rows rs)
     halves [] t = (tt, t)
     halves (x ∷ l) t = let h = halves l t.1 in ((t.0, h.0), h.1)
 
@@ -265,7 +266,7 @@ square_le : (a b : ℕ) → a ≤ b → a * a ≤ b * b
 square_le a b h = mul-le a a b b h h
 
 -- all but list 0
-back_fits : {L : Type 0} (F : L → Type 0) (x : L) (g : GridValue) (p : PartsValue) → IsGrid g → p.name.gauge < 2 ^ 16 → IsSegment g p
+back_fits : {L : Type 0} (F : L → Type 0) (x : L) (g : GridValue) (p : PartsValue) → IsGrid g → p.name.gauge < 2 ^ 16 → AreSegmentParts g p
     → F x → FitsBody F (with_list0 x p)
 back_fits F x g p grid gauge s fits =
     let t = s.summed in
@@ -306,10 +307,10 @@ back_fits F x g p grid gauge s fits =
       ),
     )
 
-cells_total : (g : GridValue) (p : PartsValue) → IsSegment g p → total_of p.cells < 2 ^ 64
+cells_total : (g : GridValue) (p : PartsValue) → AreSegmentParts g p → total_of p.cells < 2 ^ 64
 cells_total g p s = let t = s.summed in omega (arith, t.span.1, t.readings, t.points, t.cycles)
 
-pub segment_fits : (l : Layout) (g : GridValue) (p : PartsValue) → IsGrid g → p.name.gauge < 2 ^ 16 → IsSegment g p → Fits l p
+pub segment_fits : (l : Layout) (g : GridValue) (p : PartsValue) → IsGrid g → p.name.gauge < 2 ^ 16 → AreSegmentParts g p → Fits l p
 segment_fits One g p grid gauge s =
     let small = is_small g p (omega (arith, grid.classes_from)) (omega (arith, grid.reference_to)) s in
     back_fits FitsCells p.cells g p grid gauge s (
@@ -331,7 +332,7 @@ pub record IsReady (l : Layout) (g : GridValue) (p : PartsValue) : Type 0 where
   pub long : length (body_of l p) ≡ body_length l p
   pub fits : Fits l p
 
-pub ready : (l : Layout) (g : GridValue) (p : PartsValue) → IsGrid g → p.name.gauge < 2 ^ 16 → IsSegment g p → IsReady l g p
+pub ready : (l : Layout) (g : GridValue) (p : PartsValue) → IsGrid g → p.name.gauge < 2 ^ 16 → AreSegmentParts g p → IsReady l g p
 ready l g p grid gauge s =
     let b = segment_small l g p grid s in
     let n = body_long l p in

@@ -12,8 +12,8 @@ use Rattle.segment_bytes.specs.declared.fault.BytesFault.TheVariants.{Trailing}
 use Rattle.segment_bytes.specs.declared.layout.Layout.TheVariants.{Two}
 use Rattle.segment_bytes.specs.Fields.{◌>>=◌, FailsWith, Reader, number_at, both, seen_as, entry_list, list_at}
 use Rattle.std.specs.Option.{option_or}
-use Rattle.segment_bytes.specs.Rows.{RowValue, cell_in, row_cells, cells_of, bin_of, wrong_row}
-use Rattle.segment_bytes.specs.Grammar.{Back, Body, bin_at, row_at, name_and_counts_at, ends_at, back_at, body_at, parts_of_body, flat}
+use Rattle.segment_bytes.specs.Rows.{RowValue, cell_in, row_cells, cells_of_rows, bin_of, wrong_row}
+use Rattle.segment_bytes.specs.Grammar.{Back, Body, bin_at, row_at, name_and_counts_at, ends_at, back_at, body_at, parts_of_body, flat_body}
 use Rattle.segment_bytes.specs.Decoding.{all_of, or_fault, parts_in}
 use Rattle.segment_bytes.specs.RowReading.{FoundRows, no_rows, wrong_in, with_row, with_rows, cells_alone, parts_of_rows}
 use Rattle.segment_bytes.proofs.Formats.{bind_ok, ok_is}
@@ -118,8 +118,8 @@ row_more k found r rs =
     let test = nat_le found.from r.lo && nat_lt 0 (length r.bins) in
     let one = wrong_bin (r.lo + 1) k (length found.cells) r.bins in
     ap (λ (l : List Cell). (l, option_or found.wrong (wrong_row found.from k (length found.cells) (r ∷ rs))))
-    (sym (append_assoc found.cells (row_cells r) (cells_of rs)))
-    ∙ ap (λ (o : Option ℕ). ((found.cells ++ row_cells r) ++ cells_of rs, o))
+    (sym (append_assoc found.cells (row_cells r) (cells_of_rows rs)))
+    ∙ ap (λ (o : Option ℕ). ((found.cells ++ row_cells r) ++ cells_of_rows rs, o))
     (chosen found.wrong test one (wrong_row (r.lo + 1) k (length found.cells + length r.bins) rs) (length found.cells)
     ∙ ap (λ n. option_or (option_or found.wrong (if test then one else Some (length found.cells))) (wrong_row (r.lo + 1) k n rs))
     (sym long))
@@ -228,6 +228,7 @@ parts_again g bytes =
   where
     by : (r : Result (Body (List RowValue)) BytesFault)
         → ((r >>= λ x. Ok (body_as (with_rows g.classes no_rows) (list_at w16 row_at) x)) >>= λ x. or_fault (order_broken 0 x.1.1.0.1)
-        (parts_of_body (cells_alone x))) ≡ (r >>= λ x. or_fault (order_broken 0 (wrong_row 0 g.classes 0 x.1.1.0)) (parts_of_body (flat x)))
+        (parts_of_body (cells_alone x))) ≡ (r >>= λ x. or_fault (order_broken 0 (wrong_row 0 g.classes 0 x.1.1.0))
+        (parts_of_body (flat_body x)))
     by (Ok x) = refl
     by (Err d) = refl

@@ -12,7 +12,7 @@ use Rattle.tables.specs.Bins.{AreBinsFrom}
 use Rattle.segment_rules.specs.Tests.{wrong_bin}
 use Rattle.segment_rules.proofs.CellsFrom.{IsFrom, AreCellsFrom}
 use Rattle.segment_rules.proofs.Ordered.{bins_kept, kept_bins}
-use Rattle.segment_bytes.specs.Rows.{RowValue, cell_in, cells_of, bin_of, before_rows, rows_of, AreRowsFrom, wrong_row}
+use Rattle.segment_bytes.specs.Rows.{RowValue, cell_in, cells_of_rows, bin_of, before_rows, rows_of, AreRowsFrom, wrong_row}
 
 same_lo : (x y : ℕ) → x ≡ y → (x == y) ≡ true
 same_lo x y e = grind (arith, nat_tests)
@@ -32,25 +32,25 @@ new_row c r rs n = ap (λ b. (if b then record { lo = r.lo; bins = bin_of c ∷ 
 
 -- ---- the cells of the rows of cells are these cells
 
-cells_before : (c : Cell) (rs : List RowValue) → cells_of (before_rows c rs) ≡ c ∷ cells_of rs
+cells_before : (c : Cell) (rs : List RowValue) → cells_of_rows (before_rows c rs) ≡ c ∷ cells_of_rows rs
 cells_before c [] = refl
 cells_before c (r ∷ rs) = by (cases_eq c.lo r.lo)
   where
     there : (lo : ℕ) → c.lo ≡ lo → cell_in lo (bin_of c) ≡ c
     there lo e = ap (λ l. cell_in l (bin_of c)) (sym e)
 
-    by : ((c.lo ≡ r.lo) ⊎ (c.lo ≢ r.lo)) → cells_of (before_rows c (r ∷ rs)) ≡ c ∷ cells_of (r ∷ rs)
-    by (inl e) = ap cells_of (join_row c r rs e) ∙ ap (λ x. x ∷ cells_of (r ∷ rs)) (there r.lo e)
-    by (inr n) = ap cells_of (new_row c r rs n)
+    by : ((c.lo ≡ r.lo) ⊎ (c.lo ≢ r.lo)) → cells_of_rows (before_rows c (r ∷ rs)) ≡ c ∷ cells_of_rows (r ∷ rs)
+    by (inl e) = ap cells_of_rows (join_row c r rs e) ∙ ap (λ x. x ∷ cells_of_rows (r ∷ rs)) (there r.lo e)
+    by (inr n) = ap cells_of_rows (new_row c r rs n)
 
-pub cells_again : (cs : List Cell) → cells_of (rows_of cs) ≡ cs
+pub cells_again : (cs : List Cell) → cells_of_rows (rows_of cs) ≡ cs
 cells_again [] = refl
 cells_again (c ∷ cs) = cells_before c (rows_of cs) ∙ ap (λ (l : List Cell). c ∷ l) (cells_again cs)
 
 -- ---- the rows of the cells of rows are these rows
 
 pub row_again : (lo classes : ℕ) (b : Bin) (bs : List Bin) (rs : List RowValue) → AreRowsFrom (lo + 1) classes rs
-    → rows_of (cells_of rs) ≡ rs → rows_of (map (cell_in lo) (b ∷ bs) ++ cells_of rs) ≡ record { lo = lo; bins = b ∷ bs } ∷ rs
+    → rows_of (cells_of_rows rs) ≡ rs → rows_of (map (cell_in lo) (b ∷ bs) ++ cells_of_rows rs) ≡ record { lo = lo; bins = b ∷ bs } ∷ rs
 row_again lo classes b [] [] a e = refl
 row_again lo classes b [] (r ∷ rs) a e = ap (before_rows (cell_in lo b)) e
     ∙ new_row (cell_in lo b) r rs (λ f. absurd (omega (arith, f, a.0)))
@@ -58,18 +58,18 @@ row_again lo classes b (d ∷ bs) rs a e = ap (before_rows (cell_in lo b)) (row_
     ∙ join_row (cell_in lo b) (record { lo = lo; bins = d ∷ bs }) rs refl
 
 filled_row : (classes : ℕ) (r : RowValue) (rs : List RowValue) → 0 < length r.bins → AreRowsFrom (r.lo + 1) classes rs
-    → rows_of (cells_of rs) ≡ rs → rows_of (cells_of (r ∷ rs)) ≡ r ∷ rs
+    → rows_of (cells_of_rows rs) ≡ rs → rows_of (cells_of_rows (r ∷ rs)) ≡ r ∷ rs
 filled_row classes r rs some a e = by r.bins refl
   where
     back : (l : List Bin) → r.bins ≡ l → record { lo = r.lo; bins = l } ≡ r
     back l f = ap (λ (x : List Bin). record { lo = r.lo; bins = x }) (sym f)
 
-    by : (l : List Bin) → r.bins ≡ l → rows_of (map (cell_in r.lo) r.bins ++ cells_of rs) ≡ r ∷ rs
+    by : (l : List Bin) → r.bins ≡ l → rows_of (map (cell_in r.lo) r.bins ++ cells_of_rows rs) ≡ r ∷ rs
     by [] f = absurd (omega (arith, some, ap length f))
-    by (b ∷ bs) f = ap (λ (l : List Bin). rows_of (map (cell_in r.lo) l ++ cells_of rs)) f ∙ row_again r.lo classes b bs rs a e
+    by (b ∷ bs) f = ap (λ (l : List Bin). rows_of (map (cell_in r.lo) l ++ cells_of_rows rs)) f ∙ row_again r.lo classes b bs rs a e
         ∙ ap (λ x. x ∷ rs) (back (b ∷ bs) f)
 
-pub rows_again : (from classes : ℕ) (rs : List RowValue) → AreRowsFrom from classes rs → rows_of (cells_of rs) ≡ rs
+pub rows_again : (from classes : ℕ) (rs : List RowValue) → AreRowsFrom from classes rs → rows_of (cells_of_rows rs) ≡ rs
 rows_again from classes [] a = refl
 rows_again from classes (r ∷ rs) a = filled_row classes r rs a.1 a.3 (rows_again (r.lo + 1) classes rs a.3)
 

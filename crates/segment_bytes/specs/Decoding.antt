@@ -13,13 +13,13 @@ use Rattle.segment_rules.specs.declared.rule.BrokenRule.TheVariants as rules
 use Rattle.segment_bytes.specs.declared.fault.BytesFault.{BytesFault}
 use Rattle.segment_bytes.specs.declared.fault.BytesFault.TheVariants.{Trailing, Order, Sum, Residue}
 use Rattle.segment_rules.specs.Parts.{PartsValue}
-use Rattle.segment_rules.specs.Rules.{IsSegment}
+use Rattle.segment_rules.specs.Rules.{AreSegmentParts}
 use Rattle.segment_rules.specs.Tests.{first_broken, order_broken}
 use Rattle.segment_bytes.specs.Fields.{◌>>=◌, Reader, list_at}
 use Rattle.segment_bytes.specs.declared.layout.Layout.{Layout}
 use Rattle.segment_bytes.specs.declared.layout.Layout.TheVariants.{One, Two}
 use Rattle.segment_bytes.specs.Rows.{wrong_row}
-use Rattle.segment_bytes.specs.Grammar.{Body, parts_of_body, flat, cell_at, row_at, body_at, body_of}
+use Rattle.segment_bytes.specs.Grammar.{Body, parts_of_body, flat_body, cell_at, row_at, body_at, body_of}
 
 abbrev pub fault_of : BrokenRule → BytesFault
 fault_of (rules.Order list index) = Order list index
@@ -39,14 +39,14 @@ unfoldable pub parts_in : Layout → GridValue → List ℕ → Result PartsValu
 parts_in One g bytes = all_of (list_at w32 cell_at) bytes >>= λ x. Ok (parts_of_body x)
 parts_in Two g bytes =
     all_of (list_at w16 row_at) bytes >>= λ x. or_fault (order_broken 0 (wrong_row 0 g.classes 0 x.1.1.0))
-    (parts_of_body (flat x))
+    (parts_of_body (flat_body x))
 
 -- the parts that keep all rules, or the first fault
 unfoldable pub segment_in : Layout → GridValue → List ℕ → Result PartsValue BytesFault
 segment_in l g bytes = parts_in l g bytes >>= λ p. or_fault (first_broken g p) p
 
 pub record IsBodyOf (l : Layout) (g : GridValue) (p : PartsValue) (bytes : List ℕ) : Type 0 where
-  pub segment : IsSegment g p
+  pub segment : AreSegmentParts g p
   pub gauge : p.name.gauge < 2 ^ 16
   pub bytes_are : bytes ≡ body_of l p
 

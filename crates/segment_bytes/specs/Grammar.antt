@@ -13,7 +13,7 @@ use Rattle.turning_points.specs.EndPoints.{EndPoints}
 use Rattle.segment_rules.specs.Parts.{PartsValue}
 use Rattle.segment_bytes.specs.declared.layout.Layout.{Layout}
 use Rattle.segment_bytes.specs.declared.layout.Layout.TheVariants.{One, Two}
-use Rattle.segment_bytes.specs.Rows.{RowValue, cells_of, rows_of}
+use Rattle.segment_bytes.specs.Rows.{RowValue, cells_of_rows, rows_of}
 use Rattle.segment_bytes.specs.Fields.{Reader, number_at, both, seen_as, list_at, list_bytes}
 
 -- ---- a body's numbers and lists
@@ -54,8 +54,8 @@ parts_of_body x = record {
 }
 
 -- the same with the cells of its rows
-abbrev pub flat : Body (List RowValue) → Body (List Cell)
-flat x = (x.0, (x.1.0, (cells_of x.1.1.0, x.1.1.1)))
+abbrev pub flat_body : Body (List RowValue) → Body (List Cell)
+flat_body x = (x.0, (x.1.0, (cells_of_rows x.1.1.0, x.1.1.1)))
 
 -- ---- how it is written
 

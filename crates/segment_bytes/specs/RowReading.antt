@@ -12,7 +12,7 @@ use Rattle.segment_rules.specs.Parts.{PartsValue}
 use Rattle.segment_rules.specs.Tests.{wrong_bin, order_broken}
 use Rattle.segment_bytes.specs.declared.fault.BytesFault.{BytesFault}
 use Rattle.std.specs.Option.{option_or}
-use Rattle.segment_bytes.specs.Rows.{RowValue, row_cells, cells_of, wrong_row}
+use Rattle.segment_bytes.specs.Rows.{RowValue, row_cells, cells_of_rows, wrong_row}
 use Rattle.segment_bytes.specs.Fields.{◌>>=◌, Reader, seen_as, list_at}
 use Rattle.segment_bytes.specs.Grammar.{Body, parts_of_body, row_at}
 use Rattle.segment_bytes.specs.Decoding.{all_of, or_fault}
@@ -40,7 +40,7 @@ with_row classes found r = record {
 
 abbrev pub with_rows : ℕ → FoundRows → List RowValue → List Cell × Option ℕ
 with_rows classes found rows =
-    (found.cells ++ cells_of rows, option_or found.wrong (wrong_row found.from classes (length found.cells) rows))
+    (found.cells ++ cells_of_rows rows, option_or found.wrong (wrong_row found.from classes (length found.cells) rows))
 
 abbrev pub rows_at : ℕ → Reader (List Cell × Option ℕ)
 rows_at classes = seen_as (with_rows classes no_rows) (list_at w16 row_at)

@@ -1,6 +1,7 @@
 -- Cells in rows, as layout two has them.
 --   RowValue       the cells of one lower level: a count for each upper level
---   rows_of        the rows of a list of cells; cells_of: the cells of rows
+--   rows_of        the rows of a list of cells
+--   cells_of_rows  the cells of rows
 --   AreRowsFrom    rows that ascend strictly from a level on, none empty, and the cells of each ascend
 --   wrong_row      the place of the first cell, or row, that breaks this
 use Rattle.std.specs.Prelude.{◌+◌, ◌<◌, ◌≤◌, ◌==◌, ◌&&◌, nat_lt, nat_le, if◌then◌else◌, ℕ, List, [], ◌∷◌, ◌++◌, map, length, Option, Some, None}
@@ -20,9 +21,9 @@ cell_in lo b = record { lo = lo; hi = b.key; n = b.n }
 abbrev pub row_cells : RowValue → List Cell
 row_cells r = map (cell_in r.lo) r.bins
 
-abbrev pub cells_of : List RowValue → List Cell
-cells_of [] = []
-cells_of (r ∷ rs) = row_cells r ++ cells_of rs
+abbrev pub cells_of_rows : List RowValue → List Cell
+cells_of_rows [] = []
+cells_of_rows (r ∷ rs) = row_cells r ++ cells_of_rows rs
 
 abbrev pub bin_of : Cell → Bin
 bin_of c = record { key = c.hi; n = c.n }

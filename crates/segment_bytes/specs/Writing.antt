@@ -10,7 +10,7 @@ use Rattle.tally.specs.declared.cells.Cell.{Cell}
 use Rattle.tally.specs.declared.cells.Bin.{Bin}
 use Rattle.tally.specs.Counts.{count_of, is_from}
 use Rattle.calibration.specs.Grid.{GridValue}
-use Rattle.level_crossing.specs.Crossings.{count_at}
+use Rattle.level_crossing.specs.Crossings.{crossing_count}
 use Rattle.simple_counts.specs.Simple.{peak_count, range_count, valley_count}
 use Rattle.segment_rules.specs.Parts.{PartsValue}
 use Rattle.segment.specs.Segment.{SegmentValue}
@@ -41,11 +41,11 @@ abbrev pub row_of : ℕ → List Bin → List RowValue
 row_of lo [] = []
 row_of lo (b ∷ bins) = record { lo = lo; bins = b ∷ bins } ∷ []
 
-abbrev pub count_in : SegmentValue → Table → ℕ → ℕ
-count_in v Crossings k = count_at v.crossings k
-count_in v Peaks k = peak_count v.simple k
-count_in v Valleys k = valley_count v.simple k
-count_in v Ranges k = range_count v.simple k
+abbrev pub table_count : SegmentValue → Table → ℕ → ℕ
+table_count v Crossings k = crossing_count v.crossings k
+table_count v Peaks k = peak_count v.simple k
+table_count v Valleys k = valley_count v.simple k
+table_count v Ranges k = range_count v.simple k
 
 abbrev pub first_key : GridValue → Table → ℕ
 first_key g Crossings = 1

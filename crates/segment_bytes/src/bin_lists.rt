@@ -1,5 +1,5 @@
 ghost use Rattle.std.specs.Prelude.{◌≡◌, ◌+◌, ◌<◌, ◌≤◌, ℕ, length, slice_index};
-ghost use Rattle.segment_bytes.specs.Writing.{count_in, first_key, keys};
+ghost use Rattle.segment_bytes.specs.Writing.{table_count, first_key, keys};
 
 use segment::Segment;
 
@@ -12,10 +12,10 @@ pub(crate) enum Table {
     Ranges,
 }
 
-fn count_in(segment: &Segment, table: Table, key: u16) -> u64
+fn table_count(segment: &Segment, table: Table, key: u16) -> u64
     requires from { first_key segment.now.grid table ≤ key }
     requires to { key < segment.now.grid.classes }
-    ensures { result ≡ count_in segment.now table key }
+    ensures { result ≡ table_count segment.now table key }
 {
     match table {
         Table::Crossings => segment.crossings(key),
@@ -45,12 +45,12 @@ pub(crate) fn fill(segment: &Segment, table: Table, first: u16, out: &mut [u64])
     requires first { first ≡ first_key segment.now.grid table }
     requires within { first + length out.old ≤ segment.now.grid.classes }
     ensures { (k : ℕ) → k < length out.new →
-        slice_index out.new k ≡ count_in segment.now table (first + k) }
+        slice_index out.new k ≡ table_count segment.now table (first + k) }
 {
     let _grid = segment.grid();
     let mut key = first;
     for i in 0..out.len() {
-        out[i] = count_in(segment, table, key);
+        out[i] = table_count(segment, table, key);
         key += 1;
     }
 }

@@ -1,5 +1,5 @@
 ghost use Rattle.std.specs.Prelude.{◌≡◌, ◌<◌, ◌≤◌, ◌+◌, ◌-◌, ◌*◌, length, map, take};
-ghost use Rattle.std.specs.Int.{w16, w32};
+ghost use Rattle.std.specs.Int.{w16};
 ghost use Rattle.std.specs.List.{flat_map};
 ghost use Rattle.turning_points.specs.Ends.{end_points};
 ghost use Rattle.segment.specs.Parts.{parts_of};

@@ -4,8 +4,8 @@ use Rattle.std.specs.Prelude.{◌↔◌, IsNone}
 use Rattle.calibration.specs.Grid.{GridValue}
 use Rattle.segment_rules.specs.declared.rule.BrokenRule.{BrokenRule}
 use Rattle.segment_rules.specs.Parts.{PartsValue}
-use Rattle.segment_rules.specs.Rules.{IsOrdered, IsSegment}
-use Rattle.segment_rules.specs.Tests.{order_broken, first_unordered, first_unended, first_broken}
+use Rattle.segment_rules.specs.Rules.{IsOrdered, AreSegmentParts}
+use Rattle.segment_rules.specs.Tests.{order_broken, first_wrong_entry, first_wrong_end, first_broken}
 use Rattle.lemmas.proofs.Outcomes.{both_none, none_both}
 use Rattle.segment_rules.proofs.Chosen.{no_place, kept, kept_none}
 use Rattle.segment_rules.proofs.Ordered.{cells_kept, kept_cells, bins_kept, kept_bins}
@@ -13,8 +13,8 @@ use Rattle.segment_rules.proofs.Residues.{residue_of, residue_true}
 use Rattle.segment_rules.proofs.Ended.{ended_of, ended_true}
 use Rattle.segment_rules.proofs.Summed.{summed_of, summed_none}
 
-ordered_of : (g : GridValue) (p : PartsValue) → first_unordered g p ≡ None → IsOrdered g p
-unfolding first_unordered
+ordered_of : (g : GridValue) (p : PartsValue) → first_wrong_entry g p ≡ None → IsOrdered g p
+unfolding first_wrong_entry
 ordered_of g p e =
     let a = both_none _ _ e in
     let b = both_none _ _ a.1 in
@@ -28,8 +28,8 @@ ordered_of g p e =
       ranges = bins_kept 1 g.classes 0 p.ranges (no_place 4 _ d.1);
     }
 
-ordered_none : (g : GridValue) (p : PartsValue) → IsOrdered g p → first_unordered g p ≡ None
-unfolding first_unordered
+ordered_none : (g : GridValue) (p : PartsValue) → IsOrdered g p → first_wrong_entry g p ≡ None
+unfolding first_wrong_entry
 ordered_none g p o =
     none_both _ _ (ap (order_broken 0) (kept_cells g.classes p.cells o.cells))
     (none_both _ _ (ap (order_broken 1) (kept_bins 1 g.classes 0 p.crossings o.crossings))
@@ -37,8 +37,8 @@ ordered_none g p o =
     (none_both _ _ (ap (order_broken 3) (kept_bins 0 g.reference 0 p.valleys o.valleys))
     (ap (order_broken 4) (kept_bins 1 g.classes 0 p.ranges o.ranges)))))
 
-pub rules_kept : (g : GridValue) (p : PartsValue) → first_broken g p ≡ None → IsSegment g p
-unfolding first_broken first_unended
+pub rules_kept : (g : GridValue) (p : PartsValue) → first_broken g p ≡ None → AreSegmentParts g p
+unfolding first_broken first_wrong_end
 rules_kept g p e =
     let a = both_none _ _ e in
     let b = both_none _ _ a.1 in
@@ -51,14 +51,14 @@ rules_kept g p e =
       ended = ended_of g.classes p.ends p.residue (kept _ _ d.0) (kept _ _ d.1);
     }
 
-pub none_broken : (g : GridValue) (p : PartsValue) → IsSegment g p → first_broken g p ≡ None
-unfolding first_broken first_unended
+pub none_broken : (g : GridValue) (p : PartsValue) → AreSegmentParts g p → first_broken g p ≡ None
+unfolding first_broken first_wrong_end
 none_broken g p s =
     let f = ended_true g.classes p.ends p.residue s.ended in
     none_both _ _ (ordered_none g p s.ordered) (none_both _ _ (summed_none p s.summed)
     (none_both _ _ (kept_none _ _ (residue_true g.classes p.residue s.residue)) (none_both _ _ (kept_none _ _ f.0) (kept_none _ _ f.1))))
 
-pub none_exactly : (g : GridValue) (p : PartsValue) (o : Option BrokenRule) → o ≡ first_broken g p → IsNone o ↔ IsSegment g p
+pub none_exactly : (g : GridValue) (p : PartsValue) (o : Option BrokenRule) → o ≡ first_broken g p → IsNone o ↔ AreSegmentParts g p
 none_exactly g p None e = (λ n. rules_kept g p (sym e), λ s. refl)
 none_exactly g p (Some r) e = (λ n. absurd (cc), λ s. absurd (some_not r (e ∙ none_broken g p s)))
   where

@@ -10,7 +10,7 @@ use Rattle.turning_points.specs.EndPoints.{EndPoints, no_ends, only_point}
 use Rattle.turning_points.proofs.Zigzag.{turn_test, turn_of_test}
 use Rattle.turning_points.proofs.PushEnds.{five_same}
 use Rattle.simple_counts.specs.Loading.{CountsEnds, first_range, last_range}
-use Rattle.segment_rules.specs.Rules.{HasEndsBeside, IsEnded}
+use Rattle.segment_rules.specs.Rules.{HasEndsBeside, EndsAgree}
 use Rattle.segment_rules.specs.Tests.{are_end_ranges_counted, has_length, are_levels, has_ends_beside, has_ends}
 
 -- ---- the last sum rule
@@ -156,13 +156,13 @@ true_by k e r false false f g t = beside_true k e _ _ _ _ (t.more_are (many e.po
     many : (n : ℕ) → (n == 0) ≡ false → (n == 1) ≡ false → 2 ≤ n
     many n f g = grind (arith, nat_tests)
 
-pub ended_of : (k : ℕ) (e : EndPoints) (r : List ℕ) → has_length e.points (length r) ≡ true → has_ends k e r ≡ true → IsEnded k e r
+pub ended_of : (k : ℕ) (e : EndPoints) (r : List ℕ) → has_length e.points (length r) ≡ true → has_ends k e r ≡ true → EndsAgree k e r
 ended_of k e r l t =
     let n = length_of e.points (length r) l in
     let f = ends_by k e r _ _ refl refl t in
     record { short = n.0; long = n.1; none = f.none_are; one = f.one_is; more = f.more_are }
 
-pub ended_true : (k : ℕ) (e : EndPoints) (r : List ℕ) → IsEnded k e r → (has_length e.points (length r) ≡ true) × (has_ends k e r ≡ true)
+pub ended_true : (k : ℕ) (e : EndPoints) (r : List ℕ) → EndsAgree k e r → (has_length e.points (length r) ≡ true) × (has_ends k e r ≡ true)
 ended_true k e r i = (
   length_true e.points (length r) i.short i.long,
   true_by k e r _ _ refl refl

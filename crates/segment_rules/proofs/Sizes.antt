@@ -8,7 +8,7 @@ use Rattle.tables.specs.Bins.{AreBinsFrom, sum_of}
 use Rattle.calibration.specs.Grid.{GridValue}
 use Rattle.four_point.proofs.Index.{residue_bound}
 use Rattle.segment_rules.specs.Parts.{PartsValue}
-use Rattle.segment_rules.specs.Rules.{IsSegment}
+use Rattle.segment_rules.specs.Rules.{AreSegmentParts}
 use Rattle.segment_rules.proofs.CellsFrom.{IsFrom, AreCellsFrom, cells_in_order}
 
 -- ---- entries
@@ -80,7 +80,7 @@ pub record IsSmall (classes samples : ℕ) (p : PartsValue) : Type 0 where
   pub inner : length p.peaks + length p.valleys ≤ samples
   pub sides : length p.ranges ≤ samples
 
-pub is_small : (g : GridValue) (p : PartsValue) → 1 ≤ g.classes → g.reference ≤ g.classes → IsSegment g p
+pub is_small : (g : GridValue) (p : PartsValue) → 1 ≤ g.classes → g.reference ≤ g.classes → AreSegmentParts g p
     → IsSmall g.classes (p.name.to - p.name.from) p
 is_small g p some inside s =
     let o = s.ordered in

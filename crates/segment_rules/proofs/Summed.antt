@@ -8,8 +8,8 @@ use Rattle.std.proofs.lemmas.List.Elements.{All-nil, All-cons, All-head, All-tai
 use Rattle.tally.specs.declared.cells.Bin.{Bin}
 use Rattle.recording.specs.declared.TheConstants.{MAX_SAMPLES}
 use Rattle.segment_rules.specs.Parts.{PartsValue}
-use Rattle.segment_rules.specs.Rules.{IsSummed}
-use Rattle.segment_rules.specs.Tests.{first_unsummed}
+use Rattle.segment_rules.specs.Rules.{SumsAgree}
+use Rattle.segment_rules.specs.Tests.{first_wrong_sum}
 use Rattle.lemmas.proofs.Outcomes.{both_none, none_both}
 use Rattle.segment_rules.proofs.Chosen.{kept, kept_none}
 use Rattle.segment_rules.proofs.Ended.{end_ranges_of, end_ranges_true}
@@ -41,8 +41,8 @@ crossings_true u (b ∷ bs) a =
     and_from (nat_lt b.n u) (list_all (λ b. nat_lt b.n u) bs) (lt-ltb b.n u (All-head (λ b. b.n < u) b bs a))
     (crossings_true u bs (All-tail (λ b. b.n < u) b bs a))
 
-pub summed_of : (p : PartsValue) → first_unsummed p ≡ None → IsSummed p
-unfolding first_unsummed
+pub summed_of : (p : PartsValue) → first_wrong_sum p ≡ None → SumsAgree p
+unfolding first_wrong_sum
 summed_of p e =
     let a = both_none _ _ e in
     let b = both_none _ _ a.1 in
@@ -64,8 +64,8 @@ summed_of p e =
       end_ranges = λ two. end_ranges_of p.ends p.ranges (kept _ _ h.1) two;
     }
 
-pub summed_none : (p : PartsValue) → IsSummed p → first_unsummed p ≡ None
-unfolding first_unsummed
+pub summed_none : (p : PartsValue) → SumsAgree p → first_wrong_sum p ≡ None
+unfolding first_wrong_sum
 summed_none p s =
     none_both _ _ (kept_none _ _ (and_from (nat_le p.name.from p.name.to) (nat_le p.name.to MAX_SAMPLES) (le-leb _ _ s.span.0)
     (le-leb _ _ s.span.1)))

@@ -1,10 +1,10 @@
 -- The rules that the parts of a segment keep.
---   AreCells       cells over so many classes that ascend strictly and count something
---   IsOrdered      so do all five lists, within their keys
---   IsSummed       the sum rules: the numbers agree with each other
---   HasEndsBeside  ends of two or more points, over the first two and the last two levels of the residue
---   IsEnded        the residue rules on the length and the ends
---   IsSegment      all rules
+--   AreCells         cells over so many classes that ascend strictly and count something
+--   IsOrdered        so do all five lists, within their keys
+--   SumsAgree        the sum rules: the numbers agree with each other
+--   HasEndsBeside    ends of two or more points, over the first two and the last two levels of the residue
+--   EndsAgree        the residue rules on the length and the ends
+--   AreSegmentParts  all rules
 use Rattle.std.specs.Prelude.{◌≡◌, ◌<◌, ◌≤◌, ◌+◌, ◌-◌, ◌*◌, ℕ, List, All, length, slice_index}
 use Rattle.tally.specs.declared.cells.Cell.{Cell}
 use Rattle.tally.specs.Counts.{IsAscending, IsCell, total_of}
@@ -31,7 +31,7 @@ pub record IsOrdered (g : GridValue) (p : PartsValue) : Type 0 where
   pub ranges : AreBinsFrom 1 g.classes p.ranges
 
 -- the sum rules, in their order
-pub record IsSummed (p : PartsValue) : Type 0 where
+pub record SumsAgree (p : PartsValue) : Type 0 where
   -- 1: the name ends at or after its begin, within the samples of a recording
   pub span : (p.name.from ≤ p.name.to) × (p.name.to ≤ MAX_SAMPLES)
   -- 2: each sample was used, missing or refused
@@ -62,7 +62,7 @@ pub record HasEndsBeside (classes : ℕ) (e : EndPoints) (first second before la
   pub two : e.points ≡ 2 → (e.second ≡ second) × (e.before ≡ before)
   pub three : e.points ≡ 3 → (e.second ≡ second) × (e.before ≡ second)
 
-pub record IsEnded (classes : ℕ) (e : EndPoints) (r : List ℕ) : Type 0 where
+pub record EndsAgree (classes : ℕ) (e : EndPoints) (r : List ℕ) : Type 0 where
   pub short : e.points ≤ 3 → length r ≡ e.points
   pub long : 4 ≤ e.points → 2 ≤ length r
   pub none : e.points ≡ 0 → e ≡ no_ends
@@ -70,8 +70,8 @@ pub record IsEnded (classes : ℕ) (e : EndPoints) (r : List ℕ) : Type 0 where
   pub more : 2 ≤ e.points → HasEndsBeside classes e (slice_index r 0) (slice_index r 1) (slice_index r (length r - 2))
       (slice_index r (length r - 1))
 
-pub record IsSegment (g : GridValue) (p : PartsValue) : Type 0 where
+pub record AreSegmentParts (g : GridValue) (p : PartsValue) : Type 0 where
   pub ordered : IsOrdered g p
-  pub summed : IsSummed p
+  pub summed : SumsAgree p
   pub residue : IsResidue g.classes p.residue
-  pub ended : IsEnded g.classes p.ends p.residue
+  pub ended : EndsAgree g.classes p.ends p.residue

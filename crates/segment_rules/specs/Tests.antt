@@ -3,7 +3,7 @@
 --   are_end_ranges_counted  the last sum rule
 --   is_residue              the first residue rule
 --   has_length, has_ends    the other two
---   first_unordered, first_unsummed, first_unended   the first broken rule of each kind
+--   first_wrong_entry, first_wrong_sum, first_wrong_end   the first broken rule of each kind
 --   first_broken            of all
 use Rattle.std.specs.Prelude.{◌+◌, ◌-◌, ◌*◌, ℕ, Bool, true, ◌&&◌, ◌||◌, ◌==◌, not, nat_lt, nat_le, if◌then◌else◌, List, [], ◌∷◌, length, slice_index, Option, Some, None}
 use Rattle.std.specs.List.{list_all}
@@ -101,16 +101,16 @@ order_broken list (Some index) = Some (Order list index)
 abbrev pub unless : {F : Type 0} → Bool → F → Option F
 unless kept fault = if kept then None else Some fault
 
-unfoldable pub first_unordered : GridValue → PartsValue → Option BrokenRule
-first_unordered g p =
+unfoldable pub first_wrong_entry : GridValue → PartsValue → Option BrokenRule
+first_wrong_entry g p =
     option_or (order_broken 0 (wrong_cell 0 0 g.classes 0 p.cells))
     (option_or (order_broken 1 (wrong_bin 1 g.classes 0 p.crossings))
     (option_or (order_broken 2 (wrong_bin g.reference g.classes 0 p.peaks))
     (option_or (order_broken 3 (wrong_bin 0 g.reference 0 p.valleys))
     (order_broken 4 (wrong_bin 1 g.classes 0 p.ranges)))))
 
-unfoldable pub first_unsummed : PartsValue → Option BrokenRule
-first_unsummed p =
+unfoldable pub first_wrong_sum : PartsValue → Option BrokenRule
+first_wrong_sum p =
     option_or (unless (nat_le p.name.from p.name.to && nat_le p.name.to MAX_SAMPLES) (Sum 1))
     (option_or (unless ((p.name.from + (p.used + p.missing + p.refused)) == p.name.to) (Sum 2))
     (option_or (unless (nat_le p.ends.points p.used && (not (p.ends.points == 0) || (p.used == 0))) (Sum 3))
@@ -120,11 +120,11 @@ first_unsummed p =
     (option_or (unless (sum_of p.ranges == (p.ends.points - 1)) (Sum 7))
     (unless (are_end_ranges_counted p.ends p.ranges) (Sum 8))))))))
 
-unfoldable pub first_unended : GridValue → PartsValue → Option BrokenRule
-first_unended g p =
+unfoldable pub first_wrong_end : GridValue → PartsValue → Option BrokenRule
+first_wrong_end g p =
     option_or (unless (is_residue g.classes p.residue) (Residue 1))
     (option_or (unless (has_length p.ends.points (length p.residue)) (Residue 2))
     (unless (has_ends g.classes p.ends p.residue) (Residue 3)))
 
 unfoldable pub first_broken : GridValue → PartsValue → Option BrokenRule
-first_broken g p = option_or (first_unordered g p) (option_or (first_unsummed p) (first_unended g p))
+first_broken g p = option_or (first_wrong_entry g p) (option_or (first_wrong_sum p) (first_wrong_end g p))

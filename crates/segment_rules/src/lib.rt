@@ -4,9 +4,9 @@
 //! `Parts` are lists: what stands of a segment on a disk. The rules come in three kinds. By the
 //! order rule the entries of each list ascend, so no body has two spellings; by the sum rules the
 //! numbers agree with each other; by the residue rules the residue is one, and the ends of the
-//! history lie beside it. `first_broken` goes once over each list, and twice over the ranges, and
-//! takes no memory. That the lists are short is no condition: ascending keys of 16 bits come to an
-//! end.
+//! history lie beside it. `first_broken` goes over each of the five lists twice, for its order and
+//! for its sum, and twice more over the ranges, for the first of them and the last. It takes no
+//! memory. That the lists are short is no condition: ascending keys of 16 bits come to an end.
 #![tactic(auto)]
 
 mod ends;

@@ -1,5 +1,5 @@
-ghost use Rattle.std.specs.Prelude.{◌≡◌, ◌<◌, ◌≤◌, ◌^◌, ◌+◌, ◌*◌, IfNone, length};
-ghost use Rattle.segment_rules.specs.Tests.{first_unordered, is_bin_from, is_cell_from, wrong_bin, wrong_cell};
+ghost use Rattle.std.specs.Prelude.{◌≡◌, ◌<◌, ◌≤◌, ◌^◌, ◌+◌, IfNone, length};
+ghost use Rattle.segment_rules.specs.Tests.{first_wrong_entry, is_bin_from, is_cell_from, wrong_bin, wrong_cell};
 ghost use Rattle.segment_rules.specs.Parts.{parts_value};
 ghost use Rattle.segment_rules.specs.Few.{AreFew};
 
@@ -58,9 +58,9 @@ fn first_wrong_bin(from: u16, to: u16, bins: &[Bin]) -> Option<u32>
 }
 
 /// The first entry that breaks the order rule.
-#[tactic(auto, unfolding(crate::specs::Tests::first_unordered))]
+#[tactic(auto, unfolding(crate::specs::Tests::first_wrong_entry))]
 pub(crate) fn first_wrong_entry(grid: &Grid, parts: &Parts) -> Option<BrokenRule>
-    ensures rule { result ≡ first_unordered grid.now (parts_value parts.now) }
+    ensures rule { result ≡ first_wrong_entry grid.now (parts_value parts.now) }
     ensures few { IfNone result (AreFew (parts_value parts.now)) }
 {
     let classes = grid.classes();

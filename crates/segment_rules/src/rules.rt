@@ -1,8 +1,8 @@
 ghost use Rattle.std.specs.Prelude.{◌≡◌, ◌↔◌, IsNone, IsTrue};
 ghost use Rattle.four_point.specs.Residue.{IsResidue};
 ghost use Rattle.segment_rules.specs.Parts.{parts_value};
-ghost use Rattle.segment_rules.specs.Rules.{IsSegment};
-ghost use Rattle.segment_rules.specs.Tests.{first_broken, first_unended, is_residue};
+ghost use Rattle.segment_rules.specs.Rules.{AreSegmentParts};
+ghost use Rattle.segment_rules.specs.Tests.{first_broken, first_wrong_end, is_residue};
 
 use crate::ends::{has_ends, has_length};
 use crate::order::first_wrong_entry;
@@ -11,14 +11,14 @@ use crate::rule::BrokenRule;
 use crate::sums::first_wrong_sum;
 use calibration::Grid;
 
-// The first residue rule that the parts break, where `rests` tells the first of them.
-#[tactic(auto, unfolding(crate::specs::Tests::first_unended))]
-fn first_wrong_end(grid: &Grid, parts: &Parts, rests: bool) -> Option<BrokenRule>
-    requires { rests ≡ is_residue grid.now.classes parts.now.residue }
-    ensures { result ≡ first_unended grid.now (parts_value parts.now) }
+// The first residue rule that the parts break, where `has_residue` tells of the first of them.
+#[tactic(auto, unfolding(crate::specs::Tests::first_wrong_end))]
+fn first_wrong_end(grid: &Grid, parts: &Parts, has_residue: bool) -> Option<BrokenRule>
+    requires { has_residue ≡ is_residue grid.now.classes parts.now.residue }
+    ensures { result ≡ first_wrong_end grid.now (parts_value parts.now) }
 {
     let residue = parts.residue.as_slice();
-    if !rests {
+    if !has_residue {
         return Some(BrokenRule::Residue { rule: 1 });
     }
     if !has_length(parts.ends.points, residue.len()) {
@@ -32,8 +32,8 @@ fn first_wrong_end(grid: &Grid, parts: &Parts, rests: bool) -> Option<BrokenRule
 
 // The first of all.
 #[tactic(auto, unfolding(crate::specs::Tests::first_broken))]
-fn first_wrong(grid: &Grid, parts: &Parts, rests: bool) -> Option<BrokenRule>
-    requires { IsTrue rests ↔ IsResidue grid.now.classes parts.now.residue }
+fn first_wrong(grid: &Grid, parts: &Parts, has_residue: bool) -> Option<BrokenRule>
+    requires { IsTrue has_residue ↔ IsResidue grid.now.classes parts.now.residue }
     ensures { result ≡ first_broken grid.now (parts_value parts.now) }
 {
     if let Some(rule) = first_wrong_entry(grid, parts) {
@@ -42,15 +42,15 @@ fn first_wrong(grid: &Grid, parts: &Parts, rests: bool) -> Option<BrokenRule>
     if let Some(rule) = first_wrong_sum(parts) {
         return Some(rule);
     }
-    first_wrong_end(grid, parts, rests)
+    first_wrong_end(grid, parts, has_residue)
 }
 
-/// The first rule that the parts break over a grid. `rests` tells whether the residue is one, as
-/// `four_point::Reducer::load` does when it takes it.
-pub fn first_broken(grid: &Grid, parts: &Parts, rests: bool) -> Option<BrokenRule>
-    requires { IsTrue rests ↔ IsResidue grid.now.classes parts.now.residue }
+/// The first rule that the parts break over a grid. `has_residue` tells whether the residue is one,
+/// as `four_point::Reducer::load` does when it takes it.
+pub fn first_broken(grid: &Grid, parts: &Parts, has_residue: bool) -> Option<BrokenRule>
+    requires { IsTrue has_residue ↔ IsResidue grid.now.classes parts.now.residue }
     ensures rule { result ≡ first_broken grid.now (parts_value parts.now) }
-    ensures segment { IsNone result ↔ IsSegment grid.now (parts_value parts.now) }
+    ensures segment { IsNone result ↔ AreSegmentParts grid.now (parts_value parts.now) }
 {
-    first_wrong(grid, parts, rests)
+    first_wrong(grid, parts, has_residue)
 }

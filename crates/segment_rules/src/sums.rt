@@ -7,7 +7,7 @@ ghost use Rattle.tables.specs.Bins.{count_at, sum_of};
 ghost use Rattle.recording.specs.declared.TheConstants.{MAX_SAMPLES};
 ghost use Rattle.segment_rules.specs.Few.{AreFew};
 ghost use Rattle.segment_rules.specs.Parts.{parts_value};
-ghost use Rattle.segment_rules.specs.Tests.{are_end_ranges_counted, first_unsummed};
+ghost use Rattle.segment_rules.specs.Tests.{are_end_ranges_counted, first_wrong_sum};
 
 use crate::name::Name;
 use crate::parts::Parts;
@@ -40,7 +40,7 @@ fn sum_of_bins(bins: &[Bin]) -> u128
     sum
 }
 
-fn count_in(key: u16, bins: &[Bin]) -> u64
+fn count_at(key: u16, bins: &[Bin]) -> u64
     ensures { result ≡ count_at key bins.now }
 {
     for bin in bins {
@@ -83,18 +83,18 @@ fn has_end_ranges(ends: &Ends, ranges: &[Bin]) -> bool
 {
     let first = distance(ends.first[0], ends.first[1]);
     let last = distance(ends.last[0], ends.last[1]);
-    let counted = count_in(first, ranges);
+    let counted = count_at(first, ranges);
     ends.points < 2
         || (1 <= counted
-            && (1 <= count_in(last, ranges)
+            && (1 <= count_at(last, ranges)
                 && (ends.points < 3 || (!(first == last) || 2 <= counted))))
 }
 
 /// The first sum rule that the parts break.
-#[tactic(auto, unfolding(crate::specs::Tests::first_unsummed))]
+#[tactic(auto, unfolding(crate::specs::Tests::first_wrong_sum))]
 pub(crate) fn first_wrong_sum(parts: &Parts) -> Option<BrokenRule>
     requires { AreFew (parts_value parts.now) }
-    ensures { result ≡ first_unsummed (parts_value parts.now) }
+    ensures { result ≡ first_wrong_sum (parts_value parts.now) }
 {
     let points = parts.ends.points;
     if !has_span(parts.name) {

@@ -47,8 +47,8 @@ fn sound(alloc: Global) -> Result<Parts, Fail> {
 
 fn broken(alloc: Global, grid: &Grid, parts: &Parts) -> Result<Option<BrokenRule>, Fail> {
     let mut reducer = Reducer::new(alloc, grid.classes())?;
-    let rests = reducer.load(parts.residue.as_slice());
-    Ok(first_broken(grid, parts, rests))
+    let has_residue = reducer.load(parts.residue.as_slice());
+    Ok(first_broken(grid, parts, has_residue))
 }
 
 // The parts with one of them changed, and the rule that is broken then.

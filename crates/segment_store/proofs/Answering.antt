@@ -11,7 +11,6 @@ use Rattle.segment_store.specs.declared.damage.Stop.{Stop}
 use Rattle.segment_store.specs.declared.damage.Stop.TheVariants as stops
 use Rattle.segment_store.specs.declared.damage.Damage.{Damage}
 use Rattle.store_head.specs.declared.fault.HeadFault.{HeadFault}
-use Rattle.store_head.specs.declared.fault.HeadFault.TheVariants as heads
 use Rattle.segment_store.specs.declared.fault.PutFault.{PutFault}
 use Rattle.segment_store.specs.declared.fault.ResumeFault.{ResumeFault}
 use Rattle.segment_store.specs.declared.fault.ResumeFault.TheVariants.{NotAStore, Version, Differs, Damaged, DiskFault, OutOfMemory}

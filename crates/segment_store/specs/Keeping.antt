@@ -1,8 +1,7 @@
 -- What a store keeps for its calls.
 --   see_state   a store's parts, as contracts see them
 --   IsKept      the place is near and not before the number of bodies, the buffer has room for a body, each gauge is
---               held, and version 1
---               has at most 128 classes
+--               held, and version 1 has at most 128 classes
 use Rattle.std.specs.Prelude.{◌≡◌, ◌≤◌, ◌+◌, List, length, vec_len}
 use Rattle.segment_rules.specs.Parts.{PartsValue}
 use Rattle.segment_bytes.specs.Sizes.{max_body}

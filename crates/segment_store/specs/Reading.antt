@@ -1,6 +1,5 @@
 -- An image that reads, from a gate on.
 --   StartsAt     from that place on, open gates with these bodies, then a gate that is closed
---   HasPassed    from one gate up to another, open gates with these bodies
 --   IsFound      up to a closed gate
 --   NoDamage     no damaged body
 use Rattle.std.specs.Prelude.{◌≡◌, ◌≢◌, ◌≤◌, ℕ, List, ◌∷◌, ◌++◌, length, Result, Ok, Err, ◌+◌, drop}
@@ -23,12 +22,6 @@ pub record StartsAt (l : Layout) (setup : Setup) (limit : ℕ) (image : Image) (
   pub closed : gate ≢ 1
   pub tiles : Tiles setup ends bodies last
   pub within : (p : PartsValue) → IsBody setup p → length (body_of l p) ≤ limit
-
-pub record HasPassed (l : Layout) (setup : Setup) (image : Image) (start : ℕ) (ends : List ℕ) (at : ℕ) (last : List ℕ)
-    (bodies : List PartsValue) : Type 0 where
-  pub split : drop start image ≡ open_bodies l bodies ++ drop at image
-  pub tiles : Tiles setup ends bodies last
-  pub place_is : at ≡ start + length (open_bodies l bodies)
 
 pub record IsFound (l : Layout) (setup : Setup) (image : Image) (at : ℕ) (ends : List ℕ) (place : ℕ) (last : List ℕ)
     (bodies : List PartsValue) : Type 0 where

@@ -1,22 +1,6 @@
-ghost use Rattle.std.specs.Prelude.{
-  ◌≡◌,
-  ◌↔◌,
-  ◌<◌,
-  ◌≤◌,
-  ◌+◌,
-  ◌^◌,
-  ◌++◌,
-  IsTrue,
-  List,
-  ℕ,
-  length,
-  slice_index,
-  IfOk,
-  IfErr,
-};
+ghost use Rattle.std.specs.Prelude.{◌≡◌, ◌↔◌, ◌<◌, ◌≤◌, ◌+◌, ◌++◌, IsTrue, length, slice_index, IfOk, IfErr};
 ghost use Rattle.sha2.specs.Sha256.{sha256};
 ghost use Rattle.segment.specs.Parts.{parts_of};
-ghost use Rattle.segment.specs.Segment.{IsSegment};
 ghost use Rattle.segment_bytes.specs.Decoding.{IsBodyOf};
 ghost use Rattle.segment_bytes.specs.declared.layout.Layout.TheVariants.{One};
 ghost use Rattle.calibration.specs.Grid.{IsGrid};

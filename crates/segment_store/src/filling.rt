@@ -1,22 +1,5 @@
-ghost use Rattle.std.specs.Prelude.{
-  ◌≡◌,
-  ◌*◌,
-  ◌+◌,
-  ◌-◌,
-  ◌<◌,
-  ◌≤◌,
-  ◌^◌,
-  ◌++◌,
-  [],
-  ◌∷◌,
-  List,
-  ℕ,
-  length,
-  vec_len,
-  take,
-  drop,
-};
-ghost use Rattle.std.specs.Int.{w32, to_be_bytes};
+ghost use Rattle.std.specs.Prelude.{◌≡◌, ◌+◌, ◌-◌, ◌<◌, ◌≤◌, ◌++◌, [], ◌∷◌, length, vec_len, take};
+ghost use Rattle.std.specs.Int.{to_be_bytes};
 ghost use Rattle.sha2.specs.Sha256.{sha256};
 ghost use Rattle.segment.specs.Parts.{parts_of};
 ghost use Rattle.segment_bytes.specs.Grammar.{body_of};

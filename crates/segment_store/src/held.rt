@@ -1,17 +1,4 @@
-ghost use Rattle.std.specs.Prelude.{
-  ◌≡◌,
-  ◌<◌,
-  ◌≤◌,
-  ◌++◌,
-  [],
-  ◌∷◌,
-  List,
-  length,
-  replicate,
-  slice_index,
-  slice_index_or,
-  IfOk,
-};
+ghost use Rattle.std.specs.Prelude.{◌≡◌, ◌<◌, ◌++◌, [], ◌∷◌, List, length, replicate, slice_index, slice_index_or, IfOk};
 ghost use Rattle.segment_rules.specs.Parts.{PartsValue};
 ghost use Rattle.segment.specs.Parts.{parts_of};
 ghost use Rattle.segment.specs.Segment.{SegmentValue};

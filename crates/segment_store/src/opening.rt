@@ -1,31 +1,16 @@
-ghost use Rattle.std.specs.Prelude.{
-  ◌≡◌,
-  ◌<◌,
-  ◌≤◌,
-  ◌+◌,
-  ◌*◌,
-  ℕ,
-  List,
-  length,
-  vec_len,
-  take,
-  false,
-  IfOk,
-};
+ghost use Rattle.std.specs.Prelude.{◌≡◌, ◌<◌, ◌≤◌, ◌+◌, ◌*◌, ℕ, List, length, take, false, Err, IfOk};
+ghost use Rattle.outside.specs.Fault.{CountRose};
 ghost use Rattle.segment_rules.specs.Parts.{PartsValue};
 ghost use Rattle.segment_bytes.specs.Sizes.{max_body as longest_body};
-ghost use Rattle.segment_bytes.specs.declared.layout.Layout.{Layout as LayoutIs};
 ghost use Rattle.segment_bytes.specs.declared.layout.Layout.TheVariants.{One};
 ghost use Rattle.store_head.specs.Head.{HeadValue, IsHead, see_head, head_of, start_of};
 ghost use Rattle.store_head.specs.HeadFaults.{head_fault, layout_in};
-ghost use Rattle.store_head.specs.declared.setup.StoreHead.{StoreHead as HeadIs};
 ghost use Rattle.segment_store.specs.Held.{AreHeld, ends_of};
 ghost use Rattle.segment_store.specs.Image.{Reads, nothing_held};
 ghost use Rattle.segment_store.specs.Keeping.{IsKept, see_state};
 ghost use Rattle.segment_store.specs.Moments.{IsOn};
 ghost use Rattle.segment_store.specs.Opening.{
   fault_is,
-  DiskRose,
   IsHeadAnswer,
   WalksAs,
   Resumes,
@@ -33,6 +18,7 @@ ghost use Rattle.segment_store.specs.Opening.{
 };
 ghost use Rattle.segment_store.specs.Quiet.{IsQuiet};
 ghost use Rattle.segment_store.specs.Reading.{StartsAt, IsFound};
+ghost use Rattle.segment_store.specs.declared.fault.ResumeFault.TheVariants.{DiskFault};
 ghost use Rattle.segment_store.specs.declared.putting.State.{State as StateIs};
 ghost use Rattle.calibration.specs.declared.limits.TheConstants.{MAX_GAUGES};
 ghost use Rattle.segment_bytes.specs.declared.layout.TheConstants.{MAX_CLASSES_ONE};
@@ -77,7 +63,8 @@ fn read_head<K: Station>(
     ensures is_head { IfOk result (λ x. IsHead (see_head x.0 x.1)) }
     ensures setup { IfOk result (λ x. x.1.setup ≡ setup.now) }
     ensures size { IfOk result (λ x. start_of setup.now < size) }
-    ensures disk { DiskRose (K.faults station.old) (K.faults station.new) result }
+    ensures cause { result ≡ Err DiskFault →
+        CountRose (K.faults station.old) (K.faults station.new) }
     ensures later { K.faults station.old ≤ K.faults station.new }
     ensures quiet { K.tells → IsQuiet (K.clock station.old) (K.moments station.old)
         (K.clock station.new) (K.moments station.new) (K.told station.old) (K.told station.new)
@@ -119,7 +106,8 @@ fn open_bodies<K: Station>(
     ensures layout { IfOk result (λ s. s.layout ≡ layout) }
     ensures open { IfOk result (λ s. s.shut ≡ false) }
     ensures kept { IfOk result IsKept }
-    ensures disk { DiskRose (K.faults station.old) (K.faults station.new) result }
+    ensures cause { result ≡ Err DiskFault →
+        CountRose (K.faults station.old) (K.faults station.new) }
     ensures later { K.faults station.old ≤ K.faults station.new }
     ensures quiet { K.tells → IsQuiet (K.clock station.old) (K.moments station.old)
         (K.clock station.new) (K.moments station.new) (K.told station.old) (K.told station.new)
@@ -172,7 +160,8 @@ pub(crate) fn open<K: Station>(
     ensures heads { IfOk result (λ s. length s.head.heads ≡ length setup.now.gains) }
     ensures kept { IfOk result IsKept }
     ensures open { IfOk result (λ s. s.shut ≡ false) }
-    ensures disk { DiskRose (K.faults station.old) (K.faults station.new) result }
+    ensures cause { result ≡ Err DiskFault →
+        CountRose (K.faults station.old) (K.faults station.new) }
     ensures later { K.faults station.old ≤ K.faults station.new }
     ensures quiet { K.tells → IsQuiet (K.clock station.old) (K.moments station.old)
         (K.clock station.new) (K.moments station.new) (K.told station.old) (K.told station.new)

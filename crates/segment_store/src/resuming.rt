@@ -1,29 +1,14 @@
-ghost use Rattle.std.specs.Prelude.{
-  ◌≡◌,
-  ◌<◌,
-  ◌≤◌,
-  ◌+◌,
-  ◌*◌,
-  ◌^◌,
-  ◌++◌,
-  [],
-  List,
-  ℕ,
-  length,
-  slice_index,
-  IfOk,
-  IfErr,
-};
+ghost use Rattle.std.specs.Prelude.{◌≡◌, ◌<◌, ◌≤◌, ◌+◌, ◌^◌, [], List, ℕ, length, slice_index, Err, IfOk, IfErr};
 ghost use Rattle.segment_rules.specs.Parts.{PartsValue};
 ghost use Rattle.segment.specs.Parts.{parts_of};
 ghost use Rattle.outside.specs.Fault.{CountRose};
-ghost use Rattle.station.specs.Station.{Image, Lines};
 ghost use Rattle.segment_bytes.specs.declared.layout.Layout.TheVariants.{One};
 ghost use Rattle.segment_store.specs.Held.{AreHeld, ends_of};
 ghost use Rattle.segment_store.specs.Quiet.{IsQuiet};
-ghost use Rattle.segment_store.specs.Resuming.{Finds, TellsAs, Walks, EndsWalkAs, length_at, StopRose};
+ghost use Rattle.segment_store.specs.Resuming.{Finds, TellsAs, Walks, EndsWalkAs, length_at};
 ghost use Rattle.segment_store.specs.Reading.{StartsAt, NoDamage, IsFound};
 ghost use Rattle.segment_store.specs.Places.{IsStep, IsNear};
+ghost use Rattle.segment_store.specs.declared.damage.Stop.TheVariants.{Disk};
 ghost use Rattle.std.specs.Int.{w32, to_be_bytes, from_be_bytes};
 ghost use Rattle.segment_bytes.specs.declared.layout.TheConstants.{MAX_CLASSES_ONE};
 ghost use Rattle.segment_store.specs.declared.filling.TheConstants.{FRAME_LENGTH};
@@ -74,8 +59,8 @@ fn next_body<K: Station>(
     ensures over { IfOk result (λ x. x.0.grid ≡ setup.now.grid) }
     ensures gauge { IfOk result (λ x. x.0.gauge < length held.now) }
     ensures joins { IfOk result (λ x. x.0.from ≡ slice_index (ends_of held.now) x.0.gauge) }
-    ensures disk { IfErr result (λ stop.
-        StopRose (K.faults station.old) (K.faults station.new) stop) }
+    ensures cause { result ≡ Err Disk →
+        CountRose (K.faults station.old) (K.faults station.new) }
     ensures step { IfOk result (λ x. IsStep (ends_of held.now) at (parts_of x.0) x.1) }
     ensures quiet { K.tells → IsQuiet (K.clock station.old) (K.moments station.old)
         (K.clock station.new) (K.moments station.new) (K.told station.old) (K.told station.new)
@@ -140,8 +125,8 @@ pub(crate) fn walk<K: Station>(
         (ends_of held.new) bodies)) }
     ensures near { IfOk result (λ x. IsNear x.0 (ends_of held.new)) }
     ensures count { IfOk result (λ x. x.1 ≤ x.0) }
-    ensures disk { IfErr result (λ e.
-        StopRose (K.faults station.old) (K.faults station.new) e.1) }
+    ensures cause { IfErr result (λ e. e.1 ≡ Disk →
+        CountRose (K.faults station.old) (K.faults station.new)) }
     ensures gauges { length held.new ≡ length held.old }
     ensures room { length buf.new ≡ length buf.old }
     ensures later { K.faults station.old ≤ K.faults station.new }
@@ -179,8 +164,8 @@ fn walk_from<K: Station>(
         (ends_of held.new) bodies)) }
     ensures near { IfOk result (λ x. IsNear x.0 (ends_of held.new)) }
     ensures count { IfOk result (λ x. x.1 ≤ x.0) }
-    ensures disk { IfErr result (λ e.
-        StopRose (K.faults station.old) (K.faults station.new) e.1) }
+    ensures cause { IfErr result (λ e. e.1 ≡ Disk →
+        CountRose (K.faults station.old) (K.faults station.new)) }
     ensures gauges { length held.new ≡ length held.old }
     ensures room { length buf.new ≡ length buf.old }
     ensures later { K.faults station.old ≤ K.faults station.new }

@@ -1,24 +1,4 @@
-ghost use Rattle.std.specs.Prelude.{
-  ◌≡◌,
-  ◌<◌,
-  ◌≤◌,
-  ◌⊎◌,
-  ◌↔◌,
-  ◌++◌,
-  [],
-  ◌∷◌,
-  ℕ,
-  List,
-  length,
-  slice_index,
-  slice_index_or,
-  true,
-  false,
-  IfOk,
-  OnOk,
-  OnErr,
-  Err,
-};
+ghost use Rattle.std.specs.Prelude.{◌≡◌, ◌<◌, ◌≤◌, ◌⊎◌, ◌++◌, [], ◌∷◌, ℕ, List, length, slice_index, slice_index_or, true, false, IfOk, OnOk, OnErr, Err};
 ghost use Rattle.outside.specs.Fault.{CountRose};
 ghost use Rattle.station.specs.Station.{Since};
 ghost use Rattle.segment_rules.specs.Parts.{PartsValue};
@@ -28,10 +8,11 @@ ghost use Rattle.store_head.specs.Head.{HeadValue, see_head};
 ghost use Rattle.segment_store.specs.Held.{ends_of};
 ghost use Rattle.segment_store.specs.Image.{Reads, ends_after, IsNext};
 ghost use Rattle.segment_store.specs.Moments.{StoreValue, IsOn, IsThere, InPut};
-ghost use Rattle.segment_store.specs.Opening.{DiskRose, Resumes, IsUnharmed};
+ghost use Rattle.segment_store.specs.Opening.{Resumes, IsUnharmed};
 ghost use Rattle.segment_store.specs.Putting.{Refuses, LeavesUnwritten};
 ghost use Rattle.segment_store.specs.Quiet.{IsQuiet};
-ghost use Rattle.segment_store.specs.declared.fault.PutFault.TheVariants.{DiskFault, Shut};
+ghost use Rattle.segment_store.specs.declared.fault.PutFault.TheVariants.{DiskFault};
+ghost use Rattle.segment_store.specs.declared.fault.ResumeFault.TheVariants as resume;
 ghost use Rattle.calibration.specs.declared.limits.TheConstants.{MAX_GAUGES};
 
 use crate::fault::{PutFault, ResumeFault};
@@ -96,7 +77,8 @@ impl Store {
             (K.told station.old) (K.told station.new)
             (K.seen station.old) (K.seen station.new)
             (K.leaves station.old) (K.leaves station.new) }
-        ensures disk { DiskRose (K.faults station.old) (K.faults station.new) result }
+        ensures cause { result ≡ Err resume.DiskFault →
+            CountRose (K.faults station.old) (K.faults station.new) }
         ensures later { K.faults station.old ≤ K.faults station.new }
     {
         match open(alloc, station, setup) {
@@ -133,7 +115,7 @@ impl Store {
         ensures unwritten { K.tells → LeavesUnwritten result (K.seen station.old)
             (K.seen station.new)
             (K.leaves station.old) (K.leaves station.new) }
-        ensures disk { result ≡ Err DiskFault →
+        ensures cause { result ≡ Err DiskFault →
             CountRose (K.faults station.old) (K.faults station.new) × (self.new.shut ≡ true) }
         ensures shut { (result ≡ Err DiskFault) ⊎ (self.new.shut ≡ self.old.shut) }
         // What is held.

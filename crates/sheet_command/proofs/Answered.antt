@@ -1,19 +1,19 @@
 -- What is answered after the recordings were read, and what is told of it.
-use Rattle.std.proofs.Common.{◌≡◌, ◌≢◌, ◌⊎◌, inl, inr, ℕ, List, [], ◌∷◌, ◌++◌, refl, sym, ◌∙◌, ap}
-use Rattle.std.specs.Prelude.{Result, Ok, Err}
+use Rattle.std.proofs.Common.{◌≡◌, ◌≢◌, ◌⊎◌, inl, inr, ℕ, List, [], ◌∷◌, ◌++◌, sym, ◌∙◌, ap}
+use Rattle.std.specs.Prelude.{Result, Ok}
 use Rattle.station.specs.Station.{Lines}
 use Rattle.site_config.specs.declared.config.Config.{Config}
 use Rattle.site_config.specs.declared.fault.ConfigFault.{ConfigFault}
 use Rattle.fault_lines.specs.FaultLine.{fault_line, name_for, name_by}
 use Rattle.fault_lines.specs.Telling.{EndsIn}
 use Rattle.fault_lines.proofs.Refused.{refused_line}
-use Rattle.file_tasks.specs.Answer.{IsPrinting}
+use Rattle.file_tasks.specs.Answer.{IsPrintingOrNoMemory}
 use Rattle.config_reading.specs.Reading.{IsRefusal}
 use Rattle.status.specs.declared.status.Status.{Status}
 use Rattle.status.specs.declared.status.Status.TheVariants.{Done, Usage, Config as BadConfig, Store, Recording, Torn, ReadFault, WriteFault, DiskFault, OutOfMemory, TooLong, Differs}
 use Rattle.sheet_command.specs.Sheet.{MayAnswer}
 
-pub printing_may : (asked s : Status) → asked ≡ Done → IsPrinting s → MayAnswer asked s
+pub printing_may : (asked s : Status) → asked ≡ Done → IsPrintingOrNoMemory s → MayAnswer asked s
 printing_may asked Done is p = sym is
 printing_may asked WriteFault is p = is
 printing_may asked OutOfMemory is p = tt
@@ -27,7 +27,7 @@ printing_may asked (Store fault) is p = absurd p
 printing_may asked DiskFault is p = absurd p
 printing_may asked (Differs gauge what held found) is p = absurd p
 
-pub printing_named : (s : Status) → IsPrinting s → s ≢ Usage
+pub printing_named : (s : Status) → IsPrintingOrNoMemory s → s ≢ Usage
 printing_named Done p = λ no. absurd (cc)
 printing_named WriteFault p = λ no. absurd (cc)
 printing_named OutOfMemory p = λ no. absurd (cc)

@@ -2,16 +2,18 @@
 use Rattle.std.proofs.Common.{◌≡◌, ◌≢◌, ◌<◌, ◌≤◌, ℕ, ℤ, ◌+◌, List, [], ◌∷◌, ◌++◌, length, drop, get_or, sym, ◌∙◌, ap, subst, append_assoc}
 use Rattle.std.proofs.lemmas.List.{at_drop_more, drop_all}
 use Rattle.outside.specs.Site.{Files}
+use Rattle.recording.specs.Samples.{samples}
+use Rattle.recorded.specs.Recorded.{body_in}
 use Rattle.site_config.specs.declared.config.Gauge.{Gauge}
 use Rattle.file_tasks.specs.FileState.{FileState, NoFile, Sound, BadHead, TornEnd, TooManySamples, file_state}
-use Rattle.file_tasks.specs.Answer.{MayAnswer as MayAnswerFor, answer_for, status_of}
+use Rattle.file_tasks.specs.Answer.{MayAnswer as MayAnswerFor, answer_for, refused_status}
 use Rattle.file_tasks.specs.declared.refusal.Refusal.{Refusal}
 use Rattle.file_tasks.specs.declared.refusal.Refusal.TheVariants as refusal
 use Rattle.status.specs.declared.status.Status.{Status}
 use Rattle.status.specs.declared.status.Status.TheVariants.{Done, Usage, Config, Store, Recording, Torn, ReadFault, WriteFault, DiskFault, OutOfMemory, TooLong, Differs}
-use Rattle.sheet_command.specs.Sheet.{samples_of, recordings_of, states_of, answer_from, MayAnswer, IsReadStatus}
+use Rattle.sheet_command.specs.Sheet.{recordings_of, states_of, answer_from, MayAnswer, IsReadStatus}
 
-pub given_kind : (gauge : ℕ) (r : Refusal) → IsReadStatus (status_of gauge r)
+pub given_kind : (gauge : ℕ) (r : Refusal) → IsReadStatus (refused_status gauge r)
 given_kind gauge (refusal.Head fault) = tt
 given_kind gauge (refusal.Torn bytes) = tt
 given_kind gauge refusal.TooLong = tt
@@ -53,7 +55,7 @@ module _ (gauges : List Gauge) (files : Files) (g : ℕ) (gauge : Gauge) (lt : g
   next = at_drop_more (λ (l : List Gauge). l) gauges g gauge lt ∙ ap (λ (x : Gauge). x ∷ drop (g + 1) gauges) (sym is)
 
   pub read_more : (read : List (List ℤ)) (w : List ℤ) → read ++ recordings_of (drop g gauges) files ≡ recordings_of gauges files →
-      w ≡ samples_of (files gauge.file)
+      w ≡ samples (body_in (files gauge.file))
       → (read ++ w ∷ []) ++ recordings_of (drop (g + 1) gauges) files ≡ recordings_of gauges files
   read_more read w was has =
       append_assoc read (w ∷ []) (recordings_of (drop (g + 1) gauges) files)

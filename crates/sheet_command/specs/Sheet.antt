@@ -1,33 +1,30 @@
 -- What `sheet` prints of the recordings of a site, and what it answers.
---   samples_of      the samples of a file, and none where there is no file
+--   recordings_of   the samples of all recordings, by gauge, and none where there is no file
 --   sheet_of        the text of all recordings, under the names of their gauges
 --   states_of       what the files are to the reader of recordings, by gauge
 --   sheet_answer    the answer where nothing outside fails and memory lasts
 --   MayAnswer       what may be answered, whatever fails
 --   Prints          what is written, by the answer
-use Rattle.std.specs.Prelude.{◌≡◌, ⊤, ℕ, ℤ, ◌+◌, List, [], ◌∷◌, ◌++◌, map, drop, Option, Some, None, Result, Ok, Err}
+use Rattle.std.specs.Prelude.{◌≡◌, ⊤, ℕ, ℤ, ◌+◌, List, [], ◌∷◌, ◌++◌, map, Result, Ok, Err}
 use Rattle.outside.specs.Site.{Files}
 use Rattle.outside.specs.Sink.{AppendsPrefix}
 use Rattle.recording.specs.Samples.{samples}
 use Rattle.csv_recording.specs.Sheet.{sheet_text}
 use Rattle.file_tasks.specs.FileState.{FileState, NoFile, Sound, BadHead, TornEnd, TooManySamples, file_state}
 use Rattle.file_tasks.specs.Answer.{answer_for}
+use Rattle.site_config.specs.Configuration.{gauge_names}
 use Rattle.site_config.specs.declared.config.Config.{Config}
 use Rattle.site_config.specs.declared.config.Gauge.{Gauge}
 use Rattle.site_config.specs.declared.fault.ConfigFault.{ConfigFault}
+use Rattle.recorded.specs.Recorded.{body_in}
 use Rattle.status.specs.declared.status.Status.{Status}
 use Rattle.status.specs.declared.status.Status.TheVariants.{Done, Usage, Config as BadConfig, Recording, Torn, ReadFault, WriteFault, OutOfMemory, TooLong}
-use Rattle.recording.specs.declared.head.TheConstants.{HEAD_LENGTH}
-
-abbrev pub samples_of : Option (List ℕ) → List ℤ
-samples_of None = []
-samples_of (Some file) = samples (drop HEAD_LENGTH file)
 
 abbrev pub recordings_of : List Gauge → Files → List (List ℤ)
-recordings_of gauges files = map (λ (gauge : Gauge). samples_of (files gauge.file)) gauges
+recordings_of gauges files = map (λ (gauge : Gauge). samples (body_in (files gauge.file))) gauges
 
 abbrev pub sheet_of : Config → Files → List ℕ
-sheet_of c files = sheet_text (map (λ (gauge : Gauge). gauge.name) c.gauges) (recordings_of c.gauges files)
+sheet_of c files = sheet_text (gauge_names c.gauges) (recordings_of c.gauges files)
 
 abbrev pub states_of : List Gauge → Files → List FileState
 states_of gauges files = map (λ (gauge : Gauge). file_state (files gauge.file)) gauges

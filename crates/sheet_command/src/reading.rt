@@ -4,11 +4,12 @@ ghost use Rattle.outside.specs.Site.{Asks};
 ghost use Rattle.recording.specs.Samples.{samples};
 ghost use Rattle.site_config.specs.Valid.{IsConfig};
 ghost use Rattle.recorded.specs.Asked.{AsksFirst, file_names};
+ghost use Rattle.recorded.specs.Recorded.{body_in};
 ghost use Rattle.file_tasks.specs.FileState.{Sound, body_state, file_state, state_of};
 ghost use Rattle.file_tasks.specs.Answer.{MayAnswer as MayAnswerFor, MayGive};
 ghost use Rattle.file_tasks.specs.declared.refusal.Refusal.TheVariants as refusal;
 ghost use Rattle.status.specs.declared.status.Status.TheVariants.{Done, ReadFault};
-ghost use Rattle.sheet_command.specs.Sheet.{samples_of, recordings_of, answer_over, MayAnswer, IsReadStatus};
+ghost use Rattle.sheet_command.specs.Sheet.{recordings_of, answer_over, MayAnswer, IsReadStatus};
 ghost use Rattle.recording.specs.declared.TheConstants.{PIECE};
 ghost use Rattle.recording.specs.declared.head.TheConstants.{HEAD_LENGTH};
 
@@ -66,7 +67,7 @@ fn read_recording<T: Site>(
 ) -> Result<Samples, Status>
     requires home { T.out site.old ≡ 0 }
     ensures samples { T.tells → IfOk result (λ w.
-        w.items ≡ samples_of (T.files site.old gauge.now.file)) }
+        w.items ≡ samples (body_in (T.files site.old gauge.now.file))) }
     ensures sound { T.tells → OnOk result (file_state (T.files site.old gauge.now.file) ≡ Sound) }
     ensures refused { T.tells → IfErr result (λ status.
         MayAnswerFor number status (file_state (T.files site.old gauge.now.file))) }
@@ -93,8 +94,8 @@ fn read_recording<T: Site>(
 fn read_samples<S: Source>(alloc: Global, src: &mut S) -> Result<Samples, Refusal>
     ensures samples { S.tells →
         IfOk result (λ w. w.items ≡ samples (drop HEAD_LENGTH (S.left src.old))) }
-    ensures cause { S.tells → (gauge : ℕ) → MayGive gauge result (state_of (S.left src.old)) }
-    ensures fault { result ≡ Err refusal.ReadFault →
+    ensures answer { S.tells → (gauge : ℕ) → MayGive gauge result (state_of (S.left src.old)) }
+    ensures cause { result ≡ Err refusal.ReadFault →
         CountRose (S.faults src.old) (S.faults src.new) }
     ensures later { S.faults src.old ≤ S.faults src.new }
 {
@@ -114,8 +115,8 @@ fn piece(alloc: Global) -> Result<Samples, AllocError>
 fn read_body<S: Source>(alloc: Global, src: &mut S, piece: &mut [i32]) -> Result<Samples, Refusal>
     requires { length piece.old ≡ PIECE }
     ensures samples { S.tells → IfOk result (λ w. w.items ≡ samples (S.left src.old)) }
-    ensures cause { S.tells → (gauge : ℕ) → MayGive gauge result (body_state (S.left src.old)) }
-    ensures fault { result ≡ Err refusal.ReadFault →
+    ensures answer { S.tells → (gauge : ℕ) → MayGive gauge result (body_state (S.left src.old)) }
+    ensures cause { result ≡ Err refusal.ReadFault →
         CountRose (S.faults src.old) (S.faults src.new) }
     ensures later { S.faults src.old ≤ S.faults src.new }
 {

@@ -1,9 +1,9 @@
 ghost use Rattle.std.specs.Prelude.{◌≡◌, map, string_bytes, IfOk, length};
 ghost use Rattle.outside.specs.Fault.{CountRose};
 ghost use Rattle.csv_recording.specs.Sheet.{sheet_text};
+ghost use Rattle.site_config.specs.Configuration.{gauge_names};
 ghost use Rattle.site_config.specs.Valid.{IsConfig};
-ghost use Rattle.site_config.specs.declared.config.Gauge.{Gauge};
-ghost use Rattle.file_tasks.specs.Answer.{IsPrinting};
+ghost use Rattle.file_tasks.specs.Answer.{IsPrintingOrNoMemory};
 ghost use Rattle.status.specs.declared.status.Status.TheVariants.{WriteFault};
 ghost use Rattle.sheet_command.specs.Sheet.{Prints};
 
@@ -23,10 +23,10 @@ pub(crate) fn write_sheet<O: Sink>(
     requires bridge { IsConfig bridge.now }
     requires pairs { length recordings.now ≡ length bridge.now.gauges }
     ensures prints { O.tells → Prints result
-        (sheet_text (map (λ gauge. gauge.name) bridge.now.gauges)
+        (sheet_text (gauge_names bridge.now.gauges)
         (map (λ s. s.items) recordings.now))
         (O.written out.old) (O.written out.new) }
-    ensures kind { IsPrinting result }
+    ensures kind { IsPrintingOrNoMemory result }
     ensures write { result ≡ WriteFault → CountRose (O.faults out.old) (O.faults out.new) }
 {
     let Ok(names) = names_of(alloc, bridge) else {
@@ -45,7 +45,7 @@ pub(crate) fn write_sheet<O: Sink>(
 // The names of all gauges.
 fn names_of(alloc: Global, bridge: &Config) -> Result<Vec<String>, AllocError>
     ensures { IfOk result (λ names. map string_bytes names.items ≡
-        map (λ gauge. gauge.name) bridge.now.gauges) }
+        gauge_names bridge.now.gauges) }
 {
     let gauges = bridge.gauges.as_slice();
     let mut names = Vec::with_capacity(alloc, gauges.len())?;

@@ -5,7 +5,7 @@ use Rattle.turning_points.specs.EndPoints.{EndPoints, ends_of, last_point, last_
 use Rattle.turning_points.proofs.Zigzag.{IsZigzag, zig_points}
 use Rattle.turning_points.proofs.Over.{over, over_points, over_of_points}
 use Rattle.tables.specs.Tables.{sum_of_tables as both}
-use Rattle.simple_counts.specs.Simple.{decide, decided_at, SimpleValue, Counts, IsSimple, decide_join, mark_join, join_of}
+use Rattle.simple_counts.specs.Simple.{decide, decided_at, SimpleValue, CountsHistory, IsSimple, decide_join, mark_join, join_of}
 use Rattle.level_crossing.specs.Extremes.{extremes_at}
 use Rattle.tables.proofs.Counting.{added_at, length_added}
 use Rattle.simple_counts.proofs.PutLists.{At}
@@ -75,7 +75,7 @@ module _ (K r : ℕ) (e f : EndPoints) (d m l s : List ℕ) (ld : length d ≡ K
 
 -- two histories
 pub joined_counts : (s t : SimpleValue) (u v : List ℕ) → IsSimple s → IsSimple t → s.classes ≡ t.classes → s.reference ≡ t.reference →
-    Counts s u → Counts t v → Counts (join_of s t) (u ++ v)
+    CountsHistory s u → CountsHistory t v → CountsHistory (join_of s t) (u ++ v)
 joined_counts s t u v i j k o g h =
     let K = s.classes in
     let lt : length t.decided ≡ s.classes = omega (arith, j.decided) in

@@ -67,7 +67,7 @@ module _ (classes reference : ℕ) (e : EndPoints) (peaks valleys ranges : List 
             arith,
             sum_lower (table_with_bins 0 (replicate classes 0) ranges) (last_range e) within (last_there le),
             table_sum 1 classes classes ranges c.ranges_are (omega arith),
-            c.sides,
+            c.ranges_sum,
             le,
           );
         }
@@ -75,7 +75,7 @@ module _ (classes reference : ℕ) (e : EndPoints) (peaks valleys ranges : List 
         record {
           long = table_long 0 classes ranges;
           at = λ i. omega (arith, closed_at (leb 2 e.points) (is_at i (last_range e)) is, all_at i);
-          total = omega (arith, table_sum 1 classes classes ranges c.ranges_are (omega arith), c.sides, leb-false 2 e.points is);
+          total = omega (arith, table_sum 1 classes classes ranges c.ranges_are (omega arith), c.ranges_sum, leb-false 2 e.points is);
         }
 
     decided : Decided classes e ranges (decided_of classes e ranges)

@@ -14,7 +14,7 @@ use Rattle.turning_points.proofs.Over.{own}
 use Rattle.turning_points.proofs.PushEnds.{list_ends}
 use Rattle.turning_points.proofs.EndPlaces.{last_place, before_place}
 use Rattle.tables.specs.Tables.{raise}
-use Rattle.simple_counts.specs.Simple.{AreExtremes, HasRanges, SimpleValue, Counts, Fills, IsSimple, decided_at, push_of, value_of}
+use Rattle.simple_counts.specs.Simple.{AreExtremes, HasRanges, SimpleValue, CountsHistory, OfFront, IsSimple, decided_at, push_of, value_of}
 use Rattle.level_crossing.specs.Extremes.{extremes_at, is_extreme}
 use Rattle.level_crossing.proofs.Extremes.{none_of_two}
 use Rattle.simple_counts.proofs.Pushed.{pushed_counted, pushed_counts}
@@ -64,7 +64,7 @@ level_below k (x ∷ p) zero a h = All-head (λ y. y < k) x p a
 level_below k (x ∷ p) (suc i) a h = level_below k p i (All-tail (λ y. y < k) x p a) (omega arith)
 
 module _ (k r : ℕ) (l d m d' m' : List ℕ) (i : ℕ) (z : IsZigzag l) (a : All (λ x. x < k) l) (f : length l ≤ MAX_POINTS) (o : 2 ≤ i)
-    (h : i < length l) (g : Fills k r l i d m) where
+    (h : i < length l) (g : OfFront k r l i d m) where
   length_i : length (take i l) ≡ i
   length_i = length-take-le i l (omega arith)
 
@@ -93,7 +93,7 @@ module _ (k r : ℕ) (l d m d' m' : List ℕ) (i : ℕ) (z : IsZigzag l) (a : Al
   more : take (i + 1) l ≡ take i l ++ (x ∷ [])
   more = take_more l i 0 h
 
-  pushed : Counts (push_of x v) (take i l ++ (x ∷ []))
+  pushed : CountsHistory (push_of x v) (take i l ++ (x ∷ []))
   pushed = pushed_counts v x g.rules level (take i l) g.counts
 
   is_own : points (take i l ++ (x ∷ [])) ≡ take (i + 1) l
@@ -110,12 +110,12 @@ module _ (k r : ℕ) (l d m d' m' : List ℕ) (i : ℕ) (z : IsZigzag l) (a : Al
 
   pub fills_more : d' ≡ raise d (range (get_or l (i - 2) 0) (get_or l (i - 1) 0)) →
       m' ≡ cond (is_extreme r (get_or l (i - 2) 0) (get_or l (i - 1) 0) (get_or l i 0)) (raise m (get_or l (i - 1) 0)) m →
-      Fills k r l (i + 1) d' m'
+      OfFront k r l (i + 1) d' m'
   fills_more p q =
       let e = is_value p q in
       record {
         rules = subst IsSimple e (pushed_counted v x g.rules level (omega (arith, length_i)));
-        counts = subst (λ w. Counts w (take (i + 1) l)) e (subst (Counts (push_of x v)) (sym more) pushed);
+        counts = subst (λ w. CountsHistory w (take (i + 1) l)) e (subst (CountsHistory (push_of x v)) (sym more) pushed);
       }
 
 none_decided : (k : ℕ) (l : List ℕ) → decided_at k (take 2 l) ≡ 0
@@ -139,7 +139,7 @@ below_two k (x ∷ y ∷ l) a (suc (suc i)) h = absurd (omega arith)
 -- two points have no inner one
 pub fills_none : (k r : ℕ) (l d m : List ℕ) → IsZigzag l → All (λ x. x < k) l → (MIN_CLASSES ≤ k) × (k ≤ MAX_CLASSES) →
     (1 ≤ r) × (r < k) → length d ≡ k →
-    length m ≡ k → ((j : ℕ) → get_or d j 0 ≡ 0) → ((j : ℕ) → get_or m j 0 ≡ 0) → Fills k r l 2 d m
+    length m ≡ k → ((j : ℕ) → get_or d j 0 ≡ 0) → ((j : ℕ) → get_or m j 0 ≡ 0) → OfFront k r l 2 d m
 fills_none k r l d m z a c e p q f g =
     let w = zig_take 2 z in
     let o = own w in
@@ -167,12 +167,12 @@ fills_none k r l d m z a c e p q f g =
       };
     }
 
-pub fills_all : (k r : ℕ) (l d m : List ℕ) (i : ℕ) → Fills k r l i d m → length l ≤ i → Fills k r l (length l) d m
+pub fills_all : (k r : ℕ) (l d m : List ℕ) (i : ℕ) → OfFront k r l i d m → length l ≤ i → OfFront k r l (length l) d m
 fills_all k r l d m i g h =
     let e : take i l ≡ take (length l) l = take_all i l h ∙ sym (take_all (length l) l (omega arith)) in
     record {
       rules = subst (λ q. IsSimple (value_of k r q d m)) e g.rules;
-      counts = subst (λ q. Counts (value_of k r q d m) q) e g.counts;
+      counts = subst (λ q. CountsHistory (value_of k r q d m) q) e g.counts;
     }
 
 -- the table of extremes after the first i points
@@ -193,7 +193,7 @@ marks_more k r l i o =
 
 -- the first i points, about any reference
 abbrev pub FillsRanges : ℕ → List ℕ → ℕ → List ℕ → Type 0
-FillsRanges k l i d = (r : ℕ) → (1 ≤ r) × (r < k) → Fills k r l i d (marks k r l i)
+FillsRanges k l i d = (r : ℕ) → (1 ≤ r) × (r < k) → OfFront k r l i d (marks k r l i)
 
 pub ranges_none : (k : ℕ) (l d : List ℕ) → IsZigzag l → All (λ x. x < k) l → (MIN_CLASSES ≤ k) × (k ≤ MAX_CLASSES) → length d ≡ k →
     ((j : ℕ) → get_or d j 0 ≡ 0) → FillsRanges k l 2 d
@@ -206,14 +206,14 @@ ranges_more k l d d' i z a f o h g p = λ r e. fills_more k r l d (marks k r l i
     (marks_more k r l i o)
 
 all_ranges : (k : ℕ) (l d : List ℕ) (i : ℕ) → points l ≡ l → FillsRanges k l i d → length l ≤ i → (r : ℕ) (m : List ℕ) →
-    (1 ≤ r) × (r < k) → AreExtremes k r l m → Fills k r l (length l) d m
+    (1 ≤ r) × (r < k) → AreExtremes k r l m → OfFront k r l (length l) d m
 all_ranges k l d i o g h r m e x =
     let t = fills_all k r l d (marks k r l i) i (g r e) h in
     let q : points (take (length l) l) ≡ l = ap points (take_all (length l) l (omega arith)) ∙ o in
     let n = t.rules.extremes in
     let same : marks k r l i ≡ m = same_number_lists (marks k r l i) m (n ∙ sym x.places)
     (λ j b. let c : j < k = omega (arith, n, b) in t.counts.extremes j c ∙ ap (extremes_at r j) q ∙ sym (x.each j c)) in
-    subst (Fills k r l (length l) d) same t
+    subst (OfFront k r l (length l) d) same t
 
 pub ranges_all : (k : ℕ) (l d : List ℕ) (i : ℕ) → points l ≡ l → FillsRanges k l i d → length l ≤ i → HasRanges k l d
 ranges_all k l d i o g h = record { fills = all_ranges k l d i o g h }
@@ -227,21 +227,22 @@ few_ranges k l d i place c g =
 -- with a table that has the extremes about q, which is r
 pub fills_with : (j k n q r : ℕ) (l d m : List ℕ) → j ≡ k → n ≡ k → q ≡ r → (1 ≤ r) × (r < k) →
     HasRanges j l d → length m ≡ k →
-    ((i : ℕ) → i < n → get_or m i 0 ≡ extremes_at q i l) → Fills k r l (length l) d m
-fills_with j k n q r l d m e o p a f h g = subst (λ x. Fills x r l (length l) d m) e (f.fills r m (a.0, omega (arith, e, a.1)) (record {
+    ((i : ℕ) → i < n → get_or m i 0 ≡ extremes_at q i l) → OfFront k r l (length l) d m
+fills_with j k n q r l d m e o p a f h g = subst (λ x. OfFront x r l (length l) d m) e (f.fills r m (a.0, omega (arith, e, a.1)) (record {
   places = h ∙ sym e;
   each = λ i b. g i (omega (arith, e, o, b)) ∙ ap (λ s. extremes_at s i l) p;
 }))
 
 -- the value with the tables of all points
-pub filled : {k r : ℕ} {l d m : List ℕ} {e : EndPoints} → Fills k r l (length l) d m → e ≡ ends_of l →
+pub filled : {k r : ℕ} {l d m : List ℕ} {e : EndPoints} → OfFront k r l (length l) d m → e ≡ ends_of l →
     IsSimple (record { classes = k; reference = r; ends = e; decided = d; extremes = m })
 filled {k} {r} {l} {d} {m} {e} g p =
     let q = take_all (length l) l (omega arith) in
     subst IsSimple (value_same k r _ _ d d m m (ap ends_of q ∙ sym p) refl refl) g.rules
 
-pub filled_counts : {k r : ℕ} {l d m : List ℕ} {e : EndPoints} → points l ≡ l → Fills k r l (length l) d m → e ≡ ends_of l → (h : List ℕ) →
-    points h ≡ l → Counts (record { classes = k; reference = r; ends = e; decided = d; extremes = m }) h
+pub filled_counts : {k r : ℕ} {l d m : List ℕ} {e : EndPoints} → points l ≡ l → OfFront k r l (length l) d m → e ≡ ends_of l
+    → (h : List ℕ) →
+    points h ≡ l → CountsHistory (record { classes = k; reference = r; ends = e; decided = d; extremes = m }) h
 filled_counts {k} {r} {l} {d} {m} {e} o g p h s =
     let q = take_all (length l) l (omega arith) in
     let t : points (take (length l) l) ≡ points h = ap points q ∙ o ∙ sym s in

@@ -10,40 +10,15 @@ use Rattle.turning_points.proofs.Over.{points_inside}
 use Rattle.turning_points.proofs.Joining.{tail, last_behind, before_behind}
 use Rattle.turning_points.proofs.Push.{two_levels, same_level, push_turn, push_between, push_equal, end_differs}
 use Rattle.tables.specs.Tables.{raise, is_at}
-use Rattle.simple_counts.specs.Simple.{decided_at, SimpleValue, Counts, IsSimple, push_of}
+use Rattle.simple_counts.specs.Simple.{decided_at, SimpleValue, CountsHistory, IsSimple, push_of}
 use Rattle.level_crossing.specs.Extremes.{extremes_at, is_extreme}
 use Rattle.tables.proofs.Counting.{raise_at, sum_raise}
 use Rattle.simple_counts.proofs.Triples.{triples_join, range_side, extreme_side}
 use Rattle.simple_counts.proofs.PutLists.{range_below}
 use Rattle.turning_points.specs.declared.ends.TheConstants.{MAX_POINTS}
-use Rattle.turning_points.proofs.PushEnds.{five_same, differs_turn, turn_or}
+use Rattle.turning_points.proofs.Put.{side_self}
+use Rattle.turning_points.proofs.PushEnds.{PushCase, on_none, on_equal, on_second, on_turn, on_passed, push_case, five_same, differs_turn}
 use Rattle.simple_counts.proofs.ZeroRange.{range_positive, zero_set}
-
-pub data PushCase (x : ℕ) (e : EndPoints) : Type 0 where
-  on_none : e.points ≡ 0 → PushCase x e
-  on_equal : 1 ≤ e.points → x ≡ e.last → PushCase x e
-  on_second : e.points ≡ 1 → x ≢ e.last → PushCase x e
-  on_turn : 2 ≤ e.points → IsTurn e.before e.last x → PushCase x e
-  on_passed : 2 ≤ e.points → IsBetween e.before e.last x → PushCase x e
-
-pub push_case : (x : ℕ) (e : EndPoints) → (2 ≤ e.points → e.before ≢ e.last) → PushCase x e
-push_case x e d = pick_none (cases_lt e.points 1)
-  where
-    pick_turn : 2 ≤ e.points → (IsTurn e.before e.last x ⊎ IsBetween e.before e.last x) → PushCase x e
-    pick_turn h (inl t) = on_turn h t
-    pick_turn h (inr b) = on_passed h b
-
-    pick_long : 1 ≤ e.points → x ≢ e.last → ((e.points < 2) ⊎ (2 ≤ e.points)) → PushCase x e
-    pick_long h n (inl s) = let p : e.points ≡ 1 = omega arith in on_second p n
-    pick_long h n (inr s) = pick_turn s (turn_or e.before e.last x (λ q. n (sym q)) (d s))
-
-    pick_some : 1 ≤ e.points → ((x ≡ e.last) ⊎ (x ≢ e.last)) → PushCase x e
-    pick_some h (inl q) = on_equal h q
-    pick_some h (inr n) = pick_long h n (cases_lt e.points 2)
-
-    pick_none : ((e.points < 1) ⊎ (1 ≤ e.points)) → PushCase x e
-    pick_none (inl h) = let p : e.points ≡ 0 = omega arith in on_none p
-    pick_none (inr h) = pick_some h (cases_eq x e.last)
 
 -- what a push makes of a value, by cases
 abbrev value : ℕ → ℕ → EndPoints → List ℕ → List ℕ → SimpleValue
@@ -312,9 +287,6 @@ second_other [] p y z = refl
 second_other (a ∷ []) p y z = grind (arith, nat_tests)
 second_other (a ∷ b ∷ f) p y z = grind (arith, nat_tests, length-append f (p ∷ z ∷ []))
 
-same_refl : (p z : ℕ) → p ≢ z → OnSide p z z
-same_refl p z n = grind arith
-
 same_on : (p z x : ℕ) → IsBetween p z x → OnSide p z x
 same_on p z x n = grind arith
 
@@ -364,7 +336,7 @@ module _ (v : SimpleValue) (x : ℕ) (i : IsSimple v) (h : x < v.classes) where
         let u : range v.ends.before v.ends.last < length v.decided = omega
         (arith, i.decided, range_below v.classes v.ends.before v.ends.last w.2 w.3) in
         let m : v.ends.last < length v.extremes = omega (arith, i.extremes) in
-        let d = same_refl p z (end_differs f p z y) in
+        let d = side_self p z (end_differs f p z y) in
         let g : On (value v.classes v.reference (record {
           points = v.ends.points + 1;
           first = v.ends.first;
@@ -456,7 +428,7 @@ module _ (v : SimpleValue) (x : ℕ) (i : IsSimple v) (h : x < v.classes) where
   on_push (a ∷ b ∷ l) y o = let t = tail a b l in on_tail t.f t.p t.x (a ∷ b ∷ l) t.is y o (omega (arith, ap (λ e. e.points) o.ends))
 
   -- one level more behind a history
-  pub pushed_counts : (u : List ℕ) → Counts v u → Counts (push_of x v) (u ++ (x ∷ []))
+  pub pushed_counts : (u : List ℕ) → CountsHistory v u → CountsHistory (push_of x v) (u ++ (x ∷ []))
   pushed_counts u g =
       let o : On v (points u) = record { ends = g.ends; decided = g.decided; extremes = g.extremes } in
       let w = subst (On (push_of x v)) (points_inside [] u (x ∷ [])) (on_push (points u) (zig_points u) o) in

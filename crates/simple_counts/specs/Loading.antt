@@ -31,7 +31,7 @@ pub record CanLoad (classes reference : ℕ) (e : EndPoints) (peaks valleys rang
   pub valleys_are : AreBinsFrom 0 reference valleys
   pub ranges_are : AreBinsFrom 1 classes ranges
   pub extremes : sum_of peaks + sum_of valleys ≤ e.points - 2
-  pub sides : sum_of ranges ≡ e.points - 1
+  pub ranges_sum : sum_of ranges ≡ e.points - 1
   pub counted : 2 ≤ e.points → CountsEnds e ranges
 
 -- the ranges but the last one

@@ -3,11 +3,10 @@
 --   peaks_at         how many inner levels at l, at or above the reference, are greater than both neighbours
 --   valleys_at       how many inner levels at l, below the reference, are less than both neighbours
 --   SimpleValue      what contracts see of a `Simple`: the ranges but the last, which may still grow, and one table for
---                    peaks and
---                    valleys
+--                    peaks and valleys
 --   range_count, peak_count, valley_count   what the readers tell
 --   IsSimple         what holds of every `Simple`
---   Counts           a value stands for a history
+--   CountsHistory    a value stands for a history
 --   push_of, join_of   a value after one level more, and two values one after the other
 use Rattle.std.specs.Prelude.{◌≡◌, ℕ, ◌+◌, ◌-◌, ◌<◌, ◌≤◌, Bool, ◌&&◌, ◌||◌, nat_lt, nat_le, ◌==◌, if◌then◌else◌, List, [], ◌∷◌, length, slice_index, sum, take, replicate}
 use Rattle.turning_points.specs.Points.{is_turn, points}
@@ -85,7 +84,7 @@ pub record IsSimple (v : SimpleValue) : Type 0 where
   -- neighbouring points differ, so no range is 0
   pub none_at_zero : slice_index v.decided 0 ≡ 0
 
-pub record Counts (v : SimpleValue) (h : List ℕ) : Type 0 where
+pub record CountsHistory (v : SimpleValue) (h : List ℕ) : Type 0 where
   pub ends : v.ends ≡ ends_of (points h)
   pub decided : (k : ℕ) → k < v.classes → slice_index v.decided k ≡ decided_at k (points h)
   pub extremes : (l : ℕ) → l < v.classes → slice_index v.extremes l ≡ extremes_at v.reference l (points h)
@@ -138,9 +137,9 @@ abbrev pub value_of : ℕ → ℕ → List ℕ → List ℕ → List ℕ → Sim
 value_of k r l d m = record { classes = k; reference = r; ends = ends_of l; decided = d; extremes = m }
 
 -- the tables of the first n points of a list
-pub record Fills (k r : ℕ) (l : List ℕ) (n : ℕ) (d m : List ℕ) : Type 0 where
+pub record OfFront (k r : ℕ) (l : List ℕ) (n : ℕ) (d m : List ℕ) : Type 0 where
   pub rules : IsSimple (value_of k r (take n l) d m)
-  pub counts : Counts (value_of k r (take n l) d m) (take n l)
+  pub counts : CountsHistory (value_of k r (take n l) d m) (take n l)
 
 -- a table of the extremes of the points l, with a place for each level below k
 pub record AreExtremes (k r : ℕ) (l m : List ℕ) : Type 0 where
@@ -149,7 +148,7 @@ pub record AreExtremes (k r : ℕ) (l m : List ℕ) : Type 0 where
 
 -- d is the table of the ranges of the points l: about any reference, it makes the tables of l with those extremes
 pub record HasRanges (k : ℕ) (l d : List ℕ) : Type 0 where
-  pub fills : (r : ℕ) (m : List ℕ) → (1 ≤ r) × (r < k) → AreExtremes k r l m → Fills k r l (length l) d m
+  pub fills : (r : ℕ) (m : List ℕ) → (1 ≤ r) × (r < k) → AreExtremes k r l m → OfFront k r l (length l) d m
 
 -- the peaks, the valleys and the ranges of a history are those of its points
 pub record SameCounts (h g : List ℕ) : Type 0 where

@@ -1,14 +1,14 @@
-ghost use Rattle.std.specs.Prelude.{All, List, [], ◌∷◌, ◌++◌, ◌+◌, ◌-◌, ◌<◌, ◌≡◌, ◌≤◌, ◌^◌, ◌↔◌, nat_le, length, slice_index, sum, IfOk, IsTrue, ◌&&◌, ℕ, replicate};
+ghost use Rattle.std.specs.Prelude.{All, List, [], ◌∷◌, ◌++◌, ◌+◌, ◌-◌, ◌<◌, ◌≡◌, ◌≤◌, ◌^◌, nat_le, length, slice_index, sum, IfOk, ◌&&◌, ℕ, replicate};
 ghost use Rattle.turning_points.specs.Points.{is_turn, points};
 ghost use Rattle.turning_points.specs.Pairs.{range};
-ghost use Rattle.turning_points.specs.EndPoints.{IsEnds, ends_of, ends_push, ends_of_both, no_ends, ends_prepend};
+ghost use Rattle.turning_points.specs.EndPoints.{IsEnds, ends_of, ends_push, ends_of_both, no_ends};
 ghost use Rattle.turning_points.specs.Ends.{end_points};
 ghost use Rattle.level_crossing.specs.Crossings.{Crosses, CrossesPoints, IsCrossings, no_crossings};
 ghost use Rattle.tables.specs.Tables.{table_with_bins, raise};
 ghost use Rattle.tables.specs.Bins.{count_at};
 ghost use Rattle.simple_counts.specs.Loading.{CanLoad, decided_of, last_range, loaded_of};
-ghost use Rattle.simple_counts.specs.Simple.{Agrees, SimpleValue, Counts, IsSimple, decide, decide_join, join_of, mark, mark_join, none_at, nothing, peak_count, peaks_at, push_of, range_count, ranges_at, turns_at, valley_count, valleys_at};
-ghost use Rattle.level_crossing.specs.Extremes.{extremes_at, is_extreme};
+ghost use Rattle.simple_counts.specs.Simple.{SimpleValue, CountsHistory, IsSimple, decide, decide_join, join_of, mark, mark_join, nothing, peak_count, peaks_at, push_of, range_count, ranges_at, turns_at, valley_count, valleys_at};
+ghost use Rattle.level_crossing.specs.Extremes.{is_extreme};
 ghost use Rattle.turning_points.specs.declared.ends.TheConstants.{MAX_POINTS};
 
 use crate::points::fill;
@@ -266,8 +266,8 @@ impl Simple {
             × (self.new.reference ≡ self.old.reference) }
         ensures ends { self.new.ends ≡ ends_of_both self.old.ends right.now.ends }
         ensures rules { IsSimple self.new }
-        ensures histories { (u v : List ℕ) → Counts self.old u → Counts right.now v →
-            Counts self.new (u ++ v) }
+        ensures histories { (u v : List ℕ) → CountsHistory self.old u → CountsHistory right.now v →
+            CountsHistory self.new (u ++ v) }
     {
         self.append_history(right)
     }
@@ -296,7 +296,8 @@ impl Simple {
             × (self.new.reference ≡ self.old.reference) }
         ensures ends { self.new.ends ≡ ends_push level self.old.ends }
         ensures rules { IsSimple self.new }
-        ensures histories { (u : List ℕ) → Counts self.old u → Counts self.new (u ++ level ∷ []) }
+        ensures histories { (u : List ℕ) → CountsHistory self.old u →
+            CountsHistory self.new (u ++ level ∷ []) }
     {
         self.push_level(level)
     }
@@ -313,7 +314,7 @@ impl Simple {
             × (self.new.reference ≡ self.old.reference) }
         ensures ends { self.new.ends ≡ ends_of list.now }
         ensures rules { IsSimple self.new }
-        ensures histories { (h : List ℕ) → points h ≡ list.now → Counts self.new h }
+        ensures histories { (h : List ℕ) → points h ≡ list.now → CountsHistory self.new h }
         ensures crossings { CrossesPoints crossings.new
             crossings.old.classes crossings.old.reference list.now }
         ensures crossing_rules { IsCrossings crossings.new }
@@ -385,7 +386,8 @@ impl Simple {
     pub fn half_ranges(&self, k: u16) -> u64
         requires { k < self.now.classes }
         ensures value { result ≡ range_count self.now k }
-        ensures histories { (u : List ℕ) → Counts self.now u → result ≡ ranges_at k (points u) }
+        ensures histories { (u : List ℕ) → CountsHistory self.now u →
+            result ≡ ranges_at k (points u) }
     {
         self.ranges_there(k)
     }
@@ -394,7 +396,7 @@ impl Simple {
     pub fn peaks(&self, level: u16) -> u64
         requires { level < self.now.classes }
         ensures value { result ≡ peak_count self.now level }
-        ensures histories { (u : List ℕ) → Counts self.now u →
+        ensures histories { (u : List ℕ) → CountsHistory self.now u →
             result ≡ peaks_at self.now.reference level (points u) }
     {
         self.peaks_there(level)
@@ -404,7 +406,7 @@ impl Simple {
     pub fn valleys(&self, level: u16) -> u64
         requires { level < self.now.classes }
         ensures value { result ≡ valley_count self.now level }
-        ensures histories { (u : List ℕ) → Counts self.now u →
+        ensures histories { (u : List ℕ) → CountsHistory self.now u →
             result ≡ valleys_at self.now.reference level (points u) }
     {
         self.valleys_there(level)

@@ -1,5 +1,7 @@
 -- The lists of a configuration, as the code's loops walk them.
 use Rattle.std.proofs.Common.{◌≡◌, ◌+◌, ◌<◌, ◌==◌, ℕ, true, false, List, [], ◌∷◌, length, map, drop, get_or, Some, Ok, Err, refl, ap, ◌∙◌}
+use Rattle.std.specs.Prelude.{Option}
+use Rattle.std.specs.List.{position_from}
 use Rattle.std.specs.Cmp.Lexicographic.{pointwise}
 use Rattle.std.proofs.lemmas.List.{at_drop_more, length-map}
 use Rattle.toml.specs.Data.{Data, as_array}
@@ -8,7 +10,7 @@ use Rattle.toml.specs.declared.value.Value.{Value}
 use Rattle.site_config.specs.declared.fault.Part.{Part}
 use Rattle.site_config.specs.declared.fault.KeyName.TheVariants.{Itself}
 use Rattle.site_config.specs.declared.fault.ConfigFault.TheVariants as fault
-use Rattle.site_config.specs.Fields.{is_in_limits, items_list, items_in, place_from}
+use Rattle.site_config.specs.Fields.{is_in_limits, items_list, items_in}
 
 items_list-view : (vs : List Value) → items_list (items_view vs) ≡ map view vs
 items_list-view [] = refl
@@ -25,6 +27,10 @@ pub items_in-outside : (part : Part) (low high : ℕ) (d : Data) (vs : List Valu
     items_in part low high d ≡ Err (fault.Limit (record { part = part; index = 0; name = Itself }))
 unfolding items_in
 items_in-outside part low high d vs e over = rw (e, items_list-view vs, length-map vs view, over) refl
+
+-- the place of a name, where the first of the names has place i
+abbrev pub place_from : ℕ → List ℕ → List (List ℕ) → Option ℕ
+place_from i name names = position_from (λ other. pointwise ◌==◌ other name) i names
 
 -- a name is at place i, or further on, or nowhere
 pub place_from-here : {X : Type 0} (f : X → List ℕ) (name : List ℕ) (xs : List X) (i : ℕ) (d : X) → i < length xs →

@@ -3,10 +3,10 @@
 --   gauges_named                the names of gauges that were read
 --   details_named               the names of details that were read, which are on gauges
 --   config_in-valid             the whole
-use Rattle.std.proofs.Common.{◌≡◌, ◌≢◌, ◌+◌, ◌-◌, ◌<◌, ◌≤◌, ◌⊎◌, inl, inr, ℕ, zero, suc, ℤ, pos, negsuc, Bool, if◌then◌else◌, true, false, List, [], ◌∷◌, ◌++◌, length, map, get_or, Option, Some, None, Result, Ok, Err, refl, sym, ap, subst, ◌∙◌, ◌==◌, arith}
-use Rattle.std.specs.Prelude.{int_lt, unsigned_abs, nat_lt, nat_le, ok_or}
-use Rattle.std.specs.Cmp.Lexicographic.{pointwise, same_text, other_text}
-use Rattle.std.proofs.lemmas.Bool.{cases_lt, cases_eq}
+use Rattle.std.proofs.Common.{◌≡◌, ◌≢◌, ◌+◌, ◌<◌, ◌≤◌, ◌⊎◌, inl, inr, ℕ, zero, suc, ℤ, pos, negsuc, Bool, if◌then◌else◌, true, false, List, [], ◌∷◌, ◌++◌, length, get_or, Option, Some, None, Result, Ok, Err, refl, sym, ap, subst, ◌∙◌, ◌==◌, arith}
+use Rattle.std.specs.Prelude.{neg_ℤ, unsigned_abs, ok_or}
+use Rattle.std.specs.Cmp.Lexicographic.{pointwise, other_text}
+use Rattle.std.proofs.lemmas.Bool.{cases_lt}
 use Rattle.std.proofs.lemmas.Bool.Decides.{nat_tests}
 use Rattle.std.proofs.Math.ListN.{get_or-append}
 use Rattle.std.proofs.Math.Seq.{get_or-append_seam}
@@ -17,7 +17,7 @@ use Rattle.calibration.specs.declared.gain.TheConstants.{MAX_NUM, MAX_DEN, MAX_O
 use Rattle.site_config.specs.Keys.{gauge_key, detail_key, count_key, name_text}
 use Rattle.site_config.specs.declared.fault.Part.TheVariants as parts
 use Rattle.site_config.specs.declared.fault.KeyName.TheVariants as key
-use Rattle.site_config.specs.declared.fault.ConfigFault.TheVariants.{Missing, Kind as WrongKind, Limit, NoSuchGauge}
+use Rattle.site_config.specs.declared.fault.ConfigFault.TheVariants.{Missing, Kind as WrongKind, NoSuchGauge}
 use Rattle.calibration.specs.Gain.{GainValue}
 use Rattle.site_config.specs.declared.config.Config.{Config}
 use Rattle.site_config.specs.declared.config.Gauge.{Gauge}
@@ -26,9 +26,10 @@ use Rattle.site_config.specs.declared.fault.ConfigFault.{ConfigFault}
 use Rattle.site_config.specs.declared.fault.Key.{Key}
 use Rattle.site_config.specs.declared.fault.Part.{Part}
 use Rattle.site_config.specs.declared.limits.TheConstants.{MAX_GAUGES, MAX_DETAILS, MAX_BLOCK, DEFAULT_BLOCK, MAX_WORKERS, DEFAULT_WORKERS}
-use Rattle.site_config.specs.Fields.{Gives, ◌>>=◌, within_limits, is_in_limits, is_name, name_at, file_at, text_at, number_at, natural_at, minus, items_list, natural_or, number_or, number_if, number_in, is_within, place_from, place_of, unless_taken, unless_taken_before, items_in}
-use Rattle.site_config.specs.Configuration.{Gauges, gauge_in, gauges_after, gauges_in, gauge_names, curve_in, detail_names, grid_in, detail_in, details_after, details_part, details_if, details_in, count_part, count_if, count_in, config_in, config_of_bytes}
-use Rattle.site_config.specs.Valid.{IsConfig, name_of, no_gauge}
+use Rattle.site_config.specs.Fields.{Gives, ◌>>=◌, within_limits, is_in_limits, is_name, name_at, file_at, text_at, number_at, items_list, natural_or, number_or, number_if, number_in, is_within, place_of, unless_taken, unless_taken_before, items_in}
+use Rattle.site_config.proofs.Lists.{place_from}
+use Rattle.site_config.specs.Configuration.{Gauges, gauge_in, gauges_after, gauges_in, gauge_names, curve_in, detail_names, grid_in, detail_in, details_after, details_part, details_if, details_in, count_part, count_if, count_in, config_in}
+use Rattle.site_config.specs.Valid.{IsConfig, no_gauge}
 
 -- what came of two steps came of the second, from what came of the first
 record Then {A B : Type 0} (r : Result A ConfigFault) (f : A → Result B ConfigFault) (y : B) : Type 0 where
@@ -116,7 +117,7 @@ named_more xs y are name new = record { names = names; differ = differ }
             (λ e. no_place y.name (gauge_names xs) 0 new g (omega (arith, under, many_names xs)) (name_in xs g ∙ e)))
 
 -- one gauge more
-record IsRead (before : List Gauge) (x : Gauge) : Type 0 where
+record IsNewGauge (before : List Gauge) (x : Gauge) : Type 0 where
   name : is_name x.name ≡ true
   new : place_of x.name (gauge_names before) ≡ None
 
@@ -132,23 +133,23 @@ new_name : (part : Part) (second : ℕ) (names : List (List ℕ)) (name y : List
 unfolding unless_taken_before
 new_name part second names name y e = untaken (place_of name names) part second name y e
 
-gauge_read : (before : List Gauge) (value : Data) (x : Gauge × GainValue) → gauge_in before value ≡ Ok x → IsRead before x.0
+gauge_read : (before : List Gauge) (value : Data) (x : Gauge × GainValue) → gauge_in before value ≡ Ok x → IsNewGauge before x.0
 unfolding gauge_in
 gauge_read before value x e =
     let i = length before in
     let part = both_ok (ok_or (as_table value) (WrongKind (gauge_key i key.Itself))) _ x e in
     let name = both_ok (name_at (gauge_key i key.Name) part.value) _ x part.second in
     let file = both_ok (file_at (gauge_key i key.File) part.value) _ x name.second in
-    let num = both_ok (number_at (gauge_key i key.Num) (minus MAX_NUM) (pos MAX_NUM) part.value) _ x file.second in
+    let num = both_ok (number_at (gauge_key i key.Num) (neg_ℤ (pos MAX_NUM)) (pos MAX_NUM) part.value) _ x file.second in
     let den = both_ok (natural_or 1 (gauge_key i key.Den) 1 MAX_DEN part.value) _ x num.second in
-    let offset = both_ok (number_or (pos 0) (gauge_key i key.Offset) (minus MAX_OFFSET) (pos MAX_OFFSET) part.value) _ x den.second in
+    let offset = both_ok (number_or (pos 0) (gauge_key i key.Offset) (neg_ℤ (pos MAX_OFFSET)) (pos MAX_OFFSET) part.value) _ x den.second in
     let again = both_ok (unless_taken_before parts.Gauge i (gauge_names before) name.value) _ x offset.second in
     let is = same_ok (record { name = again.value; file = file.value }, record { num = num.value; den = den.value; offset = offset.value })
     x again.second in
     let new = new_name parts.Gauge i (gauge_names before) name.value again.value again.first in
     let one = subst (λ n. is_name n ≡ true) new.1 (name_at-ok (gauge_key i key.Name) part.value name.value name.first) in
     let two = subst (λ n. place_of n (gauge_names before) ≡ None) new.1 new.0 in
-    subst (λ (y : Gauge × GainValue). IsRead before y.0) is (record { name = one; new = two })
+    subst (λ (y : Gauge × GainValue). IsNewGauge before y.0) is (record { name = one; new = two })
 
 record AreRead (before : Gauges) (more : ℕ) (g : Gauges) : Type 0 where
   named : AreNamed g.names

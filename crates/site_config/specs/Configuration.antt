@@ -4,7 +4,7 @@
 --   config_of_bytes                            the whole
 -- The grid comes first, then the count, then each gauge, then each detail; within a part its keys come in the order in
 -- which they stand here.
-use Rattle.std.specs.Prelude.{◌-◌, ◌/◌, ◌++◌, if◌then◌else◌, ℕ, pos, List, [], ◌∷◌, length, map, codes, Option, Some, None, Result, Ok, Err, nat_lt, ◌==◌, ok_or}
+use Rattle.std.specs.Prelude.{◌-◌, ◌/◌, ◌++◌, if◌then◌else◌, ℕ, pos, neg_ℤ, List, [], ◌∷◌, length, map, codes, Option, Some, None, Result, Ok, Err, nat_lt, ◌==◌, ok_or}
 use Rattle.std.specs.Str.{is_utf8}
 use Rattle.std.specs.Cmp.Lexicographic.{pointwise}
 use Rattle.toml.specs.Data.{Data, as_table, Members, get_member}
@@ -18,7 +18,7 @@ use Rattle.calibration.specs.declared.grid.TheConstants.{MIN_CLASSES, MAX_CLASSE
 use Rattle.calibration.specs.declared.gain.TheConstants.{MAX_NUM, MAX_DEN, MAX_OFFSET}
 use Rattle.site_config.specs.declared.limits.TheConstants.{MAX_BYTES, MAX_GAUGES, MAX_DETAILS, MAX_BLOCK, DEFAULT_BLOCK, MAX_WORKERS, DEFAULT_WORKERS}
 use Rattle.site_config.specs.Keys.{grid_key, count_key, gauge_key, detail_key}
-use Rattle.site_config.specs.Fields.{◌>>=◌, minus, within_limits, number_at, number_or, natural_at, natural_or, text_at, name_at, file_at, place_of, unless_taken_before, items_in}
+use Rattle.site_config.specs.Fields.{◌>>=◌, within_limits, number_at, number_or, natural_at, natural_or, text_at, name_at, file_at, place_of, unless_taken_before, items_in}
 use Rattle.site_config.specs.declared.config.Config.{Config}
 use Rattle.site_config.specs.declared.config.Gauge.{Gauge}
 use Rattle.site_config.specs.declared.config.NamedDetail.{NamedDetail}
@@ -35,7 +35,7 @@ grid_in ms = do
   part ← ok_or (as_table value) (WrongKind (grid_key key.Itself))
   classes ← natural_at (grid_key key.Classes) MIN_CLASSES MAX_CLASSES part
   width ← natural_at (grid_key key.Width) 1 (MAX_SPAN / (classes - 1)) part
-  low ← number_at (grid_key key.Low) (minus MAX_LOW_KPA) (pos MAX_LOW_KPA) part
+  low ← number_at (grid_key key.Low) (neg_ℤ (pos MAX_LOW_KPA)) (pos MAX_LOW_KPA) part
   reference ← natural_at (grid_key key.Reference) 1 (classes - 1) part
   Ok (record { classes = classes; w2 = width; low_kpa = low; reference = reference })
 
@@ -68,9 +68,9 @@ gauge_in before value = do
   part ← ok_or (as_table value) (WrongKind (gauge_key (length before) key.Itself))
   name ← name_at (gauge_key (length before) key.Name) part
   file ← file_at (gauge_key (length before) key.File) part
-  num ← number_at (gauge_key (length before) key.Num) (minus MAX_NUM) (pos MAX_NUM) part
+  num ← number_at (gauge_key (length before) key.Num) (neg_ℤ (pos MAX_NUM)) (pos MAX_NUM) part
   den ← natural_or 1 (gauge_key (length before) key.Den) 1 MAX_DEN part
-  offset ← number_or (pos 0) (gauge_key (length before) key.Offset) (minus MAX_OFFSET) (pos MAX_OFFSET) part
+  offset ← number_or (pos 0) (gauge_key (length before) key.Offset) (neg_ℤ (pos MAX_OFFSET)) (pos MAX_OFFSET) part
   name ← unless_taken_before parts.Gauge (length before) (gauge_names before) name
   Ok (record { name = name; file = file }, record { num = num; den = den; offset = offset })
 

@@ -3,8 +3,8 @@
 --   natural_at     the same of a natural number     natural_or
 --   text_at        a text                           name_at, file_at
 --   Gives          what a function of the code returns, beside its definition
-use Rattle.std.specs.Prelude.{◌≡◌, ◌||◌, ◌&&◌, ◌==◌, ◌+◌, if◌then◌else◌, ℕ, ℤ, pos, negsuc, ◌-◌, Bool, true, false, List, [], ◌∷◌, length, Option, Some, None, Result, Ok, Err, nat_le, int_lt, unsigned_abs, ok_or}
-use Rattle.std.specs.List.{list_all}
+use Rattle.std.specs.Prelude.{◌≡◌, ◌||◌, ◌&&◌, ◌==◌, if◌then◌else◌, ℕ, ℤ, pos, Bool, true, false, List, [], ◌∷◌, length, Option, Some, None, Result, Ok, Err, nat_le, int_lt, unsigned_abs, ok_or}
+use Rattle.std.specs.List.{list_all, position_from}
 use Rattle.std.specs.Cmp.Lexicographic.{pointwise}
 use Rattle.toml.specs.Data.{Data, as_integer, as_str, as_array, Items, no_items, item, Members, get_member}
 use Rattle.site_config.specs.declared.limits.TheConstants.{MAX_NAME_BYTES, MAX_FILE_NAME_BYTES}
@@ -36,10 +36,6 @@ within_limits passes key x = if passes then Ok x else Err (Limit key)
 -- the value at a key that has to be there
 unfoldable pub value_at : Key → Members → Result Data ConfigFault
 value_at key ms = ok_or (get_member (name_text key.name) ms) (Missing key)
-
--- a number below 0, by its size
-abbrev pub minus : ℕ → ℤ
-minus n = negsuc (n - 1)
 
 -- a whole number from low to high
 abbrev pub is_within : ℤ → ℤ → ℤ → Bool
@@ -97,13 +93,9 @@ file_at key ms = do
   text ← text_at key ms
   within_limits (is_in_limits 1 MAX_FILE_NAME_BYTES (length text)) key text
 
--- the place of a name, from place i on
-abbrev pub place_from : ℕ → List ℕ → List (List ℕ) → Option ℕ
-place_from i name [] = None
-place_from i name (other ∷ names) = if pointwise ◌==◌ other name then Some i else place_from (i + 1) name names
-
+-- the place of a name
 abbrev pub place_of : List ℕ → List (List ℕ) → Option ℕ
-place_of name names = place_from 0 name names
+place_of name names = position_from (λ other. pointwise ◌==◌ other name) 0 names
 
 -- the name, where none of those before has it
 abbrev pub unless_taken : Option ℕ → Part → ℕ → List ℕ → Result (List ℕ) ConfigFault

@@ -2,8 +2,6 @@
 --   name_of, file_of   a gauge's name and that of its file, by its number
 --   IsConfig           the limits of a site, and names that can be told apart
 use Rattle.std.specs.Prelude.{◌≡◌, ◌<◌, ◌≤◌, ℕ, List, [], true, length, slice_index_or}
-use Rattle.calibration.specs.Gain.{IsGain}
-use Rattle.calibration.specs.Grid.{IsGrid}
 use Rattle.site_config.specs.declared.config.Config.{Config}
 use Rattle.site_config.specs.declared.config.Gauge.{Gauge}
 use Rattle.site_config.specs.declared.config.NamedDetail.{NamedDetail}

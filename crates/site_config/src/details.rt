@@ -1,11 +1,11 @@
-ghost use Rattle.std.specs.Prelude.{◌≡◌, ◌≤◌, ◌<◌, ◌++◌, [], ℕ, List, length, map, option_map, IfOk, IfSome, option_copied};
-ghost use Rattle.toml.specs.Data.{Data, as_table};
+ghost use Rattle.std.specs.Prelude.{◌≡◌, ◌≤◌, ◌<◌, [], length, map};
+ghost use Rattle.toml.specs.Data.{as_table};
 ghost use Rattle.toml.specs.View.{view, table_view};
-ghost use Rattle.sn_curve.specs.Detail.{categories, partial_factors, is_among};
+ghost use Rattle.sn_curve.specs.Detail.{categories, is_among};
 ghost use Rattle.site_config.specs.declared.limits.TheConstants.{MAX_DETAILS, MAX_GAUGES};
 ghost use Rattle.site_config.specs.Keys.{detail_key};
 ghost use Rattle.site_config.specs.Fields.{Gives, unless_taken_before, place_of};
-ghost use Rattle.site_config.specs.Configuration.{detail_in, details_after, detail_names, gauge_names, curve_in, kind_at, kind_named};
+ghost use Rattle.site_config.specs.Configuration.{detail_in, details_after, detail_names, curve_in, kind_at, kind_named};
 
 use crate::fields::{name_at, natural_at, text_at};
 use crate::gauges::{place_of_gauge, text_of};

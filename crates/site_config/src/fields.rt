@@ -1,8 +1,7 @@
-ghost use Rattle.std.specs.Prelude.{◌≡◌, ◌≤◌, ◌≤ℤ◌, ℤ, pos, option_map, IfOk, string_bytes};
+ghost use Rattle.std.specs.Prelude.{◌≡◌, ◌≤◌, ◌≤ℤ◌, ℤ, option_map, IfOk};
 ghost use Rattle.toml.specs.Data.{get_member};
-ghost use Rattle.toml.specs.View.{table_view, view, items_view};
-ghost use Rattle.site_config.specs.Keys.{part_text, name_text};
-ghost use Rattle.site_config.specs.Fields.{Gives, number_in, number_at, number_or, natural_at, natural_or, text_at, name_at, file_at, items_in, value_at};
+ghost use Rattle.toml.specs.View.{table_view, view};
+ghost use Rattle.site_config.specs.Fields.{Gives, number_in, number_at, number_or, natural_at, natural_or, text_at, name_at, file_at, value_at};
 
 use crate::limits::MAX_FILE_NAME_BYTES;
 use crate::names::{is_in_limits, is_name};

@@ -1,6 +1,6 @@
-ghost use Rattle.std.specs.Prelude.{◌≡◌, ◌≤◌, ◌<◌, ◌++◌, [], length, map, option_map, IfOk, string_bytes};
-ghost use Rattle.toml.specs.Data.{Data, as_table};
-ghost use Rattle.toml.specs.View.{view, table_view};
+ghost use Rattle.std.specs.Prelude.{◌≡◌, ◌≤◌, ◌<◌, [], length, map, IfOk};
+ghost use Rattle.toml.specs.Data.{as_table};
+ghost use Rattle.toml.specs.View.{view};
 ghost use Rattle.site_config.specs.declared.limits.TheConstants.{MAX_GAUGES};
 ghost use Rattle.site_config.specs.Fields.{Gives, unless_taken_before, place_of};
 ghost use Rattle.site_config.specs.Configuration.{gauge_in, gauges_after, gauge_names};

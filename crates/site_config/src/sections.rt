@@ -1,5 +1,5 @@
 ghost use Rattle.std.specs.Prelude.{◌≡◌, ◌≤◌, ◌<◌, ◌-◌, ◌/◌, [], length, map, IfOk};
-ghost use Rattle.toml.specs.Data.{Data, as_table, as_array};
+ghost use Rattle.toml.specs.Data.{as_table, as_array};
 ghost use Rattle.toml.specs.View.{view, table_view};
 ghost use Rattle.site_config.specs.declared.limits.TheConstants.{MAX_GAUGES};
 ghost use Rattle.site_config.specs.Keys.{grid_key, count_key};

@@ -12,7 +12,7 @@ use Rattle.recording.specs.declared.TheConstants.{MAX_SAMPLES}
 use Rattle.recording.proofs.SampleLists.{length-samples, samples-drop, torn_bytes-drop}
 use Rattle.lane_ends.specs.declared.end.End.{End}
 use Rattle.lane_ends.specs.declared.end.End.TheVariants.{More, Ended, Torn, ReadFault, TooLong}
-use Rattle.lane_ends.specs.Ends.{Gives}
+use Rattle.lane_ends.specs.Ends.{IsRead}
 use Rattle.lane_ends.proofs.Giving.{more_or_not}
 use Rattle.lane_loans.specs.declared.lane.Lane.{Lane}
 use Rattle.round_making.specs.Round.{LaneDone}
@@ -45,7 +45,7 @@ module _ (block : ℕ) (w : List ℤ) (torn : ℕ) (before after : List ℕ) (fr
   there : length (samples before) ≡ length w - from
   there = ap length is ∙ length-drop from w
 
-  stood_after : (end : End) → Gives (BLOCKS_PER_WINDOW * block) (MAX_SAMPLES - from) before (to - from) end after →
+  stood_after : (end : End) → IsRead (BLOCKS_PER_WINDOW * block) (MAX_SAMPLES - from) before (to - from) end after →
       SourceStands w torn after to end
   stood_after More gives =
       let room = when_more (BLOCKS_PER_WINDOW * block) (MAX_SAMPLES - from) (length (samples before)) (torn_bytes before)
@@ -73,7 +73,7 @@ module _ (block : ℕ) (w : List ℤ) (torn : ℕ) (before after : List ℕ) (fr
 
   -- where it was reached by so many rounds, one more reaches
   reaches : (a : ℕ) (end : End) → end ≢ ReadFault → end ≢ TooLong → from ≡ min a (length w)
-      → Gives (BLOCKS_PER_WINDOW * block) (MAX_SAMPLES - from) before (to - from) end after → to
+      → IsRead (BLOCKS_PER_WINDOW * block) (MAX_SAMPLES - from) before (to - from) end after → to
       ≡ min (a + BLOCKS_PER_WINDOW * block) (length w)
   reaches a More read long was gives =
       let room = when_more (BLOCKS_PER_WINDOW * block) (MAX_SAMPLES - from) (length (samples before)) (torn_bytes before)
@@ -89,7 +89,7 @@ module _ (block : ℕ) (w : List ℤ) (torn : ℕ) (before after : List ℕ) (fr
   reaches a ReadFault read long was gives = absurd (read refl)
   reaches a TooLong read long was gives = absurd (long refl)
 
-  within_after : {end : End} → Gives (BLOCKS_PER_WINDOW * block) (MAX_SAMPLES - from) before (to - from) end after → to ≤ length w
+  within_after : {end : End} → IsRead (BLOCKS_PER_WINDOW * block) (MAX_SAMPLES - from) before (to - from) end after → to ≤ length w
   within_after gives = omega (arith, gives.few.2, there, le, on)
 
 stood_same : (w : List ℤ) (torn : ℕ) {left left2 : List ℕ} {at at2 : ℕ} {end end2 : End} → left2 ≡ left → at2 ≡ at → end2 ≡ end

@@ -18,7 +18,7 @@ use Rattle.status.specs.declared.status.RecordingFault.{RecordingFault}
 use Rattle.status.specs.declared.status.Status.{Status}
 use Rattle.status.specs.declared.status.Status.TheVariants as status
 use Rattle.site_lanes.specs.Answers.{FaultOf, GaugeAnswers, AllOpened, OpenAnswers}
-use Rattle.site_lanes.specs.Opening.{fault_of, IsBehind, IsOpeningAnswer, status_of, fault_by}
+use Rattle.site_lanes.specs.Opening.{fault_of, IsBehind, IsOpeningAnswer, opened_status, fault_by}
 use Rattle.site_lanes.specs.declared.opening.OpenFault.{OpenFault}
 use Rattle.site_lanes.specs.declared.opening.OpenFault.TheVariants.{Recording, ReadFault}
 use Rattle.lemmas.proofs.Outcomes.{same_some}
@@ -52,7 +52,7 @@ module _ (bridge : Config) (heads : List Head) (n : ℕ → ℕ) (files : Files)
         ∙ ap (λ (m : ℕ). fault_of (slice_index_or heads2 g here) m file) (sym held) ∙ opened,
   )
 
-  pub gauge_refused : (A : Type 0) (fault : OpenFault) (s : Status) → s ≡ status_of g fault
+  pub gauge_refused : (A : Type 0) (fault : OpenFault) (s : Status) → s ≡ opened_status g fault
       → IsOpeningAnswer (fault_of (slice_index_or heads2 g here) k file) (Err fault) → GaugeAnswers {A = A} bridge heads n files g (Err s)
   gauge_refused A (Recording f) s is_status opened =
       subst (λ (x : Status). GaugeAnswers {A = A} bridge heads n files g (Err x)) (sym is_status) (refl, gauge_fault (Some f) opened)

@@ -5,14 +5,15 @@
 --   IsBehind         the source stands behind what is held
 use Rattle.std.specs.Prelude.{◌≡◌, ◌≤◌, ℕ, nat_lt, nat_eq, ◌==◌, not, if◌then◌else◌, List, length, drop, Option, Some, None, Result, Ok, Err}
 use Rattle.std.specs.Cmp.Lexicographic.{pointwise}
+use Rattle.std.specs.Option.{option_map_or}
 use Rattle.recording.specs.Samples.{samples, torn_bytes}
 use Rattle.recording.specs.Head.{recording_head}
 use Rattle.recording.specs.declared.head.Head.{Head}
 use Rattle.recording.specs.declared.head.HeadFault.{HeadFault}
-use Rattle.recording.specs.declared.head.HeadFault.TheVariants as head
 use Rattle.recorded.specs.Recorded.{body_in}
+use Rattle.status.specs.RecordingFaults.{recording_fault_of}
 use Rattle.status.specs.declared.status.RecordingFault.{RecordingFault}
-use Rattle.status.specs.declared.status.RecordingFault.TheVariants.{Short, Magic, Version, NotZero, Id, Period, Fewer}
+use Rattle.status.specs.declared.status.RecordingFault.TheVariants.{Id, Period, Fewer}
 use Rattle.status.specs.declared.status.Status.{Status}
 use Rattle.status.specs.declared.status.Status.TheVariants as status
 use Rattle.site_lanes.specs.declared.opening.OpenFault.{OpenFault}
@@ -20,11 +21,7 @@ use Rattle.site_lanes.specs.declared.opening.OpenFault.TheVariants.{Recording, R
 
 -- None where the head is sound, and its id and period are those that are kept. No bytes have a read fault.
 abbrev pub head_fault : Result Head HeadFault → Head → Option RecordingFault
-head_fault (Err head.Short) kept = Some Short
-head_fault (Err head.Magic) kept = Some Magic
-head_fault (Err (head.Version version)) kept = Some (Version version)
-head_fault (Err head.NotZero) kept = Some NotZero
-head_fault (Err head.ReadFault) kept = None
+head_fault (Err fault) kept = recording_fault_of fault
 head_fault (Ok found) kept =
     if not (pointwise nat_eq found.id kept.id) then Some (Id kept.id found.id)
     else if not (found.period_us == kept.period_us) then Some (Period kept.period_us found.period_us)
@@ -39,11 +36,7 @@ abbrev pub fault_of : Head → ℕ → List ℕ → Option RecordingFault
 fault_of kept held file = fault_by (head_fault (recording_head file) kept) held (length (samples (body_in (Some file))))
 
 abbrev pub open_fault : HeadFault → OpenFault
-open_fault head.Short = Recording Short
-open_fault head.Magic = Recording Magic
-open_fault (head.Version version) = Recording (Version version)
-open_fault head.NotZero = Recording NotZero
-open_fault head.ReadFault = ReadFault
+open_fault fault = option_map_or Recording (recording_fault_of fault) ReadFault
 
 -- a recording is refused for its first fault, and is opened only where it has none
 abbrev pub IsOpeningAnswer : Option RecordingFault → Result (Unit {0}) OpenFault → Type 0
@@ -58,6 +51,6 @@ pub record IsBehind (n : ℕ) (body left : List ℕ) : Type 0 where
   pub torn_left : torn_bytes left ≡ torn_bytes body
 
 -- the answer for the gauge of this number
-abbrev pub status_of : ℕ → OpenFault → Status
-status_of gauge (Recording fault) = status.Recording gauge fault
-status_of gauge ReadFault = status.ReadFault
+abbrev pub opened_status : ℕ → OpenFault → Status
+opened_status gauge (Recording fault) = status.Recording gauge fault
+opened_status gauge ReadFault = status.ReadFault

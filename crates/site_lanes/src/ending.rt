@@ -59,7 +59,7 @@ pub fn give_back<T: Site>(site: &mut T, mut lanes: Vec<Lane<T::Src>>)
     ensures back { T.out site.new ≡ 0 }
     ensures asked { AsksNothing (T.names_asked site.old) (T.names_asked site.new) }
     ensures files { T.tells → T.files site.new ≡ T.files site.old }
-    ensures fault { (CountRose (T.faults site.old) (T.faults site.new) → ⊥) →
+    ensures cause { (CountRose (T.faults site.old) (T.faults site.new) → ⊥) →
         All HasNotFailed lanes.items }
     ensures later { T.faults site.old ≤ T.faults site.new }
 {
@@ -78,7 +78,7 @@ fn give_back_one<T: Site>(site: &mut T, lane: Lane<T::Src>)
     ensures back { T.out site.new + 1 ≡ T.out site.old }
     ensures asked { AsksNothing (T.names_asked site.old) (T.names_asked site.new) }
     ensures files { T.tells → T.files site.new ≡ T.files site.old }
-    ensures fault { lane.end ≡ ReadFault → CountRose (T.faults site.old) (T.faults site.new) }
+    ensures cause { lane.end ≡ ReadFault → CountRose (T.faults site.old) (T.faults site.new) }
     ensures later { T.faults site.old ≤ T.faults site.new }
 {
     match lane.src {

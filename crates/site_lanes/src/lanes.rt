@@ -25,7 +25,7 @@ ghost use Rattle.recorded.specs.Recorded.{recordings};
 ghost use Rattle.recorded.specs.Asked.{AsksFirst, file_names};
 ghost use Rattle.site_lanes.specs.Lanes.{IsLane, AreLanes, AreHeldTo, HasSource, IsNew};
 ghost use Rattle.site_lanes.specs.Answers.{IsOpening, GaugeAnswers, OpenAnswers};
-ghost use Rattle.site_lanes.specs.Opening.{status_of};
+ghost use Rattle.site_lanes.specs.Opening.{opened_status};
 ghost use Rattle.status.specs.declared.status.Status.TheVariants.{ReadFault};
 ghost use Rattle.outside.specs.declared.site.TheConstants.{MAX_SOURCES_OUT};
 
@@ -36,8 +36,9 @@ use segment_store::Store;
 use site_config::Config;
 use status::Status;
 
-fn status_of(gauge: u16, fault: OpenFault) -> Status
-    ensures { result ≡ status_of gauge fault }
+/// The answer for a recording of this gauge that was not opened.
+pub fn opened_status(gauge: u16, fault: OpenFault) -> Status
+    ensures { result ≡ opened_status gauge fault }
 {
     match fault {
         OpenFault::Recording(fault) => Status::Recording { gauge, fault },
@@ -95,7 +96,7 @@ fn open_lane<T: Site>(
         }),
         Err(fault) => {
             site.give_back(src);
-            Err(status_of(gauge, fault))
+            Err(opened_status(gauge, fault))
         }
     }
 }

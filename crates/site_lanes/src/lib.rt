@@ -16,5 +16,5 @@ mod lanes;
 mod opening;
 
 pub use ending::{first_fault, give_back, have_ended};
-pub use lanes::open_lanes;
+pub use lanes::{open_lanes, opened_status};
 pub use opening::{OpenFault, open_recording};

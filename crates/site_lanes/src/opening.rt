@@ -6,7 +6,7 @@ ghost use Rattle.site_lanes.specs.declared.opening.OpenFault.TheVariants.{ReadFa
 
 use outside::Source;
 use recording::{FillEnd, Head, HeadFault, read_head, skip};
-use status::RecordingFault;
+use status::{RecordingFault, recording_fault_of};
 use std::error::Error;
 use std::fmt;
 
@@ -37,12 +37,9 @@ impl Error for OpenFault {}
 fn open_fault(fault: HeadFault) -> OpenFault
     ensures { result ≡ open_fault fault }
 {
-    match fault {
-        HeadFault::Short => OpenFault::Recording(RecordingFault::Short),
-        HeadFault::Magic => OpenFault::Recording(RecordingFault::Magic),
-        HeadFault::Version(version) => OpenFault::Recording(RecordingFault::Version(version)),
-        HeadFault::NotZero => OpenFault::Recording(RecordingFault::NotZero),
-        HeadFault::ReadFault => OpenFault::ReadFault,
+    match recording_fault_of(fault) {
+        Some(fault) => OpenFault::Recording(fault),
+        None => OpenFault::ReadFault,
     }
 }
 

@@ -1,15 +1,4 @@
-ghost use Rattle.std.specs.Prelude.{
-  ◌≡◌,
-  ◌<◌,
-  ◌≤◌,
-  ℕ,
-  All,
-  length,
-  slice_index,
-  sum,
-  vec_len,
-  vec_capacity,
-};
+ghost use Rattle.std.specs.Prelude.{◌≡◌, ◌<◌, ◌≤◌, ℕ, All, length, sum, vec_capacity};
 ghost use Rattle.calibration.specs.declared.grid.TheConstants.{MAX_CLASSES};
 ghost use Rattle.miner.specs.declared.TheConstants.{MAX_HALF_CYCLES};
 ghost use Rattle.report.specs.Figures.{Figures, Agree, figures_of};

@@ -1,5 +1,6 @@
 ghost use Rattle.std.specs.Prelude.{◌≡◌, ◌*◌, ◌-◌, ◌^◌, ◌<◌, ◌≤◌};
 ghost use Rattle.sn_curve.specs.Curve.{IsShare, IsNormalShare, IsShearShare, denominator_by, denominator_of};
+ghost use Rattle.sn_curve.specs.declared.curve.TheConstants.{FORTIETHS};
 
 use crate::{Detail, Kind};
 use calibration::Grid;
@@ -56,7 +57,7 @@ pub fn share(detail: &Detail, grid: &Grid, k: u16) -> (u128, u128)
 
 fn normal_denominator(category: u128) -> u128
     requires { category ≤ 160 }
-    ensures value { result ≡ denominator_by Kind.Normal (40 * category) }
+    ensures value { result ≡ denominator_by Kind.Normal (FORTIETHS * category) }
     ensures fits { result ≤ 10 ^ 37 }
 {
     SCALE * (KNEE * (FORTIETHS * category)).pow(5)
@@ -66,9 +67,9 @@ fn normal_numerator(range: u128, category: u128) -> u128
     requires range { range ≤ 54000 }
     requires category_from { 36 ≤ category }
     requires category_to { category ≤ 160 }
-    ensures share { IsNormalShare range (40 * category) result
-        (denominator_by Kind.Normal (40 * category)) }
-    ensures below_one { result < denominator_by Kind.Normal (40 * category) }
+    ensures share { IsNormalShare range (FORTIETHS * category) result
+        (denominator_by Kind.Normal (FORTIETHS * category)) }
+    ensures below_one { result < denominator_by Kind.Normal (FORTIETHS * category) }
 {
     let strength = FORTIETHS * category;
     if 1000 * range >= KNEE * strength {
@@ -82,7 +83,7 @@ fn normal_numerator(range: u128, category: u128) -> u128
 
 fn shear_denominator(category: u128) -> u128
     requires { category ≤ 160 }
-    ensures value { result ≡ denominator_by Kind.Shear (40 * category) }
+    ensures value { result ≡ denominator_by Kind.Shear (FORTIETHS * category) }
     ensures fits { result ≤ 10 ^ 37 }
 {
     2 * CYCLES * (FORTIETHS * category).pow(5)
@@ -92,9 +93,9 @@ fn shear_numerator(range: u128, category: u128) -> u128
     requires range { range ≤ 54000 }
     requires category_from { 80 ≤ category }
     requires category_to { category ≤ 160 }
-    ensures share { IsShearShare range (40 * category) result
-        (denominator_by Kind.Shear (40 * category)) }
-    ensures below_one { result < denominator_by Kind.Shear (40 * category) }
+    ensures share { IsShearShare range (FORTIETHS * category) result
+        (denominator_by Kind.Shear (FORTIETHS * category)) }
+    ensures below_one { result < denominator_by Kind.Shear (FORTIETHS * category) }
 {
     if 1000 * range >= SHEAR_CUT_OFF * (FORTIETHS * category) {
         return range.pow(5);

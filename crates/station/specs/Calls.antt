@@ -98,6 +98,6 @@ PushesCall true old new call = new ≡ old ++ call ∷ []
 PushesCall false old new call = new ≡ old
 
 -- what a read gives: the first image, until something was written
-abbrev pub current : Bool → Image → Image → Image
-current true content image = content
-current false content image = image
+abbrev pub current_image : Bool → Image → Image → Image
+current_image true content image = content
+current_image false content image = image

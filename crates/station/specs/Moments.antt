@@ -2,10 +2,10 @@
 --   may_leave-seen    what a read gives is an image that a crash may leave
 --   had_moment-now    the lines told and an image of now are a moment since each time up to now
 --   had_moment-only   since now there is no other
-use Rattle.std.specs.Prelude.{◌≡◌, ◌≤◌, ℕ, ◌+◌, Bool, true, ◌&&◌, nat_le, List, [], ◌∷◌, ◌++◌, length, take, drop, refl}
-use Rattle.std.proofs.Common.{sym, ◌∙◌, ap, subst, arith, append_assoc, length-append, length-drop, rules}
+use Rattle.std.specs.Prelude.{◌≡◌, ◌≤◌, ℕ, ◌+◌, true, List, [], ◌∷◌, ◌++◌, length, take, drop, refl}
+use Rattle.std.proofs.Common.{sym, ◌∙◌, ap, subst, arith, append_assoc, length-append, length-drop}
 use Rattle.std.proofs.lemmas.List.{take_all, take_at, drop_at, length-take}
-use Rattle.std.proofs.lemmas.Bool.Decides.{nat_tests}
+use Rattle.std.proofs.lemmas.Bool.{and_parts, leb-true}
 use Rattle.station.specs.declared.call.Call.{Call}
 use Rattle.station.specs.declared.call.Call.TheVariants.{Other, Write, Sync, Tell}
 use Rattle.station.specs.Station.{Image, Lines, IsTornWrite}
@@ -32,22 +32,13 @@ whole_write at bytes old le =
       no_longer = omega (arith, all, both, rest);
     }
 
-and_left : (a b : Bool) → (a && b) ≡ true → a ≡ true
-and_left a b h = search rules
-
-and_right : (a b : Bool) → (a && b) ≡ true → b ≡ true
-and_right a b h = search rules
-
-le_of : (m n : ℕ) → nat_le m n ≡ true → m ≤ n
-le_of m n h = grind (arith, nat_tests)
-
 seen_from : (calls : List Call) (d : Disk) → have_no_gap d calls ≡ true → DiskMayLeave d d.seen
     → DiskMayLeave (disk_of d calls) (disk_of d calls).seen
 seen_from [] d placed is = is
 seen_from (Other ∷ calls) d placed is = seen_from calls d placed is
 seen_from (Write at bytes ∷ calls) d placed is =
-    let whole = whole_write at bytes.items d.seen (le_of _ _ (and_left _ _ placed)) in
-    seen_from calls (disk_after d (Write at bytes)) (and_right _ _ placed) (d.seen, is, whole)
+    let whole = whole_write at bytes.items d.seen (leb-true _ _ (and_parts _ _ placed).0) in
+    seen_from calls (disk_after d (Write at bytes)) (and_parts _ _ placed).1 (d.seen, is, whole)
 seen_from (Sync ∷ calls) d placed is = seen_from calls (disk_after d Sync) placed refl
 seen_from (Tell line ∷ calls) d placed is = seen_from calls d placed is
 

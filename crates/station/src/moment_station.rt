@@ -1,7 +1,7 @@
 ghost use Rattle.std.specs.Prelude.{◌≡◌, ◌≤◌, ◌<◌, ◌+◌, ◌^◌, [], length, slice_range, IfOk, OnOk, OnErr, IsErr, IsTrue, Contains, ◌↔◌};
 ghost use Rattle.outside.specs.Fault.{HasCause, next_count};
 ghost use Rattle.station.specs.Station.{Overwrites, IsTornWrite, Follows, Only, SameImages, NoNew, Tells};
-ghost use Rattle.station.specs.Calls.{disk, told_lines, bytes_of, first_calls, MayLeave, HadMoment, Passes};
+ghost use Rattle.station.specs.Calls.{told_lines, bytes_of, first_calls, MayLeave, HadMoment, Passes};
 ghost use Rattle.station.specs.Moments.{may_leave-seen, had_moment-now, had_moment-only};
 ghost use Rattle.station.specs.Recorder.{past_of};
 ghost use Rattle.station.specs.MomentStation.{state_of, IsCounted, content_of, lines_told, LeavesImage};

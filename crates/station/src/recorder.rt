@@ -1,5 +1,5 @@
-ghost use Rattle.std.specs.Prelude.{◌≡◌, ◌≤◌, ◌+◌, ◌++◌, [], ◌∷◌, true, length, IsTrue, IsFalse, IfOk, OnOk};
-ghost use Rattle.station.specs.Calls.{current, disk_of, fresh_disk, lines_of, bytes_of, have_no_gap, PushesCall};
+ghost use Rattle.std.specs.Prelude.{◌≡◌, ◌≤◌, ◌+◌, ◌++◌, [], ◌∷◌, true, length, IsTrue, IsFalse, IfOk};
+ghost use Rattle.station.specs.Calls.{current_image, disk_of, fresh_disk, lines_of, bytes_of, have_no_gap, PushesCall};
 ghost use Rattle.station.specs.Station.{Overwrites, IsTornWrite, Follows, Only, NoNew};
 
 use crate::Call;
@@ -14,7 +14,7 @@ pub(crate) struct Recorder {
     is_written: bool,
     told: Vec<u8>,
     calls: Vec<Call>,
-    ghost content_is_seen: { current is_written content.items image.items
+    ghost content_is_seen: { current_image is_written content.items image.items
         ≡ (disk_of (fresh_disk image.items) calls.items).seen },
     ghost no_gap: { have_no_gap (fresh_disk image.items) calls.items ≡ true },
     ghost lines: { told.items ≡ bytes_of (lines_of calls.items) },

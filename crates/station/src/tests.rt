@@ -1,5 +1,3 @@
-ghost use Rattle.std.specs.Prelude.{◌≡◌, ◌≤◌};
-
 use super::*;
 use outside::Failed;
 use std::alloc::Global;

@@ -1,4 +1,5 @@
 pub mod Status
 pub mod Refused
 pub mod Printing
+pub mod RecordingFaults
 pub mod FaultText

@@ -1,12 +1,14 @@
 -- The answer for a store that is not resumed.
 --   store_status   by what the store is refused for
 --   IsRefused      what a store is refused for, by its image
-use Rattle.std.specs.Prelude.{ℕ, List, Err}
+--   IsRefusedAs    the same, by what is told of it
+use Rattle.std.specs.Prelude.{◌≡◌, ℕ, List, Err}
 use Rattle.station.specs.Station.{Image}
 use Rattle.calibration.specs.declared.setup.Setup.{Setup}
 use Rattle.segment_store.specs.Opening.{Resumes}
 use Rattle.segment_store.specs.declared.fault.ResumeFault.{ResumeFault}
 use Rattle.segment_store.specs.declared.fault.ResumeFault.TheVariants as resume
+use Rattle.status.specs.declared.status.StoreFault.{StoreFault}
 use Rattle.status.specs.declared.status.StoreFault.TheVariants as store
 use Rattle.status.specs.declared.status.Status.{Status}
 use Rattle.status.specs.declared.status.Status.TheVariants.{Store as BadStore, DiskFault, OutOfMemory}
@@ -22,3 +24,7 @@ store_status resume.OutOfMemory = OutOfMemory
 -- the first thing wrong with a store, in the order of the file
 abbrev pub IsRefused : Setup → Image → ResumeFault → Type 0
 IsRefused setup image fault = Resumes {X = ℕ × List ℕ} setup image (λ x. x) (Err fault)
+
+abbrev pub IsRefusedAs : Setup → Image → StoreFault → Type 0
+IsRefusedAs setup image told =
+    (fault : ResumeFault) × (store_status fault ≡ BadStore told) × IsRefused setup image fault

@@ -1,5 +1,5 @@
 -- An image with the head has no fault of its head.
-use Rattle.std.proofs.Common.{◌≡◌, ℕ, ◌+◌, ◌-◌, ◌*◌, ◌<◌, ◌≤◌, List, [], ◌∷◌, ◌++◌, length, take, drop, slice_range, Option, Some, None, refl, sym, ap, subst, ◌∙◌, arith, append_assoc, length-append}
+use Rattle.std.proofs.Common.{◌≡◌, ℕ, ◌+◌, ◌-◌, ◌*◌, ◌<◌, ◌≤◌, List, [], ◌∷◌, ◌++◌, length, take, drop, slice_range, None, refl, sym, ap, ◌∙◌, arith, append_assoc, length-append}
 use Rattle.std.specs.Prelude.{All}
 use Rattle.std.proofs.lemmas.List.{take_at, drop_at}
 use Rattle.std.proofs.lemmas.List.Elements.{All-head, All-tail}
@@ -9,7 +9,7 @@ use Rattle.recording.specs.declared.head.Head.{Head}
 use Rattle.segment_bytes.specs.declared.layout.Layout.{Layout}
 use Rattle.segment_bytes.specs.declared.layout.Layout.TheVariants.{One, Two}
 use Rattle.recording.specs.Head.{IsRecorded}
-use Rattle.store_head.specs.Head.{HeadValue, IsHead, version_of, front, numbers, gauge, gauges, head_of, start_of, gauge_place}
+use Rattle.store_head.specs.Head.{HeadValue, IsHead, front, numbers, gauge, gauges, head_of, start_of, gauge_place}
 use Rattle.store_head.specs.HeadFaults.{front_fault, gauge_fault, gauge_at, gauges_fault, head_fault, layout_in, recording_in}
 use Rattle.lemmas.proofs.Outcomes.{none_both}
 use Rattle.segment_rules.proofs.Chosen.{kept_none}

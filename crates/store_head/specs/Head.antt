@@ -7,7 +7,7 @@
 use Rattle.std.specs.Prelude.{◌≡◌, ◌≤◌, ◌+◌, ◌*◌, ℕ, List, [], ◌∷◌, ◌++◌, length, All}
 use Rattle.std.specs.Int.{w16, w32, w64, to_be_bytes, cast_unsigned}
 use Rattle.calibration.specs.Gain.{GainValue, IsGain}
-use Rattle.calibration.specs.Grid.{GridValue, IsGrid}
+use Rattle.calibration.specs.Grid.{IsGrid}
 use Rattle.segment_bytes.specs.declared.layout.Layout.{Layout}
 use Rattle.segment_bytes.specs.declared.layout.Layout.TheVariants.{One, Two}
 use Rattle.recording.specs.Head.{IsRecorded}
@@ -26,9 +26,6 @@ pub record HeadValue : Type 0 where
 
 abbrev pub see_head : Layout → StoreHead → HeadValue
 see_head l h = record { layout = l; setup = h.setup; heads = h.heads }
-
-abbrev pub gauges_in : HeadValue → ℕ
-gauges_in h = length h.setup.gains
 
 -- "SGST"
 abbrev pub magic : List ℕ

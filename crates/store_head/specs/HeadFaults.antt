@@ -3,7 +3,7 @@
 --   gauge_fault    of the 40 bytes of one gauge
 --   gauges_fault   of all gauges
 --   head_fault     of the whole head
-use Rattle.std.specs.Prelude.{◌+◌, ◌*◌, ℕ, ℤ, pos, ◌==◌, ◌&&◌, ◌||◌, not, nat_le, nat_lt, if◌then◌else◌, Bool, List, [], ◌∷◌, length, take, slice_index, slice_range, Option, Some, None}
+use Rattle.std.specs.Prelude.{◌+◌, ℕ, ℤ, pos, ◌==◌, ◌&&◌, ◌||◌, not, nat_le, nat_lt, if◌then◌else◌, Bool, List, [], ◌∷◌, length, take, slice_index, slice_range, Option, None}
 use Rattle.std.specs.Int.{Width, w16, w32, w64, byte_len, from_be_bytes, cast_signed}
 use Rattle.std.specs.Ordering.{int_eq}
 use Rattle.std.specs.Option.{option_or}

@@ -1,5 +1,4 @@
 ghost use Rattle.std.specs.Prelude.{◌≡◌, ◌≤◌, length};
-ghost use Rattle.std.specs.Option.{option_or};
 ghost use Rattle.segment_rules.specs.Tests.{unless as unless_in};
 ghost use Rattle.store_head.specs.HeadFaults.{
   differs as differs_in,
@@ -29,15 +28,6 @@ fn is_store(bytes: &[u8; FRONT_LENGTH]) -> bool
         && ((bytes[1] == b'S' && bytes[2] == b'G') && (bytes[3] == b'S' && bytes[4] == b'T'))
 }
 
-fn first_of(first: Option<HeadFault>, second: Option<HeadFault>) -> Option<HeadFault>
-    ensures { result ≡ option_or first second }
-{
-    match first {
-        Some(fault) => Some(fault),
-        None => second,
-    }
-}
-
 fn unless(holds: bool, fault: HeadFault) -> Option<HeadFault>
     ensures { result ≡ unless_in holds fault }
 {
@@ -65,7 +55,7 @@ fn grid_fault(grid: &Grid, bytes: &[u8; FRONT_LENGTH]) -> Option<HeadFault>
         u16_in(bytes, 20) as i64,
         grid.reference() as i64,
     );
-    first_of(classes, first_of(width, first_of(low, reference)))
+    classes.or(width.or(low.or(reference)))
 }
 
 fn is_version(version: u8) -> bool
@@ -106,10 +96,7 @@ pub fn front_fault(setup: &Setup, size: u64, bytes: &[u8; FRONT_LENGTH]) -> Opti
     let gauges = differs(Field::Gauges, u16_in(bytes, 6) as i64, count as i64);
     let whole = unless(is_whole(count, size, bytes), HeadFault::NotAStore);
     let grid = grid_fault(&setup.grid, bytes);
-    first_of(
-        magic,
-        first_of(version, first_of(gauges, first_of(whole, grid))),
-    )
+    magic.or(version.or(gauges.or(whole.or(grid))))
 }
 
 /// The first fault of the bytes of a gauge.
@@ -123,7 +110,7 @@ pub fn gauge_fault(gauge: u16, gain: &Gain, bytes: &[u8; GAUGE_LENGTH]) -> Optio
         gain.den() as i64,
     );
     let offset = differs(Field::Offset(gauge), i64_in(bytes, 32), gain.offset());
-    first_of(num, first_of(den, offset))
+    num.or(den.or(offset))
 }
 
 /// The head of the recording that the bytes of a gauge name.

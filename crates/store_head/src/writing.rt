@@ -1,19 +1,9 @@
-ghost use Rattle.std.specs.Prelude.{◌≡◌, ◌≤◌, ◌+◌, ◌*◌, ◌++◌, length, IfOk, OnOk};
+ghost use Rattle.std.specs.Prelude.{◌≡◌, ◌≤◌, ◌+◌, ◌++◌, length, IfOk, OnOk};
 ghost use Rattle.calibration.specs.Gain.{IsGain};
 ghost use Rattle.calibration.specs.Grid.{IsGrid};
 ghost use Rattle.segment_bytes.specs.declared.layout.Layout.TheVariants.{One};
 ghost use Rattle.recording.specs.Head.{IsRecorded};
-ghost use Rattle.store_head.specs.Head.{
-  IsHead,
-  empty_store,
-  front as front_bytes,
-  gauge as gauge_bytes,
-  gauges as gauges_bytes,
-  numbers,
-  see_head,
-  start_of,
-  version_of as version_in,
-};
+ghost use Rattle.store_head.specs.Head.{IsHead, empty_store, front as front_bytes, gauge as gauge_bytes, numbers, see_head, start_of, version_of as version_in};
 ghost use Rattle.calibration.specs.declared.limits.TheConstants.{MAX_GAUGES};
 ghost use Rattle.segment_bytes.specs.declared.layout.TheConstants.{MAX_CLASSES_ONE};
 ghost use Rattle.store_head.specs.declared.setup.TheConstants.{GAUGE_LENGTH};

@@ -1,5 +1,3 @@
-ghost use Rattle.std.specs.Prelude.{◌≤◌};
-
 use crate::stores::{
     FIRST, NEXT, Refusal, WHOLE, assert_whole, held, image, made, made_in, put,
     put_after_a_failure, setup, stored, stored_in,

@@ -5,7 +5,7 @@
 #![tactic(auto)]
 
 ghost use Rattle.tables.specs.Tables.{sum_of_tables, table_with_bins, lower, raise};
-ghost use Rattle.std.specs.Prelude.{All, Bool, if◌then◌else◌, slice_index, length, replicate, sum, ◌+◌, ◌<◌, ◌≡◌, ◌≤◌, ◌^◌, ℕ};
+ghost use Rattle.std.specs.Prelude.{All, if◌then◌else◌, slice_index, length, replicate, sum, ◌+◌, ◌<◌, ◌≡◌, ◌≤◌, ◌^◌, ℕ};
 
 use tally::Bin;
 

@@ -1,4 +1,5 @@
-ghost use Rattle.std.specs.Prelude.{◌≡◌, ℕ, ◌+◌, ◌^◌, ◌<◌, ◌≤◌, ◌⊎◌, ◌==◌, ◌&&◌, if◌then◌else◌, [], All, IfOk, find, length, take, slice_index};
+ghost use Rattle.std.specs.Prelude.{◌≡◌, ℕ, ◌+◌, ◌<◌, ◌≤◌, ◌⊎◌, if◌then◌else◌, [], All, IfOk, find, length, take, slice_index};
+ghost use Rattle.turning_points.specs.Pairs.{is_pair};
 ghost use Rattle.calibration.specs.declared.grid.TheConstants.{MAX_CLASSES, MIN_CLASSES};
 
 use crate::cells::{Cell, MAX_TOTAL};
@@ -27,7 +28,8 @@ impl Model for Dense {
 
     ghost view = { λ t. counts_in t.classes t.room t.counts.items };
 
-    ghost invariant = { λ t. IsLayout t.classes t.room t.counts.items t.touched.items t.used t.total };
+    ghost invariant = { λ t. IsLayout t.classes t.room t.counts.items t.touched.items t.used
+        t.total };
 }
 
 impl Dense {
@@ -101,8 +103,8 @@ impl Dense {
         requires within { hi < self.old.classes }
         requires total { total_of self.old.cells + n ≤ MAX_TOTAL }
         requires room { HasPlace self.old lo hi n }
-        ensures added { (a b : ℕ) → count_of self.new.cells a b ≡
-            count_of self.old.cells a b + (if a == lo && b == hi then n else 0) }
+        ensures added { (a b : ℕ) → count_of self.new.cells a b ≡ count_of self.old.cells a b
+            + (if is_pair a b (record { lo = lo; hi = hi }) then n else 0) }
         ensures total { total_of self.new.cells ≡ total_of self.old.cells + n }
         ensures cells { length self.new.cells ≤ length self.old.cells + 1 }
         ensures classes { self.new.classes ≡ self.old.classes }
@@ -158,7 +160,7 @@ impl Dense {
         requires room { length self.old.cells ≤ length out.old }
         ensures cells { take result out.new ≡ self.old.cells }
         ensures count { result ≡ length self.old.cells }
-        ensures same { self.new ≡ self.old }
+        ensures unchanged { self.new ≡ self.old }
     {
         order(&mut self.touched, self.used);
         write_cells(&self.counts, self.classes, &self.touched, self.used, out);

@@ -1,7 +1,8 @@
-ghost use Rattle.std.specs.Prelude.{◌≡◌, ℕ, ◌+◌, ◌*◌, ◌^◌, ◌<◌, ◌≤◌, ◌⊎◌, ◌==◌, ◌&&◌, if◌then◌else◌, [], All, IfOk, find, take, length, vec_capacity, vec_len, slice_index};
+ghost use Rattle.std.specs.Prelude.{◌≡◌, ℕ, ◌+◌, ◌^◌, ◌<◌, ◌≤◌, ◌⊎◌, if◌then◌else◌, [], All, IfOk, find, take, length, vec_capacity, vec_len, slice_index};
 ghost use Rattle.std.specs.Bool.{OnTrue, OnFalse};
 ghost use Rattle.tally.specs.Counts.{IsCell, IsCounts, count_of, total_of, is_from, most_cells, HasPlace, HasGreatestRoom};
 ghost use Rattle.tally.specs.Log.{cells_of};
+ghost use Rattle.turning_points.specs.Pairs.{is_pair};
 ghost use Rattle.calibration.specs.declared.grid.TheConstants.{MAX_CLASSES, MIN_CLASSES};
 
 use crate::cells::{Cell, MAX_TOTAL};
@@ -116,7 +117,7 @@ impl Log {
         requires room { length self.old.cells ≤ length out.old }
         ensures cells { take result out.new ≡ self.old.cells }
         ensures count { result ≡ length self.old.cells }
-        ensures same { self.new ≡ self.old }
+        ensures unchanged { self.new ≡ self.old }
     {
         gather(&mut self.entries);
         put_first(out, &self.entries);
@@ -130,8 +131,8 @@ impl Log {
         requires within { hi < self.old.classes }
         requires total { total_of self.old.cells + n ≤ MAX_TOTAL }
         requires room { HasPlace self.old lo hi n }
-        ensures added { (a b : ℕ) → count_of self.new.cells a b ≡
-            count_of self.old.cells a b + (if a == lo && b == hi then n else 0) }
+        ensures added { (a b : ℕ) → count_of self.new.cells a b ≡ count_of self.old.cells a b
+            + (if is_pair a b (record { lo = lo; hi = hi }) then n else 0) }
         ensures total { total_of self.new.cells ≡ total_of self.old.cells + n }
         ensures cells { length self.new.cells ≤ length self.old.cells + 1 }
         ensures classes { self.new.classes ≡ self.old.classes }

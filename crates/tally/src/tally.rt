@@ -1,6 +1,7 @@
-ghost use Rattle.std.specs.Prelude.{◌≡◌, ℕ, take, ◌+◌, ◌^◌, ◌<◌, ◌≤◌, ◌⊎◌, ◌==◌, ◌&&◌, if◌then◌else◌, [], All, IfOk, find, length, slice_index};
+ghost use Rattle.std.specs.Prelude.{◌≡◌, ℕ, take, ◌+◌, ◌<◌, ◌≤◌, ◌⊎◌, if◌then◌else◌, [], All, IfOk, find, length, slice_index};
 ghost use Rattle.tally.specs.Counts.{IsCell, IsCounts, count_of, total_of, is_from, most_cells, HasGreatestRoom, HasPlace};
 ghost use Rattle.tally.specs.Log.{cells_of};
+ghost use Rattle.turning_points.specs.Pairs.{is_pair};
 ghost use Rattle.calibration.specs.declared.grid.TheConstants.{MAX_CLASSES, MIN_CLASSES};
 
 use crate::cells::{Cell, MAX_TOTAL};
@@ -108,8 +109,8 @@ impl Tally {
         requires within { hi < self.old.classes }
         requires total { total_of self.old.cells + n ≤ MAX_TOTAL }
         requires room { HasPlace self.old lo hi n }
-        ensures added { (a b : ℕ) → count_of self.new.cells a b ≡
-            count_of self.old.cells a b + (if a == lo && b == hi then n else 0) }
+        ensures added { (a b : ℕ) → count_of self.new.cells a b ≡ count_of self.old.cells a b
+            + (if is_pair a b (record { lo = lo; hi = hi }) then n else 0) }
         ensures total { total_of self.new.cells ≡ total_of self.old.cells + n }
         ensures cells { length self.new.cells ≤ length self.old.cells + 1 }
         ensures classes { self.new.classes ≡ self.old.classes }
@@ -156,7 +157,7 @@ impl Tally {
     }
 
     /// Adds each count of `other`. Takes a step for each cell of `other`, or for each entry of its
-    /// log.
+    /// log; a table that goes into a log is walked from end to end.
     pub fn merge(&mut self, other: &Tally)
         requires classes { self.old.classes ≡ other.now.classes }
         requires total { total_of self.old.cells + total_of other.now.cells ≤ MAX_TOTAL }
@@ -198,7 +199,7 @@ impl Tally {
         requires room { length self.old.cells ≤ length out.old }
         ensures cells { take result out.new ≡ self.old.cells }
         ensures count { result ≡ length self.old.cells }
-        ensures same { self.new ≡ self.old }
+        ensures unchanged { self.new ≡ self.old }
     {
         match &mut self.storage {
             Storage::Dense(dense) => dense.write(out),

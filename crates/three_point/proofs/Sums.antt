@@ -4,9 +4,9 @@ use Rattle.std.specs.Prelude.{All, nat_lt}
 use Rattle.std.proofs.lemmas.Bool.Decides.{nat_tests}
 use Rattle.std.proofs.lemmas.List.Elements.{All-nil, All-head, All-tail}
 use Rattle.turning_points.specs.Points.{points}
-use Rattle.turning_points.specs.Pairs.{Pair}
+use Rattle.turning_points.specs.Pairs.{Pair, is_pair}
 use Rattle.turning_points.proofs.Levels.{All-points}
-use Rattle.three_point.specs.Run.{CountedRange, run, same, half_units_of_pair, half_units_at_range}
+use Rattle.three_point.specs.Run.{CountedRange, run, half_units_of_pair, half_units_at_range}
 use Rattle.three_point.specs.Bounds.{IsWithin}
 use Rattle.three_point.specs.Sums.{sum_at_range, HasRangeSums}
 use Rattle.three_point.proofs.Bounds.{run_within}
@@ -35,12 +35,12 @@ sum_at_range-doubled f k (suc n) = omega (arith, sum_at_range-doubled f k n)
 
 -- one range, over the first n lower levels
 term : (halves k n : ℕ) (x : Pair) → x.lo ≤ x.hi →
-    (if k == x.hi - x.lo && nat_lt x.lo n then halves else 0) + halves * same n (n + k) x ≡
+    (if k == x.hi - x.lo && nat_lt x.lo n then halves else 0) + (if is_pair n (n + k) x then halves else 0) ≡
     (if k == x.hi - x.lo && nat_lt x.lo (suc n) then halves else 0)
 term halves k n x h = grind (arith, nat_tests)
 
 one_range : (halves k n : ℕ) (x : Pair) → x.lo ≤ x.hi →
-    sum_at_range (λ lo hi. halves * same lo hi x) k n ≡ (if k == x.hi - x.lo && nat_lt x.lo n then halves else 0)
+    sum_at_range (λ lo hi. if is_pair lo hi x then halves else 0) k n ≡ (if k == x.hi - x.lo && nat_lt x.lo n then halves else 0)
 one_range halves k zero x h = grind (arith, nat_tests)
 one_range halves k (suc n) x h = omega (arith, one_range halves k n x h, term halves k n x h)
 
@@ -56,7 +56,7 @@ sum_is k n (r ∷ l) a =
     let w = All-head (IsWithin (n + k)) r l a in
     omega (
       arith,
-      sum_at_range-added (λ lo hi. r.halves * same lo hi r.pair) (λ lo hi. half_units_of_pair lo hi l) k n,
+      sum_at_range-added (λ lo hi. if is_pair lo hi r.pair then r.halves else 0) (λ lo hi. half_units_of_pair lo hi l) k n,
       one_range r.halves k n r.pair w.ordered,
       all_lower r.halves k n r.pair w.ordered w.below,
       sum_is k n l (All-tail (IsWithin (n + k)) r l a),

@@ -11,7 +11,7 @@
 --   half_units            the half units at a range in a level history
 -- A list of live points has the newest first, and the oldest of them is S. The point z that was read last stands apart:
 -- X is the range from y to z, where y is the newest live point, and Y the range from x to y.
-use Rattle.std.specs.Prelude.{ℕ, ◌+◌, ◌-◌, ◌*◌, nat_le, ◌==◌, if◌then◌else◌, List, [], ◌∷◌, ◌++◌}
+use Rattle.std.specs.Prelude.{ℕ, ◌+◌, ◌-◌, nat_le, ◌==◌, if◌then◌else◌, List, [], ◌∷◌, ◌++◌}
 use Rattle.turning_points.specs.Points.{points}
 use Rattle.turning_points.specs.Pairs.{Pair, pair, range, is_pair}
 
@@ -52,12 +52,9 @@ abbrev pub run : List ℕ → List ℕ → List CountedRange
 run live [] = ranges_left live
 run live (z ∷ l) = ranges_counted z live ++ run (live_after z live) l
 
-abbrev pub same : ℕ → ℕ → Pair → ℕ
-same lo hi x = if is_pair lo hi x then 1 else 0
-
 abbrev pub half_units_of_pair : ℕ → ℕ → List CountedRange → ℕ
 half_units_of_pair lo hi [] = 0
-half_units_of_pair lo hi (x ∷ xs) = x.halves * same lo hi x.pair + half_units_of_pair lo hi xs
+half_units_of_pair lo hi (x ∷ xs) = (if is_pair lo hi x.pair then x.halves else 0) + half_units_of_pair lo hi xs
 
 abbrev pub half_units_at_range : ℕ → List CountedRange → ℕ
 half_units_at_range k [] = 0

@@ -1,4 +1,4 @@
-ghost use Rattle.std.specs.Prelude.{◌≡◌, ℕ, ◌+◌, ◌≤◌, ◌∷◌, ◌++◌, [], List, length, IfOk, vec_len, vec_capacity};
+ghost use Rattle.std.specs.Prelude.{◌≡◌, ◌+◌, ◌≤◌, ◌∷◌, ◌++◌, [], List, IfOk, vec_len, vec_capacity};
 ghost use Rattle.turning_points.specs.Points.{points as points_of};
 ghost use Rattle.three_point.specs.Run.{CountedRange, run};
 ghost use Rattle.three_point.specs.Ranges.{counted_range_of, counted_ranges};

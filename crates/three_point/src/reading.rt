@@ -1,4 +1,4 @@
-ghost use Rattle.std.specs.Prelude.{◌≡◌, ℕ, ◌+◌, ◌<◌, ◌≤◌, ◌↔◌, ◌++◌, All, IsTrue, List, length, reverse, take};
+ghost use Rattle.std.specs.Prelude.{◌≡◌, ◌+◌, ◌<◌, ◌≤◌, ◌↔◌, ◌++◌, All, IsTrue, List, length, reverse, take};
 ghost use Rattle.turning_points.specs.Pairs.{range};
 ghost use Rattle.three_point.specs.Run.{CountedRange, counted_range, live_after, ranges_counted, ranges_left};
 ghost use Rattle.three_point.specs.Ranges.{counted_range_of};

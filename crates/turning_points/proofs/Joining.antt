@@ -1,5 +1,5 @@
 -- The points where two histories meet.
-use Rattle.std.proofs.Common.{◌≡◌, zero, Bool, true, false, ◌==◌, if◌then◌else◌, ◌≢◌, ℕ, suc, ◌+◌, ◌<◌, ◌⊎◌, List, [], ◌∷◌, ◌++◌, length, get_or, length-append, refl, sym, ap, ◌∙◌, subst, arith}
+use Rattle.std.proofs.Common.{◌≡◌, zero, Bool, true, false, ◌==◌, if◌then◌else◌, ◌≢◌, ℕ, suc, ◌+◌, List, [], ◌∷◌, ◌++◌, length, get_or, length-append, refl, sym, ap, ◌∙◌, subst, arith}
 use Rattle.std.proofs.lemmas.Bool.Decides.{nat_tests}
 use Rattle.turning_points.specs.Points.{is_turn, points, IsBetween, IsTurn, OnSide}
 use Rattle.turning_points.specs.EndPoints.{EndPoints, ends_of, last_point, last_but_one}

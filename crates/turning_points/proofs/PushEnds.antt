@@ -5,7 +5,7 @@ use Rattle.std.proofs.lemmas.Bool.Decides.{nat_tests}
 use Rattle.turning_points.specs.Points.{IsBetween, IsTurn}
 use Rattle.turning_points.specs.EndPoints.{EndPoints, ends_of, last_point, last_but_one, IsEnds, ends_prepend, ends_of_both, ends_push, only_point}
 use Rattle.turning_points.proofs.Zigzag.{IsZigzag, two, inner, zig_tail, ends_differ}
-use Rattle.turning_points.proofs.Put.{put_equal, put_second, put_turn, put_two, put_first}
+use Rattle.turning_points.proofs.Put.{turn_or, put_equal, put_second, put_turn, put_two, put_first}
 use Rattle.turning_points.proofs.PutEnds.{case_of}
 use Rattle.turning_points.proofs.MeetEnds.{Left as Parted, left_zero, left_one, left_two, left_long, left_of, twice, ends_of_both_zero, ends_of_both_one, ends_of_both_two, ends_of_both_long, long}
 
@@ -15,39 +15,32 @@ put_one_same x p e = put_equal p (only_point x) (omega arith) e
 put_one_other : (x p : ℕ) → p ≢ x → ends_prepend p (only_point x) ≡ record { points = 2; first = p; second = x; before = p; last = x }
 put_one_other x p n = put_second p (only_point x) refl n
 
-data PushCase (x : ℕ) (e : EndPoints) : Type 0 where
+-- what one level more is behind a history with these ends
+pub data PushCase (x : ℕ) (e : EndPoints) : Type 0 where
   on_none : e.points ≡ 0 → PushCase x e
-  on_one_same : e.points ≡ 1 → e.last ≡ x → PushCase x e
-  on_one_other : e.points ≡ 1 → e.last ≢ x → PushCase x e
-  on_same : 2 ≤ e.points → e.last ≡ x → PushCase x e
+  on_equal : 1 ≤ e.points → x ≡ e.last → PushCase x e
+  on_second : e.points ≡ 1 → x ≢ e.last → PushCase x e
   on_turn : 2 ≤ e.points → IsTurn e.before e.last x → PushCase x e
   on_passed : 2 ≤ e.points → IsBetween e.before e.last x → PushCase x e
 
-pub turn_or : (p l x : ℕ) → l ≢ x → p ≢ l → IsTurn p l x ⊎ IsBetween p l x
-turn_or p l x m n = grind arith
-
-push_case : (K x : ℕ) (e : EndPoints) → IsEnds K e → PushCase x e
-push_case K x e i = pick_none (cases_lt e.points 1)
+pub push_case : (x : ℕ) (e : EndPoints) → (2 ≤ e.points → e.before ≢ e.last) → PushCase x e
+push_case x e d = pick_none (cases_lt e.points 1)
   where
     pick_turn : 2 ≤ e.points → (IsTurn e.before e.last x ⊎ IsBetween e.before e.last x) → PushCase x e
     pick_turn h (inl t) = on_turn h t
     pick_turn h (inr b) = on_passed h b
 
-    pick_one : e.points ≡ 1 → ((e.last ≡ x) ⊎ (e.last ≢ x)) → PushCase x e
-    pick_one h (inl q) = on_one_same h q
-    pick_one h (inr q) = on_one_other h q
+    pick_long : 1 ≤ e.points → x ≢ e.last → ((e.points < 2) ⊎ (2 ≤ e.points)) → PushCase x e
+    pick_long h n (inl s) = let p : e.points ≡ 1 = omega arith in on_second p n
+    pick_long h n (inr s) = pick_turn s (turn_or e.before e.last x (d s) (λ q. n (sym q)))
 
-    pick_more : 2 ≤ e.points → ((e.last ≡ x) ⊎ (e.last ≢ x)) → PushCase x e
-    pick_more h (inl q) = on_same h q
-    pick_more h (inr q) = pick_turn h (turn_or e.before e.last x q (i.differ h).1)
-
-    pick_long : 1 ≤ e.points → ((e.points < 2) ⊎ (2 ≤ e.points)) → PushCase x e
-    pick_long h (inl s) = pick_one (omega arith) (cases_eq e.last x)
-    pick_long h (inr s) = pick_more s (cases_eq e.last x)
+    pick_some : 1 ≤ e.points → ((x ≡ e.last) ⊎ (x ≢ e.last)) → PushCase x e
+    pick_some h (inl q) = on_equal h q
+    pick_some h (inr n) = pick_long h n (cases_lt e.points 2)
 
     pick_none : ((e.points < 1) ⊎ (1 ≤ e.points)) → PushCase x e
     pick_none (inl h) = let p : e.points ≡ 0 = omega arith in on_none p
-    pick_none (inr h) = pick_long h (cases_lt e.points 2)
+    pick_none (inr h) = pick_some h (cases_eq x e.last)
 
 -- what the last two points make of one level more
 twice_same : (x p l : ℕ) → p ≢ l → l ≡ x → ends_prepend p (ends_prepend l (only_point x)) ≡
@@ -99,6 +92,10 @@ differs_passed : (p l x : ℕ) → IsBetween p l x → l ≢ x
 differs_passed p l x t = grind arith
 
 module _ (K x : ℕ) (e : EndPoints) (i : IsEnds K e) where
+  one_same : e.points ≡ 1 → e.last ≡ x → ends_push x e ≡ ends_of_both e (only_point x)
+  one_same h q = let w = i.one h in end_same x e (omega arith) q ∙ five_same _ _ _ _ _ _ _ _ _ _ h (sym w.2 ∙ q) w.0 w.1 q
+      ∙ sym (ends_of_both_one e (only_point x) h ∙ put_one_same x e.last q)
+
   long_same : 3 ≤ e.points → e.last ≡ x → ends_push x e ≡ ends_of_both e (only_point x)
   long_same h q = end_same x e (omega arith) q ∙ five_same _ _ _ _ _ _ _ _ _ _ (omega arith) refl refl refl q
       ∙ sym (ends_of_both_long e (only_point x) h ∙ ap (long e) (twice_same x e.before e.last (i.differ (omega arith)).1 q))
@@ -125,15 +122,18 @@ module _ (K x : ℕ) (e : EndPoints) (i : IsEnds K e) where
 
   push_by : PushCase x e → ends_push x e ≡ ends_of_both e (only_point x)
   push_by (on_none h) = end_none x e h ∙ sym (ends_of_both_zero e (only_point x) h)
-  push_by (on_one_same h q) = let w = i.one h in end_same x e (omega arith) q ∙ five_same _ _ _ _ _ _ _ _ _ _ h (sym w.2 ∙ q) w.0 w.1 q
-      ∙ sym (ends_of_both_one e (only_point x) h ∙ put_one_same x e.last q)
-  push_by (on_one_other h q) = let w = i.one h in end_one x e h q ∙ five_same _ _ _ _ _ _ _ _ _ _ refl (sym w.2) refl refl refl
-      ∙ sym (ends_of_both_one e (only_point x) h ∙ put_one_other x e.last q)
-  push_by (on_same h q) = by_two (cases_lt e.points 3)
+  push_by (on_equal h q) = by_one (cases_lt e.points 2)
     where
-      by_two : ((e.points < 3) ⊎ (3 ≤ e.points)) → ends_push x e ≡ ends_of_both e (only_point x)
-      by_two (inl s) = two_same (omega arith) q
-      by_two (inr s) = long_same s q
+      by_two : ((e.points < 3) ⊎ (3 ≤ e.points)) → 2 ≤ e.points → ends_push x e ≡ ends_of_both e (only_point x)
+      by_two (inl s) m = two_same (omega arith) (sym q)
+      by_two (inr s) m = long_same s (sym q)
+
+      by_one : ((e.points < 2) ⊎ (2 ≤ e.points)) → ends_push x e ≡ ends_of_both e (only_point x)
+      by_one (inl s) = one_same (omega arith) (sym q)
+      by_one (inr s) = by_two (cases_lt e.points 3) s
+  push_by (on_second h n) = let w = i.one h in
+      end_one x e h (λ q. n (sym q)) ∙ five_same _ _ _ _ _ _ _ _ _ _ refl (sym w.2) refl refl refl
+      ∙ sym (ends_of_both_one e (only_point x) h ∙ put_one_other x e.last (λ q. n (sym q)))
   push_by (on_turn h q) = by_two (cases_lt e.points 3)
     where
       by_two : ((e.points < 3) ⊎ (3 ≤ e.points)) → ends_push x e ≡ ends_of_both e (only_point x)
@@ -147,7 +147,7 @@ module _ (K x : ℕ) (e : EndPoints) (i : IsEnds K e) where
 
   -- one level more is a part of that one level
   pub push_is_meets : ends_push x e ≡ ends_of_both e (only_point x)
-  push_is_meets = push_by (push_case K x e i)
+  push_is_meets = push_by (push_case x e (λ q. (i.differ q).1))
 
 ends_of_both_none_by : (K : ℕ) (e f : EndPoints) → IsEnds K e → IsEnds K f → Parted e.points → (ends_of_both e f).points ≡ 0 →
     (e.points ≡ 0) × (f.points ≡ 0)

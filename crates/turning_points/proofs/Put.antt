@@ -13,7 +13,7 @@ pub data PutCase (x : ℕ) (e : EndPoints) : Type 0 where
   at_turn : 2 ≤ e.points → IsTurn x e.first e.second → PutCase x e
   at_passed : 2 ≤ e.points → IsBetween x e.first e.second → PutCase x e
 
-turn_or : (x a b : ℕ) → x ≢ a → a ≢ b → IsTurn x a b ⊎ IsBetween x a b
+pub turn_or : (x a b : ℕ) → x ≢ a → a ≢ b → IsTurn x a b ⊎ IsBetween x a b
 turn_or x a b m n = grind arith
 
 case_turn : (x : ℕ) (e : EndPoints) → 2 ≤ e.points → (IsTurn x e.first e.second ⊎ IsBetween x e.first e.second) → PutCase x e
@@ -91,6 +91,10 @@ put_first x e (at_passed p q) = passed_first x e p q (cases_lt e.points 3)
         (ap (λ g. g.first) (put_two x e t q), omega arith, omega arith, omega arith)
     passed_first x e p q (inr s) = let r = ap (λ g. g.points) (put_passed x e s q) in
         (ap (λ g. g.first) (put_passed x e s q), omega arith, omega arith, omega arith)
+
+-- a level lies on its own side of another
+pub side_self : (a b : ℕ) → a ≢ b → OnSide a b b
+side_self a b n = grind arith
 
 same_self : (p x n : ℕ) → p ≢ x → n ≡ x → OnSide p x n
 same_self p x n d e = grind arith

@@ -6,7 +6,7 @@
 --   ends_prepend  the ends after a level was put before
 --   ends_of_both  the ends of two histories, one after the other
 --   ends_push     the ends after a level was put behind
-use Rattle.std.specs.Prelude.{◌≡◌, ◌≢◌, ℕ, ◌+◌, ◌-◌, ◌<◌, ◌≤◌, ◌⊎◌, ◌==◌, if◌then◌else◌, List, [], ◌∷◌, length, slice_index}
+use Rattle.std.specs.Prelude.{◌≡◌, ◌≢◌, ℕ, ◌+◌, ◌-◌, ◌<◌, ◌≤◌, ◌==◌, if◌then◌else◌, List, [], ◌∷◌, length, slice_index}
 use Rattle.turning_points.specs.Points.{is_turn, IsTurn}
 
 pub record EndPoints : Type 0 where

@@ -1,4 +1,4 @@
-ghost use Rattle.std.specs.Prelude.{◌≡◌, ℕ, List, ◌++◌, ◌+◌, ◌<◌, ◌≤◌, ◌^◌, length};
+ghost use Rattle.std.specs.Prelude.{◌≡◌, ℕ, List, ◌++◌, ◌+◌, ◌<◌, ◌≤◌, ◌^◌};
 ghost use Rattle.turning_points.specs.Points.{points};
 ghost use Rattle.turning_points.specs.EndPoints.{ends_of, ends_push, ends_of_both, no_ends, ends_prepend};
 ghost use Rattle.turning_points.specs.Ends.{end_points};
@@ -141,7 +141,7 @@ pub fn put_behind(level: u16, ends: &Ends) -> Ends
 }
 
 // The left's last two points, put before the right one by one.
-fn met(left: &Ends, right: &Ends) -> Ends
+fn ends_of_both(left: &Ends, right: &Ends) -> Ends
     requires few { left.now.points + right.now.points ≤ MAX_POINTS }
     ensures { end_points result ≡ ends_of_both (end_points left.now) (end_points right.now) }
 {
@@ -172,5 +172,5 @@ pub fn join_ends(left: &Ends, right: &Ends) -> Ends
     ensures histories { (u v : List ℕ) → end_points left.now ≡ ends_of (points u) →
         end_points right.now ≡ ends_of (points v) → end_points result ≡ ends_of (points (u ++ v)) }
 {
-    met(left, right)
+    ends_of_both(left, right)
 }

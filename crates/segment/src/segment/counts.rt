@@ -4,7 +4,7 @@ ghost use Rattle.calibration.specs.History.{history};
 ghost use Rattle.turning_points.specs.Points.{points};
 ghost use Rattle.tally.specs.Counts.{IsCounts, count_of, is_from};
 ghost use Rattle.tally.specs.Room.{room_for};
-ghost use Rattle.level_crossing.specs.Crossings.{count_at, crossings};
+ghost use Rattle.level_crossing.specs.Crossings.{crossing_count, crossings};
 ghost use Rattle.simple_counts.specs.Simple.{peak_count, peaks_at, range_count, ranges_at, valley_count, valleys_at};
 ghost use Rattle.segment.specs.Segment.{IsSegment, Stands};
 
@@ -61,7 +61,7 @@ impl Segment {
     pub fn crossings(&self, boundary: u16) -> u64
         requires from { 1 ≤ boundary }
         requires to { boundary < self.now.grid.classes }
-        ensures value { result ≡ count_at self.now.crossings boundary }
+        ensures value { result ≡ crossing_count self.now.crossings boundary }
         ensures stands { (gain : GainValue) (w : List ℤ) → Stands self.now gain w →
             result ≡ crossings self.now.grid.reference boundary (history self.now.grid gain w) }
     {

@@ -2,15 +2,15 @@ ghost use Rattle.std.specs.Prelude.{◌≡◌, ◌*◌, ◌≤◌, ℕ, IfOk, le
 ghost use Rattle.calibration.specs.Grid.{IsGrid};
 ghost use Rattle.turning_points.specs.Ends.{end_points};
 ghost use Rattle.tables.specs.Bins.{count_at};
-ghost use Rattle.level_crossing.specs.Crossings.{count_at as crossing_count};
-ghost use Rattle.level_crossing.specs.Loading.{CanLoad as CanCross, HasEnds};
+ghost use Rattle.level_crossing.specs.Crossings.{crossing_count};
+ghost use Rattle.level_crossing.specs.Loading.{CanLoadCrossings, HasEnds};
 ghost use Rattle.simple_counts.specs.Loading.{CanLoad};
 ghost use Rattle.simple_counts.specs.Simple.{IsSimple, peak_count, range_count, valley_count};
 ghost use Rattle.tally.specs.Counts.{total_of};
 ghost use Rattle.tally.specs.Room.{room_for};
 ghost use Rattle.tally.specs.declared.cells.TheConstants.{MAX_TOTAL};
 ghost use Rattle.segment_rules.specs.Parts.{parts_value};
-ghost use Rattle.segment_rules.specs.Rules.{AreCells, IsSegment as AreSegment};
+ghost use Rattle.segment_rules.specs.Rules.{AreCells, AreSegmentParts};
 ghost use Rattle.segment.specs.Loading.{Loads, longest_of};
 ghost use Rattle.segment.specs.Parts.{parts_of};
 
@@ -46,7 +46,7 @@ fn tally_of(alloc: Global, grid: &Grid, longest: u64, cells: &[Cell]) -> Result<
 
 // The crossings of the parts.
 fn crossings_of(alloc: Global, grid: &Grid, parts: &Parts) -> Result<Crossings, AllocError>
-    requires { CanCross grid.now.classes (end_points parts.now.ends) parts.now.crossings }
+    requires { CanLoadCrossings grid.now.classes (end_points parts.now.ends) parts.now.crossings }
     ensures grid { IfOk result (λ x.
         (x.classes ≡ grid.now.classes) × (x.reference ≡ grid.now.reference)) }
     ensures ends { IfOk result (λ x. HasEnds x (end_points parts.now.ends)) }
@@ -98,7 +98,7 @@ impl Segment {
         reducer: Reducer,
     ) -> Result<Segment, AllocError>
         requires limits { IsGrid grid.now }
-        requires rules { AreSegment grid.now (parts_value parts.now) }
+        requires rules { AreSegmentParts grid.now (parts_value parts.now) }
         requires residue { reducer ≡
             record { classes = grid.now.classes; residue = parts.now.residue } }
         ensures grid { IfOk result (λ s. s.grid ≡ grid.now) }
@@ -131,8 +131,8 @@ impl Segment {
         ensures { Loads grid.now (parts_value parts.now) result }
     {
         let mut reducer = Reducer::new(alloc, grid.classes())?;
-        let rests = reducer.load(parts.residue.as_slice());
-        match first_broken(grid, parts, rests) {
+        let has_residue = reducer.load(parts.residue.as_slice());
+        match first_broken(grid, parts, has_residue) {
             Some(rule) => Err(fault_of(rule)),
             None => Ok(Segment::of(alloc, grid, parts, reducer)?),
         }

@@ -1,6 +1,6 @@
 ghost use Rattle.std.specs.Prelude.{◌≡◌};
 ghost use Rattle.turning_points.specs.Ends.{end_points};
-ghost use Rattle.segment_rules.specs.Rules.{IsSegment as AreSegment};
+ghost use Rattle.segment_rules.specs.Rules.{AreSegmentParts};
 ghost use Rattle.segment.specs.Parts.{parts_of};
 ghost use Rattle.segment.specs.Segment.{IsSegment};
 
@@ -14,7 +14,7 @@ impl Segment {
     pub fn grid(&self) -> Grid
         ensures value { result ≡ self.now.grid }
         ensures rules { IsSegment self.now }
-        ensures parts { AreSegment self.now.grid (parts_of self.now) }
+        ensures parts { AreSegmentParts self.now.grid (parts_of self.now) }
     {
         // What holds of every tally only a call of it tells; this costs nothing.
         let _classes = self.tally.classes();

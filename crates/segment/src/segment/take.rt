@@ -3,7 +3,7 @@ ghost use Rattle.recording.specs.declared.TheConstants.{MAX_SAMPLES};
 ghost use Rattle.calibration.specs.Level.{reading_of};
 ghost use Rattle.turning_points.specs.Points.{points};
 ghost use Rattle.segment.specs.Segment.{SameStart, Stands, StandsFor, empty_at};
-ghost use Rattle.segment.specs.Readings.{Takes};
+ghost use Rattle.segment.specs.Readings.{AddsOne};
 
 use super::Segment;
 use crate::block::{Block, points_in, push_points};
@@ -57,7 +57,7 @@ impl Segment {
         requires room { self.old.to < MAX_SAMPLES }
         requires longest { self.old.to - self.old.from < self.old.longest }
         ensures start { SameStart self.old self.new }
-        ensures reading { Takes (reading_of gain.now self.old.grid raw) self.old self.new }
+        ensures reading { AddsOne (reading_of gain.now self.old.grid raw) self.old self.new }
         ensures stands { (w : List ℤ) →
             Stands self.old gain.now w → Stands self.new gain.now (w ++ raw ∷ []) }
     {

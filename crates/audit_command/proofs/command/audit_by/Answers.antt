@@ -79,7 +79,7 @@ returns-in-Err-clause-complete g c = λ tells shows is site station out.
     let r = is.0 in
     subst (λ (s : Status). (s ≡ Done) ⊎ (s ≡ OutOfMemory)) (sym c.status_of.ensures)
     (refused_complete StoreValue c.in-Err.fault _ _ _ (c.in-Err.ensures.unharmed tells r.head r.bodies r.ends r.of_setup r.reads)
-    c.in-Err.ensures.disk
+    c.in-Err.ensures.cause
     (omega arith) station)
 
 pub returns-in-Ok-clause-named : goal.returns-in-Ok-clause-named

@@ -1,5 +1,6 @@
 use Rattle.std.proofs.Common.{◌*◌, ◌≤◌}
-use Rattle.block_workers.specs.Reading.{IsReadSoFar, WholeSoFar}
+use Rattle.block_workers.specs.Reading.{IsReadSoFar}
+use Rattle.block_workers.proofs.Blocks.{WholeSoFar}
 use Rattle.block_workers.proofs.desk.read_blocks.Given as goal
 
 abbrev pub invariant-loop-number : goal.invariant-loop-number

@@ -11,14 +11,3 @@ invariant-loop-v g l = record {
   fifo : (u h : ℕ) (d : _) (e : _) → u < l.v → h < length l.fn.readers
       → Fifo (slice_index_or l.fn.workers u d) (slice_index_or l.fn.readers h e) h u;
 }
-
-abbrev pub invariant-loop-g : goal.invariant-loop-g
-invariant-loop-g g l = record {
-  wide : length l.workers ≡ length l.fn.workers;
-  long : length l.readers ≡ length l.fn.readers;
-  workers : (u : ℕ) (d : _) → SameWork (slice_index_or l.fn.workers u d) (slice_index_or l.workers u d);
-  readers : (h : ℕ) (d : _) → SameRead (slice_index_or l.fn.readers h d) (slice_index_or l.readers h d);
-  fifo : (u h : ℕ) (d : _) (e : _) → u < l.v → h < length l.fn.readers
-      → Fifo (slice_index_or l.fn.workers u d) (slice_index_or l.fn.readers h e) h u;
-  here : (h : ℕ) (d : _) (e : _) → h < l.g → Fifo (slice_index_or l.fn.workers l.v d) (slice_index_or l.fn.readers h e) h l.v;
-}

@@ -14,7 +14,7 @@ returns-then-class-classes c =
     let width : c.den-den.result * (c.w2.result * 500) ≡ width_of gain grid =
     ap (λ y. y * (c.w2.result * 500)) c.den-den.ensures.value ∙ ap (λ y. gain.den * (y * 500)) c.w2.ensures.value in
     divided_level gain grid c.args.raw c.shift_of-shift.result _ c.stress_above.result c.cast_unsigned.result _
-    c.den-den.ensures.limits c.w2.ensures.limits c.ranges.raw c.if-raw-eqminus2147483648.false shift width
+    c.den-den.ensures.limits c.w2.ensures.limits c.ranges.raw c.if-raw-eq-MISSING.false shift width
     c.num.ensures.value c.stress_above.ensures (search rules) c.cast_unsigned.ensures
     (omega (arith, c.if-class-classes.true, c.classes.ensures.value))
 
@@ -26,6 +26,6 @@ returns-else-class-classes c =
     let width : c.den-den.result * (c.w2.result * 500) ≡ width_of gain grid =
     ap (λ y. y * (c.w2.result * 500)) c.den-den.ensures.value ∙ ap (λ y. gain.den * (y * 500)) c.w2.ensures.value in
     divided_refused gain grid c.args.raw c.shift_of-shift.result _ c.stress_above.result c.cast_unsigned.result _
-    c.den-den.ensures.limits c.w2.ensures.limits c.ranges.raw c.if-raw-eqminus2147483648.false shift width
+    c.den-den.ensures.limits c.w2.ensures.limits c.ranges.raw c.if-raw-eq-MISSING.false shift width
     c.num.ensures.value c.stress_above.ensures (search rules) c.cast_unsigned.ensures
     (omega (arith, c.if-class-classes.false, c.classes.ensures.value))

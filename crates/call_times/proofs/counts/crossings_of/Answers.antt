@@ -1,8 +1,8 @@
 -- A level adds one at most, and one that is left out nothing.
 use Rattle.std.proofs.Common.{ap, ◌∙◌, arith}
 use Rattle.std.specs.Prelude.{slice_index}
-use Rattle.level_crossing.specs.Crossings.{count_at}
-use Rattle.level_crossing.proofs.Once.{between_once}
+use Rattle.level_crossing.specs.Crossings.{crossing_count}
+use Rattle.level_crossing.proofs.Once.{joint_crossings_once}
 use Rattle.call_times.proofs.counts.crossings_of.Goals as goal
 use Rattle.call_times.proofs.counts.crossings_of.Goals.{then-level-classes, else-level-classes}
 
@@ -13,16 +13,16 @@ loop-level-preserved c = elim c.if-level-classes.branch [
         let before = c.loop-level.crossings in
         omega (
           arith,
-          ap (λ v. count_at v b) w.crossings-is,
+          ap (λ v. crossing_count v b) w.crossings-is,
           w.push.ensures.counts b,
-          between_once before.some before.reference b
+          joint_crossings_once before.some before.reference b
               before.last (slice_index c.args.levels.now c.loop-level.level-index),
           c.loop-level.invariant.few b,
         );
     classes = ap (λ v. v.classes) w.crossings-is ∙ w.push.ensures.grid.0 ∙ c.loop-level.invariant.classes;
   }
   | else-level-classes w ↦ record {
-    few = λ b. omega (arith, ap (λ v. count_at v b) w.crossings-is, c.loop-level.invariant.few b);
+    few = λ b. omega (arith, ap (λ v. crossing_count v b) w.crossings-is, c.loop-level.invariant.few b);
     classes = ap (λ v. v.classes) w.crossings-is ∙ c.loop-level.invariant.classes;
   }
 ]

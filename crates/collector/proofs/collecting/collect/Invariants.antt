@@ -7,9 +7,3 @@ invariant-loop g l = record {
   coming : IsCollectedSoFar l.fn.board l.board l.fn.pool l.pool l.fn.returns l.returns;
   grid : l.board.grid ≡ l.pool.grid;
 }
-
-abbrev pub invariant-loop-v : goal.invariant-loop-v
-invariant-loop-v g l = record {
-  coming : IsCollectedSoFar l.fn.board l.board l.fn.pool l.pool l.fn.returns l.returns;
-  grid : l.board.grid ≡ l.pool.grid;
-}

@@ -4,7 +4,7 @@ use Rattle.site_config.specs.declared.config.Config.{Config}
 use Rattle.recorded.specs.Recorded.{recordings}
 use Rattle.recorded.specs.Asked.{names_in}
 use Rattle.recorded.proofs.Asking.{first_read, none_is_first}
-use Rattle.held_samples.specs.Going.{AllHold, IsKept}
+use Rattle.held_samples.specs.Going.{AllHold, KeepsTold}
 use Rattle.count_command.proofs.FaultTold.{safe_fault, fault_below}
 use Rattle.count_command.proofs.Resumed.{safe_starts}
 use Rattle.station.specs.Station.{Lines}
@@ -54,7 +54,7 @@ returns-clause-every_moment g c = λ tells shows reads bridge is a holds lines f
     let r = recordings c.in-Ok-read_config.bridge files in
     let safe = c.count_by-status.ensures.safe tells shows a (subst (λ (x : Config). AllHold (recordings x files) a
     (k.leaves c.args.station.now)) (sym same) holds) in
-    subst (λ (x : Config). IsKept (recordings x files) a (k.told c.args.station.now) lines f) same
+    subst (λ (x : Config). KeepsTold (recordings x files) a (k.told c.args.station.now) lines f) same
     ((safe_fault r a _ _ _ _ _ _ _ _ _ _ _ _ _ safe _ (fault_below r _ _) (c.tell_fault-2.ensures.tells tells)).run.each lines f was)
 
 -- a configuration that is refused

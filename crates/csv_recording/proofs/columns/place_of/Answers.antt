@@ -1,7 +1,7 @@
-use Rattle.std.proofs.Common.{◌≡◌, ◌∙◌, Some, None, false, sym, true, rules}
+use Rattle.std.proofs.Common.{◌≡◌, ◌∙◌, Some, None, false, refl, sym, true, rules}
 use Rattle.std.specs.Str.{bytes_eq}
 use Rattle.csv.specs.Records.{field_at, fields_of}
-use Rattle.csv_recording.proofs.ColumnFacts.{place_from-start, place_from-end, place_from-here, place_from-next}
+use Rattle.csv_recording.proofs.ColumnFacts.{place_from-end, place_from-here, place_from-next}
 use Rattle.csv_recording.proofs.columns.place_of.Goals as goal
 
 pub loop-place-init : goal.loop-place-init
@@ -9,7 +9,7 @@ loop-place-init c = record {
   fits = search rules;
   row = search rules;
   at = search rules;
-  found = place_from-start c.args.name.now (fields_of c.args.header.now);
+  found = refl;
 }
 
 pub returns-then-eq : goal.returns-then-eq

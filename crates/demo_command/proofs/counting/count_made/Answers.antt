@@ -1,4 +1,4 @@
-use Rattle.std.proofs.Common.{◌≡◌, ◌≤◌, ◌<◌, ℕ, ◌+◌, ◌*◌, ◌/◌, refl, sym, ◌∙◌, ap, subst, arith}
+use Rattle.std.proofs.Common.{◌∙◌, arith}
 use Rattle.demo_command.proofs.Rounds.{counted_starts, can_join_all, counted_more, counted_all}
 use Rattle.demo_command.proofs.counting.count_made.Goals as goal
 

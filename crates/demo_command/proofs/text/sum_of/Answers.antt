@@ -1,4 +1,4 @@
-use Rattle.std.proofs.Common.{◌≡◌, ◌≤◌, ◌<◌, ℕ, ◌+◌, ◌-◌, ◌*◌, ◌^◌, slice_index, arith}
+use Rattle.std.proofs.Common.{◌<◌, ◌-◌, ◌^◌, slice_index, arith}
 use Rattle.demo_command.proofs.Sums.{all_halves-more, bound_more}
 use Rattle.demo_command.proofs.text.sum_of.Goals as goal
 

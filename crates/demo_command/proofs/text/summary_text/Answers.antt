@@ -1,4 +1,4 @@
-use Rattle.std.proofs.Common.{◌≡◌, ◌≤◌, ◌<◌, ℕ, List, ◌++◌, length, string_bytes, ◌∙◌, ap, arith}
+use Rattle.std.proofs.Common.{ℕ, List, ◌++◌, string_bytes, ◌∙◌, ap, arith}
 use Rattle.demo_command.specs.Summary.{head_line}
 use Rattle.demo_command.proofs.Summing.{text_starts, text_more, text_all}
 use Rattle.demo_command.proofs.text.summary_text.Goals as goal

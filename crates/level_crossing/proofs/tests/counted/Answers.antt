@@ -1,8 +1,8 @@
 -- A level adds one at most, and one that is left out nothing.
 use Rattle.std.proofs.Common.{ap, ◌∙◌, arith}
 use Rattle.std.specs.Prelude.{slice_index}
-use Rattle.level_crossing.specs.Crossings.{count_at}
-use Rattle.level_crossing.proofs.Once.{between_once}
+use Rattle.level_crossing.specs.Crossings.{crossing_count}
+use Rattle.level_crossing.proofs.Once.{joint_crossings_once}
 use Rattle.level_crossing.proofs.tests.counted.Goals as goal
 use Rattle.level_crossing.proofs.tests.counted.Goals.{then-level-classes, else-level-classes}
 
@@ -13,9 +13,9 @@ loop-level-preserved c = elim c.if-level-classes.branch [
         let before = c.loop-level.crossings in
         omega (
           arith,
-          ap (λ v. count_at v b) w.crossings-is,
+          ap (λ v. crossing_count v b) w.crossings-is,
           w.push.ensures.counts b,
-          between_once before.some before.reference b
+          joint_crossings_once before.some before.reference b
               before.last (slice_index c.args.levels.now c.loop-level.level-index),
           c.loop-level.invariant.few b,
         );
@@ -23,7 +23,7 @@ loop-level-preserved c = elim c.if-level-classes.branch [
     reference = ap (λ v. v.reference) w.crossings-is ∙ w.push.ensures.grid.1 ∙ c.loop-level.invariant.reference;
   }
   | else-level-classes w ↦ record {
-    few = λ b. omega (arith, ap (λ v. count_at v b) w.crossings-is, c.loop-level.invariant.few b);
+    few = λ b. omega (arith, ap (λ v. crossing_count v b) w.crossings-is, c.loop-level.invariant.few b);
     classes = ap (λ v. v.classes) w.crossings-is ∙ c.loop-level.invariant.classes;
     reference = ap (λ v. v.reference) w.crossings-is ∙ c.loop-level.invariant.reference;
   }

@@ -26,7 +26,7 @@ returns-in-Ok-read-clause-run g c =
     let printed = c.print_table.ensures in
     let no_read = printing_no_read answer printed.printing in
     let may = λ (tells : g.T.Site.tells). subst (λ (h : Option (List ℕ)). MayAnswer 0 answer (file_state h)) (sym (fetched.file tells))
-    (printing_may 0 answer (state_of left) printed.printing (read.cause (fetched.source_tells tells))) in
+    (printing_may 0 answer (state_of left) printed.printing (read.answer (fetched.source_tells tells))) in
     let text = λ (tells : g.T.Site.tells). ap (λ (w : List ℤ). text_of_samples w) (read.figures.2 (fetched.source_tells tells)) in
     record {
       done = λ tells told is. text_for held left (λ (text : List ℕ). after ≡ before ++ text) (fetched.file tells)
@@ -53,13 +53,13 @@ returns-in-Err-clause-run g c =
     let no_done = λ (is : answer ≡ Done). refusal_no_done 0 c.in-Err.refusal (sym c.status.ensures ∙ is) in
     let no_write = λ (is : answer ≡ WriteFault). refusal_no_write 0 c.in-Err.refusal (sym c.status.ensures ∙ is) in
     let rose = λ (is : answer ≡ ReadFault).
-    let fault = read.fault (ap Err (refusal_read 0 c.in-Err.refusal (sym c.status.ensures ∙ is))) in
+    let fault = read.cause (ap Err (refusal_read 0 c.in-Err.refusal (sym c.status.ensures ∙ is))) in
     let some : 0 < g.T.Src.Source.faults c.read_recording-read.new.src = omega (arith, fault, fetched.fresh) in
     let rises : CountRose (g.T.Site.faults c.args.site.now) (g.T.Site.faults c.give_back.new.self) = omega
     (arith, c.give_back.ensures.cause some, fetched.cause.later) in
     rises in
     let may = λ (tells : g.T.Site.tells). subst (λ (h : Option (List ℕ)). MayAnswer 0 answer (file_state h)) (sym (fetched.file tells))
-    (subst (λ (a : Status). MayAnswer 0 a (state_of left)) (sym c.status.ensures) (read.cause (fetched.source_tells tells))) in
+    (subst (λ (a : Status). MayAnswer 0 a (state_of left)) (sym c.status.ensures) (read.answer (fetched.source_tells tells))) in
     record {
       done = λ tells told is. absurd (no_done is);
       front = λ tells told is. absurd (no_write is);

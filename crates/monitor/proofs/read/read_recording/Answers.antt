@@ -10,33 +10,33 @@ use Rattle.file_tasks.proofs.Refusals.{head_cause, head_fault, memory_cause, mem
 use Rattle.monitor.proofs.read.read_recording.Goals as goal
 use Rattle.recording.specs.declared.head.TheConstants.{HEAD_LENGTH}
 
-pub returns-in_err-read_head-clause-cause : goal.returns-in_err-read_head-clause-cause
-returns-in_err-read_head-clause-cause g c = λ tells.
+pub returns-in_err-read_head-clause-answer : goal.returns-in_err-read_head-clause-answer
+returns-in_err-read_head-clause-answer g c = λ tells.
     head_cause 0 _ c.in_err-read_head.field-0.0 (g.S.Source.left c.args.src.now) c.from_residual.ensures.1
     (λ other. c.in_err-read_head.ensures.head tells (λ is. other (err_is is)))
 
-pub returns-in_err-read_head-clause-fault : goal.returns-in_err-read_head-clause-fault
-returns-in_err-read_head-clause-fault g c = λ is.
+pub returns-in_err-read_head-clause-cause : goal.returns-in_err-read_head-clause-cause
+returns-in_err-read_head-clause-cause g c = λ is.
     c.in_err-read_head.ensures.cause (ap Err (head_fault _ c.in_err-read_head.field-0.0 c.from_residual.ensures.1 is))
 
 pub returns-in_err-read_head-clause-later : goal.returns-in_err-read_head-clause-later
 returns-in_err-read_head-clause-later g c = c.read_head.ensures.later
 
-pub returns-in_err-figures-clause-cause : goal.returns-in_err-figures-clause-cause
-returns-in_err-figures-clause-cause g c =
+pub returns-in_err-figures-clause-answer : goal.returns-in_err-figures-clause-answer
+returns-in_err-figures-clause-answer g c =
     λ tells. memory_cause 0 _ (g.S.Source.left c.args.src.now) c.from_residual-in_err-figures.ensures.1
 
-pub returns-in_err-figures-clause-fault : goal.returns-in_err-figures-clause-fault
-returns-in_err-figures-clause-fault g c = λ is. absurd (memory_fault _ c.from_residual-in_err-figures.ensures.1 is)
+pub returns-in_err-figures-clause-cause : goal.returns-in_err-figures-clause-cause
+returns-in_err-figures-clause-cause g c = λ is. absurd (memory_fault _ c.from_residual-in_err-figures.ensures.1 is)
 
 pub returns-in_err-figures-clause-later : goal.returns-in_err-figures-clause-later
 returns-in_err-figures-clause-later g c = c.read_head.ensures.later
 
-pub returns-in_err-piece-clause-cause : goal.returns-in_err-piece-clause-cause
-returns-in_err-piece-clause-cause g c = λ tells. memory_cause 0 _ (g.S.Source.left c.args.src.now) c.from_residual-in_err-piece.ensures.1
+pub returns-in_err-piece-clause-answer : goal.returns-in_err-piece-clause-answer
+returns-in_err-piece-clause-answer g c = λ tells. memory_cause 0 _ (g.S.Source.left c.args.src.now) c.from_residual-in_err-piece.ensures.1
 
-pub returns-in_err-piece-clause-fault : goal.returns-in_err-piece-clause-fault
-returns-in_err-piece-clause-fault g c = λ is. absurd (memory_fault _ c.from_residual-in_err-piece.ensures.1 is)
+pub returns-in_err-piece-clause-cause : goal.returns-in_err-piece-clause-cause
+returns-in_err-piece-clause-cause g c = λ is. absurd (memory_fault _ c.from_residual-in_err-piece.ensures.1 is)
 
 pub returns-in_err-piece-clause-later : goal.returns-in_err-piece-clause-later
 returns-in_err-piece-clause-later g c = c.read_head.ensures.later
@@ -131,12 +131,12 @@ returns-then-figures-gt-MAX_SAMPLES g c =
     record {
       figures = tt;
       few = tt;
-      cause = λ tells. sym (ap (answer_for 0) (state_with_head file c.in_ok-read_head.field-0
+      answer = λ tells. sym (ap (answer_for 0) (state_with_head file c.in_ok-read_head.field-0
           (c.in_ok-read_head.ensures.head tells (λ is. cc)) ∙ too_many table_grid table_gain c.take.new.self read.0 (drop HEAD_LENGTH file)
           (g.S.Source.left c.loop.src) (g.S.Source.left c.fill-filled.new.src) (length c.loop.raws) c.fill-filled.result.n
           c.fill-filled.result.end c.fill-filled.new.buf (read.2 tells) (fill.samples tells) (fill.taken tells) taken
           c.if-figures-gt-MAX_SAMPLES.true));
-      fault = λ is. absurd (cc);
+      cause = λ is. absurd (cc);
       later = omega (arith, c.loop.invariant.later, fill.later);
     }
 
@@ -157,17 +157,17 @@ returns-in-Ended g c =
             c.fill-filled.new.buf (read.2 tells) (fill.samples tells) (fill.taken tells) taken c.in-Ended.is,
       );
       few = c.if-figures-gt-MAX_SAMPLES.false;
-      cause = λ tells. state_with_head file c.in_ok-read_head.field-0 (c.in_ok-read_head.ensures.head tells (λ is. cc)) ∙ sound_end
+      answer = λ tells. state_with_head file c.in_ok-read_head.field-0 (c.in_ok-read_head.ensures.head tells (λ is. cc)) ∙ sound_end
           table_grid table_gain c.take.new.self read.0 (drop HEAD_LENGTH file)
           (g.S.Source.left c.loop.src) (g.S.Source.left c.fill-filled.new.src) (length c.loop.raws) c.fill-filled.result.n
           c.fill-filled.result.end c.fill-filled.new.buf (read.2 tells) (fill.samples tells)
           (fill.taken tells) taken c.in-Ended.is c.if-figures-gt-MAX_SAMPLES.false;
-      fault = λ is. absurd (cc);
+      cause = λ is. absurd (cc);
       later = omega (arith, c.loop.invariant.later, fill.later);
     }
 
-pub returns-in-Torn-clause-cause : goal.returns-in-Torn-clause-cause
-returns-in-Torn-clause-cause g c =
+pub returns-in-Torn-clause-answer : goal.returns-in-Torn-clause-answer
+returns-in-Torn-clause-answer g c =
     let file = g.S.Source.left c.args.src.now in
     let read = c.loop.invariant.read in
     let fill = c.fill-filled.ensures in
@@ -183,8 +183,8 @@ returns-in-Torn-clause-cause g c =
     (fill.taken tells) taken _ c.in-Torn.is c.if-figures-gt-MAX_SAMPLES.false)) in
     search rules
 
-pub returns-in-Torn-clause-fault : goal.returns-in-Torn-clause-fault
-returns-in-Torn-clause-fault g c = λ is. absurd (cc)
+pub returns-in-Torn-clause-cause : goal.returns-in-Torn-clause-cause
+returns-in-Torn-clause-cause g c = λ is. absurd (cc)
 
 pub returns-in-Torn-clause-later : goal.returns-in-Torn-clause-later
 returns-in-Torn-clause-later g c = omega (arith, c.loop.invariant.later, c.fill-filled.ensures.later)
@@ -195,7 +195,7 @@ returns-in-Failed g c =
     record {
       figures = tt;
       few = tt;
-      cause = λ tells. tt;
-      fault = λ is. omega (arith, fill.cause c.in-Failed.is, c.loop.invariant.later);
+      answer = λ tells. tt;
+      cause = λ is. omega (arith, fill.cause c.in-Failed.is, c.loop.invariant.later);
       later = omega (arith, c.loop.invariant.later, fill.later);
     }

@@ -72,6 +72,7 @@ returns-in-Ok-Some-Report-clause-report g c = λ is.
       kept = run.kept;
       nothing = run.nothing;
       quiet = run.quiet;
+      silent = run.silent;
       last = λ tells some.
           ends_at (shown_by g.C.Source g.T.Site g.K.Station g.O.Sink c.args.config.now c.args.site.now c.args.station.now c.args.out.now)
           (shown_by g.C.Source g.T.Site g.K.Station g.O.Sink c.report_command.new.config c.args.site.now c.report_command.new.station
@@ -148,6 +149,7 @@ returns-in-Ok-Some-Audit-clause-audit g c = λ is.
       prints = run.prints;
       nothing = run.nothing;
       quiet = run.quiet;
+      silent = run.silent;
       last = λ tells reads some.
           ends_at (shown_by g.C.Source g.T.Site g.K.Station g.O.Sink c.args.config.now c.args.site.now c.args.station.now c.args.out.now)
           (shown_by g.C.Source g.T.Site g.K.Station g.O.Sink c.audit_command.new.config c.audit_command.new.site c.audit_command.new.station
@@ -174,6 +176,7 @@ returns-in-Ok-Some-Repeat-clause-repeat g c = λ is.
       prints = run.prints;
       nothing = run.nothing;
       quiet = run.quiet;
+      silent = run.silent;
       last = λ tells some.
           ends_at (shown_by g.C.Source g.T.Site g.K.Station g.O.Sink c.args.config.now c.args.site.now c.args.station.now c.args.out.now)
           (shown_by g.C.Source g.T.Site g.K.Station g.O.Sink c.repeat_command.new.config c.args.site.now c.repeat_command.new.station
@@ -219,6 +222,7 @@ returns-in-Ok-Some-Sheet-clause-sheet g c = λ is.
       prints = run.prints;
       nothing = run.nothing;
       quiet = run.quiet;
+      silent = run.silent;
       last = run.last;
       answer_is = run.answer;
       complete = run.complete;

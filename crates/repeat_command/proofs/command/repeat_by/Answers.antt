@@ -57,7 +57,7 @@ pub returns-clause-complete : goal.returns-clause-complete
 returns-clause-complete g c = λ tells r station out.
     subst (λ (s : Status). (s ≡ Done) ⊎ (s ≡ OutOfMemory)) (sym c.status_of.ensures)
     (refused_complete StoreValue c.in-Err.fault _ _ _ (c.in-Err.ensures.unharmed tells r.head r.bodies r.ends r.of_setup r.reads)
-    c.in-Err.ensures.disk
+    c.in-Err.ensures.cause
     (omega arith) station)
 
 -- which answers there are

@@ -4,7 +4,7 @@ use Rattle.site_config.specs.Configuration.{config_of_bytes}
 use Rattle.site_config.specs.declared.config.Config.{Config}
 use Rattle.fault_lines.specs.FaultLine.{fault_line}
 use Rattle.fault_lines.proofs.Telling.{quiet_tells}
-use Rattle.report_command.specs.Answers.{ReadsAs}
+use Rattle.report_command.specs.Answers.{IsStoreOf}
 use Rattle.report_command.specs.Printing.{held_of}
 use Rattle.report_command.proofs.Ended.{over_config}
 use Rattle.report_command.proofs.Told.{last_after}
@@ -47,7 +47,7 @@ pub returns-in-Ok-read_config-clause-complete : goal.returns-in-Ok-read_config-c
 returns-in-Ok-read_config-clause-complete g c = λ tells reads sound config station out.
     let same = same_ok sound.1
     (c.in-Ok-read_config.ensures.meaning reads) in
-    c.repeat_by-status.ensures.complete tells (subst (λ (x : Config). ReadsAs x.setup (g.K.Station.seen c.args.station.now)) same sound.2)
+    c.repeat_by-status.ensures.complete tells (subst (λ (x : Config). IsStoreOf x.setup (g.K.Station.seen c.args.station.now)) same sound.2)
     (λ rose. station (rose_more _ _ _ rose c.tell_fault.ensures.later)) out
 
 pub returns-in-Ok-read_config-clause-read : goal.returns-in-Ok-read_config-clause-read

@@ -1,4 +1,4 @@
-use Rattle.std.proofs.Common.{rules, ◌∙◌, sym}
+use Rattle.std.proofs.Common.{rules}
 use Rattle.round_making.proofs.Settled.{can_go_on}
 use Rattle.round_times.proofs.counting.count.Goals as goal
 

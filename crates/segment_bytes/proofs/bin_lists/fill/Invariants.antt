@@ -1,11 +1,11 @@
 use Rattle.std.proofs.Common.{◌≡◌, ℕ, ◌+◌, ◌<◌, length}
 use Rattle.std.specs.Prelude.{slice_index}
-use Rattle.segment_bytes.specs.Writing.{count_in}
+use Rattle.segment_bytes.specs.Writing.{table_count}
 use Rattle.segment_bytes.proofs.bin_lists.fill.Given as goal
 
 abbrev pub invariant-loop-i : goal.invariant-loop-i
 invariant-loop-i l = record {
   key : l.key ≡ l.first + l.i;
-  so_far : (k : ℕ) → k < l.i → slice_index l.out k ≡ count_in l.segment l.table (l.first + k);
+  so_far : (k : ℕ) → k < l.i → slice_index l.out k ≡ table_count l.segment l.table (l.first + k);
   long : length l.out ≡ length l.initial.out;
 }

@@ -1,4 +1,4 @@
-use Rattle.std.proofs.Common.{◌≡◌, ◌+◌, ◌≤◌, ◌^◌, drop}
+use Rattle.std.proofs.Common.{◌≡◌, ◌≤◌, ◌^◌, drop}
 use Rattle.segment_rules.specs.Tests.{wrong_bin}
 use Rattle.segment_rules.proofs.order.first_wrong_bin.Given as goal
 

@@ -1,4 +1,4 @@
-use Rattle.std.proofs.Common.{◌+◌, ◌*◌, ℕ, List, length, ap, subst, sym, ◌∙◌}
+use Rattle.std.proofs.Common.{ℕ, List, length, ap, subst, sym, ◌∙◌}
 use Rattle.std.specs.Prelude.{Err, replicate}
 use Rattle.segment_bytes.specs.Sizes.{max_body}
 use Rattle.store_head.specs.Head.{start_of, gauge_place}

@@ -3,7 +3,7 @@ use Rattle.calibration.specs.declared.setup.Setup.{Setup}
 use Rattle.segment.specs.Parts.{parts_of}
 use Rattle.segment_store.specs.Held.{AreHeld, ends_of}
 use Rattle.segment_store.specs.Places.{IsNear}
-use Rattle.segment_store.specs.Reading.{HasPassed}
+use Rattle.segment_store.proofs.Found.{HasPassed}
 use Rattle.segment_store.specs.Resuming.{Finds, Walks, shut}
 use Rattle.std.specs.Prelude.{Ok}
 use Rattle.std.proofs.Common.{refl}

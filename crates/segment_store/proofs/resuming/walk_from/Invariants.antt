@@ -5,7 +5,7 @@ use Rattle.segment_store.specs.declared.damage.Damage.{Damage}
 use Rattle.segment_store.specs.Held.{AreHeld, ends_of}
 use Rattle.segment_store.specs.Places.{IsNear}
 use Rattle.segment_store.specs.Quiet.{IsQuiet}
-use Rattle.segment_store.specs.Reading.{HasPassed}
+use Rattle.segment_store.proofs.Found.{HasPassed}
 use Rattle.segment_store.specs.Resuming.{Walks}
 use Rattle.segment_store.proofs.resuming.walk_from.Given as goal
 

@@ -4,11 +4,13 @@ use Rattle.std.proofs.lemmas.List.{map-append}
 use Rattle.std.specs.declared.alloc.Global.{Global}
 use Rattle.outside.specs.Site.{Files}
 use Rattle.site_config.specs.declared.config.Gauge.{Gauge}
+use Rattle.recording.specs.Samples.{samples as all_samples}
 use Rattle.recorded.specs.Asked.{file_names}
+use Rattle.recorded.specs.Recorded.{body_in}
 use Rattle.recorded.proofs.Asking.{asks_file, asks_more, stops_behind, first_names, none_is_first}
 use Rattle.file_tasks.specs.FileState.{Sound, file_state}
 use Rattle.file_tasks.specs.Answer.{MayAnswer as MayAnswerFor}
-use Rattle.sheet_command.specs.Sheet.{samples_of, recordings_of, answer_over}
+use Rattle.sheet_command.specs.Sheet.{recordings_of, answer_over}
 use Rattle.sheet_command.proofs.Recordings.{read_more, sound_more, refused, sound_all}
 use Rattle.sheet_command.proofs.reading.read_recordings.Goals as goal
 
@@ -46,7 +48,7 @@ loop-number-preserved g c =
     record {
       read = λ tells. ap (λ (l : List (List ℤ)). l ++ recordings_of (drop (c.loop-number.number + 1) gauges) files) seen
           ∙ read_more gauges files c.loop-number.number here lt is (map (λ (w : Vec ℤ Global). w.items) old) samples.items (was.read tells)
-          (now.samples tells ∙ ap (λ (f : Files). samples_of (f here.file)) (was.files tells));
+          (now.samples tells ∙ ap (λ (f : Files). all_samples (body_in (f here.file))) (was.files tells));
       sound = λ tells. sound_more gauges files c.loop-number.number here lt is (answer_over c.args.bridge.now files) (was.sound tells)
           (subst (λ (f : Files). file_state (f here.file) ≡ Sound) (was.files tells) (now.sound tells));
       many = omega (arith, was.many, ap length c.push_reserved.ensures.items, length-append old (samples ∷ []));

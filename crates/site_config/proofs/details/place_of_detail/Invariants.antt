@@ -1,5 +1,6 @@
 use Rattle.std.proofs.Common.{◌≡◌, drop}
-use Rattle.site_config.specs.Fields.{place_from, place_of}
+use Rattle.site_config.specs.Fields.{place_of}
+use Rattle.site_config.proofs.Lists.{place_from}
 use Rattle.site_config.specs.Configuration.{detail_names}
 use Rattle.site_config.proofs.details.place_of_detail.Given as goal
 

@@ -23,6 +23,6 @@ loop-preserved g c =
       left = omega (arith, was.left, c.in-Some.ensures.cases);
       fault = λ none whole. was.fault (λ rose. none (rose_more _ _ _ rose c.give_back_one.ensures.later))
           (each_more (λ (k : ℕ) (x : Lane g.row.T-Src.Denot). x.end ≢ ReadFault) fewer old c.in-Some.lane (length fewer) is refl whole
-          (λ e. none (rose_before _ _ _ was.later (c.give_back_one.ensures.fault e))));
+          (λ e. none (rose_before _ _ _ was.later (c.give_back_one.ensures.cause e))));
       later = omega (arith, was.later, c.give_back_one.ensures.later);
     }

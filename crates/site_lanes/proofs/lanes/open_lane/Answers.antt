@@ -27,7 +27,7 @@ returns-in-Err-open_recording-clause-answer g c = λ shows.
     (file_is c.args.bridge.now c.args.gauge _ _ _ c.requires.known c.as_slice.ensures c.as_str-name.ensures) c.as_slice-2.result.now _ _
     (c.as_slice-2.ensures ∙ ap (λ (h : HeadValue). h.heads) c.head.ensures)
     (ap (λ (x : Name). x.to) c.name-held.ensures.value ∙ c.held.ensures.end) (Lane g.row.T-Src.Denot) c.in-Err-open_recording.fault _
-    c.status_of.ensures (c.in-Err-open_recording.ensures.answer (c.in-Ok.ensures.source_tells shows))
+    c.opened_status.ensures (c.in-Err-open_recording.ensures.answer (c.in-Ok.ensures.source_tells shows))
 
 pub returns-in-Err-clause-asked : goal.returns-in-Err-clause-asked
 returns-in-Err-clause-asked g c =

@@ -1,7 +1,7 @@
 use Rattle.std.proofs.Common.{rules, refl, ◌≡◌, ◌+◌, ◌++◌, true, length, take, drop, sym, subst}
 use Rattle.lemmas.proofs.Lists.{all_written}
 use Rattle.count_workers.specs.Preparing.{NewWorker}
-use Rattle.count_workers.proofs.Preparation.{Preparing, prepared_none, prepared_more, rests_first}
+use Rattle.count_workers.proofs.Preparation.{Preparing, prepared_none, prepared_more, nothing_taken, rests_first}
 use Rattle.count_workers.proofs.prepared.Prepared.new.Goals as goal
 
 pub loop-number-init : goal.loop-number-init
@@ -40,3 +40,15 @@ invariant_of-result h c =
     rests_first c.args.plan.now c.in_ok-pool.pool c.in_ok-board.board c.loop-number.number c.loop-number.readers.items
     c.loop-number.workers.items c.loop-number.returns.items c.requires (search rules) c.loop-number.invariant.prepared (search rules)
     (search rules)
+
+pub returns : goal.returns
+returns h c = record {
+  grid = search rules;
+  gauges = search rules;
+  block = search rules;
+  workers = search rules;
+  board = search rules;
+  inside = search rules;
+  rings = nothing_taken c.args.plan.now c.loop-number.number c.loop-number.readers.items c.loop-number.workers.items
+      c.loop-number.returns.items (search rules) c.loop-number.invariant.prepared;
+}

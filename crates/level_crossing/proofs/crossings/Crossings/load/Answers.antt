@@ -1,14 +1,14 @@
 use Rattle.std.proofs.Common.{◌≡◌, sym, subst}
 use Rattle.turning_points.specs.Ends.{end_points}
-use Rattle.tables.specs.Bins.{count_at as count_of_bins}
-use Rattle.level_crossing.specs.Crossings.{IsCrossings, count_at}
+use Rattle.tables.specs.Bins.{count_at}
+use Rattle.level_crossing.specs.Crossings.{IsCrossings, crossing_count}
 use Rattle.level_crossing.proofs.Loaded.{crossed_counts, crossed_is}
 use Rattle.level_crossing.proofs.crossings.Crossings.load.Goals as goal
 
 pub returns-clause-counts : goal.returns-clause-counts
 returns-clause-counts c = λ l.
     let limits = c.replace_by.ensures.rules in
-    subst (λ v. count_at v l ≡ count_of_bins l c.args.bins.now) (sym c.replace_by.ensures.value)
+    subst (λ v. crossing_count v l ≡ count_at l c.args.bins.now) (sym c.replace_by.ensures.value)
     (crossed_counts c.args.self.now.classes c.args.self.now.reference (end_points c.args.ends.now) c.args.bins.now
     (limits.classes, limits.reference) c.requires l)
 

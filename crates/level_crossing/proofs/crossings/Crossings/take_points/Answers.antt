@@ -1,11 +1,11 @@
 use Rattle.std.proofs.Common.{◌≡◌, ◌+◌, ◌<◌, ◌≤◌, Bool, ℕ, List, length, sum, take, sym, ap, ◌∙◌, subst, arith}
 use Rattle.std.specs.Prelude.{All}
-use Rattle.level_crossing.specs.Crossings.{crossings, first_of, has_level}
+use Rattle.level_crossing.specs.Crossings.{crossings, start_level, has_level}
 use Rattle.turning_points.specs.EndPoints.{last_point}
 use Rattle.level_crossing.proofs.Filled.{Parts, filled_rules, filled_crosses}
 use Rattle.level_crossing.proofs.crossings.Crossings.take_points.Goals as goal
 
-parts : {k r q : ℕ} {p b s : List ℕ} {some : Bool} {first last : ℕ} → q ≡ r → some ≡ has_level p → first ≡ first_of p
+parts : {k r q : ℕ} {p b s : List ℕ} {some : Bool} {first last : ℕ} → q ≡ r → some ≡ has_level p → first ≡ start_level p
     → last ≡ last_point p →
     length b ≡ k + 1 → length s ≡ k + 1 → ((l : ℕ) → sum (take (l + 1) b) ≡ sum (take (l + 1) s) + crossings q l p) →
     ((i : ℕ) → sum (take (i + 1) s) ≤ sum (take i b)) → Parts k r p some first last b s

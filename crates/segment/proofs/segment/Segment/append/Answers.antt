@@ -4,7 +4,7 @@ use Rattle.three_point.specs.Run.{three_point}
 use Rattle.tally.specs.Counts.{HasGreatestRoom, count_of, total_of}
 use Rattle.four_point.specs.Reduction.{IsFourPointResult}
 use Rattle.four_point.specs.Residue.{AddsCycles}
-use Rattle.level_crossing.specs.Crossings.{count_at}
+use Rattle.level_crossing.specs.Crossings.{crossing_count}
 use Rattle.segment.specs.Segment.{StandsFor}
 use Rattle.segment.proofs.Residues.{recounted}
 use Rattle.segment.proofs.Room.{merge_room, join_room}
@@ -44,8 +44,9 @@ join-requires-clause-few c = λ l.
       arith,
       i.readings,
       j.readings,
-      crossed_both s.crossings.some r.crossings.some s.crossings.reference l s.crossings.last r.crossings.first (count_at s.crossings l)
-          (count_at r.crossings l)
+      crossed_both s.crossings.some r.crossings.some s.crossings.reference l s.crossings.last r.crossings.first
+          (crossing_count s.crossings l)
+          (crossing_count r.crossings l)
           s.used r.used (some_used s.crossings s.simple.ends s.used i.ends i.used)
           (some_used r.crossings r.simple.ends r.used j.ends j.used) (i.crossed l) (j.crossed l),
     )

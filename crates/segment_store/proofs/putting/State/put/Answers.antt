@@ -2,7 +2,7 @@ use Rattle.std.proofs.Common.{◌≡◌, ◌<◌, ◌+◌, ◌++◌, ◌∷◌, 
 use Rattle.std.proofs.lemmas.List.{length-take}
 use Rattle.calibration.specs.Grid.{GridValue}
 use Rattle.segment_rules.specs.declared.name.Name.{Name}
-use Rattle.segment_rules.specs.Rules.{IsSegment}
+use Rattle.segment_rules.specs.Rules.{AreSegmentParts}
 use Rattle.segment.specs.Parts.{parts_of}
 use Rattle.segment_bytes.specs.Grammar.{body_of}
 use Rattle.store_head.specs.Head.{see_head}
@@ -53,7 +53,7 @@ returns-in-Ok-clause-stored g c tells bodies isopen at =
     let n = c.name-name.ensures.value in
     let gauge = ap (λ (n : Name). n.gauge) n in
     let joins = sym (ap (λ (n : Name). n.from) n) ∙ c.if-name-to.false ∙ c.end-to.ensures ∙ ap (λ g. get_or ends g 0) gauge in
-    let rules = subst (λ g. IsSegment g p) c.requires.grid c.grid-grid.ensures.parts in
+    let rules = subst (λ g. AreSegmentParts g p) c.requires.grid c.grid-grid.ensures.parts in
     let next : IsNext head.setup ends p = record {
       body = record { segment = rules; gauge = c.requires.gauge; some = c.requires.some };
       joins = joins;
@@ -79,7 +79,7 @@ returns-in-Ok-clause-any_moment g c tells bodies isopen at =
     let n = c.name-name.ensures.value in
     let gauge = ap (λ (n : Name). n.gauge) n in
     let joins = sym (ap (λ (n : Name). n.from) n) ∙ c.if-name-to.false ∙ c.end-to.ensures ∙ ap (λ g. get_or ends g 0) gauge in
-    let rules = subst (λ g. IsSegment g p) c.requires.grid c.grid-grid.ensures.parts in
+    let rules = subst (λ g. AreSegmentParts g p) c.requires.grid c.grid-grid.ensures.parts in
     let next : IsNext head.setup ends p = record {
       body = record { segment = rules; gauge = c.requires.gauge; some = c.requires.some };
       joins = joins;
@@ -96,7 +96,7 @@ returns-in-Err-clause-any_moment g c tells bodies isopen at =
     let n = c.name-name.ensures.value in
     let gauge = ap (λ (n : Name). n.gauge) n in
     let joins = sym (ap (λ (n : Name). n.from) n) ∙ c.if-name-to.false ∙ c.end-to.ensures ∙ ap (λ g. get_or ends g 0) gauge in
-    let rules = subst (λ g. IsSegment g p) c.requires.grid c.grid-grid.ensures.parts in
+    let rules = subst (λ g. AreSegmentParts g p) c.requires.grid c.grid-grid.ensures.parts in
     let next : IsNext head.setup ends p = record {
       body = record { segment = rules; gauge = c.requires.gauge; some = c.requires.some };
       joins = joins;
