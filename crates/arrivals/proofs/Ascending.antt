@@ -1,7 +1,7 @@
 -- The blocks of a gauge that a worker gets ascend.
 use Rattle.std.proofs.Common.{◌≡◌, ◌<◌, ◌+◌, ◌*◌, ◌%◌, ◌&&◌, ℕ, zero, suc, List, [], ◌∷◌, ◌++◌, length, sym, subst, arith, Bool, true, false, cond, eqb, ltb}
 use Rattle.std.proofs.lemmas.List.{append-nil}
-use Rattle.segment_rules.specs.declared.name.Name.{Name}
+use Rattle.block_pool.specs.Name.{Name}
 use Rattle.flow.specs.Kept.{Each, NamesAscend}
 use Rattle.flow.specs.Kept.Each.{none}
 use Rattle.flow.specs.Kept.NamesAscend.{empty}

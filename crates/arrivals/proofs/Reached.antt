@@ -5,7 +5,7 @@ use Rattle.std.proofs.lemmas.List.Elements.{filter-append}
 use Rattle.std.proofs.lemmas.Bool.{cases_eq, cases_lt, eq-eqb, ne_eqb, lt-ltb, le-ltb}
 use Rattle.std.proofs.Math.Nat.{mul-div_cancel, mul-le-mul_right}
 use Rattle.std.proofs.Math.Bool.{and-false}
-use Rattle.segment_rules.specs.declared.name.Name.{Name}
+use Rattle.block_pool.specs.Name.{Name}
 use Rattle.flow.specs.Flow.{Flow, Event, name_of_samples, with_value, with_value_at, next, worker_of_next, IsAllowed, after, run, AllAllowed}
 use Rattle.flow.specs.Flow.Event.{Feed, Count, Deposit, Commit, Stop}
 use Rattle.flow.specs.Kept.{Each}

@@ -3,7 +3,7 @@ use Rattle.std.proofs.Common.{◌≡◌, ◌⊎◌, inl, inr, ◌≤◌, ◌<◌
 use Rattle.std.proofs.lemmas.List.{append-nil}
 use Rattle.std.proofs.lemmas.Bool.{cases_eq, cases_lt, lt-ltb, le-ltb}
 use Rattle.std.proofs.Math.Nat.{mul-le-mul_right}
-use Rattle.segment_rules.specs.declared.name.Name.{Name}
+use Rattle.block_pool.specs.Name.{Name}
 use Rattle.flow.specs.Flow.{Flow, Event, with_value, with_value_at, IsAllowed, after, run, AllAllowed}
 use Rattle.flow.specs.Flow.Event.{Feed, Count, Deposit}
 use Rattle.flow.specs.Kept.{Each}

@@ -8,7 +8,7 @@
 --   ArrivalsAreReached, ReachedAreArrivals, ArrivalsAscend    the laws
 use Rattle.std.specs.Prelude.{◌≡◌, ◌+◌, ◌-◌, ◌*◌, ◌/◌, ◌%◌, ◌<◌, ◌≤◌, ◌&&◌, ℕ, zero, suc, ℤ, List, [], ◌∷◌, ◌++◌, length, min, nat_lt, ◌==◌, if◌then◌else◌}
 use Rattle.std.specs.List.{filter}
-use Rattle.segment_rules.specs.declared.name.Name.{Name}
+use Rattle.block_pool.specs.Name.{Name}
 use Rattle.block_pool.specs.Units.{FilledValue}
 use Rattle.flow.specs.Flow.{Flow, Event, name_of_samples, run, AllAllowed}
 use Rattle.flow.specs.Flow.Event.{Feed, Count, Deposit}

@@ -8,9 +8,8 @@ use Rattle.std.specs.Prelude.{◌≡◌, ◌+◌, ◌≤◌, ◌<◌, ℕ, ℤ, 
 use Rattle.recording.specs.declared.TheConstants.{MAX_SAMPLES}
 use Rattle.calibration.specs.Gain.{GainValue}
 use Rattle.calibration.specs.Grid.{GridValue}
-use Rattle.segment_rules.specs.declared.name.Name.{Name}
+use Rattle.segment.specs.Name.{Name, name_of}
 use Rattle.segment.specs.Segment.{SegmentValue, Stands}
-use Rattle.segment.specs.Name.{name_of}
 
 pub record BlankValue : Type 0 where
   pub buffer : List ℤ

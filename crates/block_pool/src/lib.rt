@@ -13,6 +13,7 @@ mod tests;
 mod unit;
 
 pub use pool::Pool;
+pub use segment::Name;
 pub use std::alloc::AllocError as OutOfMemory;
 pub use unit::{Blank, Counted, Filled};
 

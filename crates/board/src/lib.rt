@@ -18,7 +18,9 @@ mod rows;
 mod tests;
 mod windows;
 
+pub use block_pool::{Counted, Pool};
 pub use flow::BLOCKS_PER_WINDOW;
+pub use segment::Name;
 pub use std::alloc::AllocError as OutOfMemory;
 pub use windows::{Board, Deposit};
 

@@ -7,7 +7,7 @@ use Rattle.gauge_ring.specs.declared.taker.Taker.{Taker}
 use Rattle.gauge_ring.specs.Ends.{taken, IsSameTaker}
 use Rattle.gauge_ring.proofs.Ends.{same_takers}
 use Rattle.block_pool.specs.Units.{CountedValue, PoolValue}
-use Rattle.board.specs.Board.{BoardValue}
+use Rattle.deposits.specs.Board.{BoardValue}
 use Rattle.flow.specs.Flow.{with_value}
 use Rattle.flow.proofs.Counting.{changed_same, changed_other}
 use Rattle.deposits.specs.Deposited.{DepositsUnits}

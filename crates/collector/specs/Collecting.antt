@@ -8,7 +8,7 @@
 use Rattle.std.specs.Prelude.{◌≡◌, ◌⊎◌, ◌<◌, ℕ, List, [], ◌∷◌, ◌++◌, length, map, slice_index_or, true, false}
 use Rattle.gauge_ring.specs.Ends.{taken, IsSameTaker}
 use Rattle.block_pool.specs.Units.{CountedValue, PoolValue}
-use Rattle.board.specs.Board.{BoardValue}
+use Rattle.deposits.specs.Board.{BoardValue}
 use Rattle.deposits.specs.Deposited.{DepositsUnit, DepositsUnits}
 use Rattle.deposits.specs.Mixed.{IsMixOf}
 use Rattle.block_workers.specs.declared.item.Back.TheVariants.{Over}

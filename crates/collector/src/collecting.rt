@@ -3,8 +3,7 @@ ghost use Rattle.collector.specs.Collecting.{AllAwaited, LooksAtRing, CollectsMo
 
 use block_pool::{Counted, Pool};
 use block_workers::Back;
-use board::Board;
-use deposits::deposit_one;
+use deposits::{Board, deposit_one};
 use gauge_ring::Taker;
 use std::sync::Wait;
 use std::thread;

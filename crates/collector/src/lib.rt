@@ -14,5 +14,6 @@ mod settling;
 mod tests;
 
 pub use collecting::{Return, collect};
+pub use deposits::Board;
 pub use running::run_round;
 pub use settling::settle_returns;

@@ -6,7 +6,7 @@ ghost use Rattle.collector.specs.Collecting.{AllAwaited, IsCollected};
 use crate::{Return, collect};
 use block_pool::Pool;
 use block_workers::{Reader, Worker, run_all};
-use board::Board;
+use deposits::Board;
 use outside::{Gate, Source};
 use std::sync::Wait;
 use std::thread::Threads;

@@ -2,12 +2,11 @@ ghost use Rattle.std.specs.Prelude.{◌≡◌, ◌≤◌, length};
 ghost use Rattle.deposits.specs.Deposited.{SamePool};
 
 use super::*;
-use block_pool::{Counted, Pool};
+use block_pool::{Counted, Name, Pool};
 use block_workers::Back;
-use board::Board;
 use calibration::{Gain, Grid};
+use deposits::Board;
 use gauge_ring::ring;
-use segment::Name;
 use std::test::Fail;
 
 // A unit of the pool with these samples of gauge 0, from a place on.

@@ -15,8 +15,8 @@ use Rattle.count_workers.specs.Plans.{IsPlan}
 use Rattle.round_making.specs.Resting.{IsEven, RestingWorker, RestingReturn, IsResting, rings_of}
 use Rattle.lane_loans.proofs.Walking.{map_at, some_of}
 use Rattle.block_pool.specs.Units.{PoolValue}
-use Rattle.board.specs.Board.{BoardValue}
-use Rattle.collector.specs.declared.collecting.Return.{Return}
+use Rattle.round_making.specs.Board.{BoardValue}
+use Rattle.round_making.specs.Return.{Return}
 use Rattle.count_workers.specs.Preparing.{IsFreshReader, NewReaders, ConnectsRing, NewWorker}
 use Rattle.flow.specs.declared.TheConstants.{BLOCKS_PER_WINDOW}
 

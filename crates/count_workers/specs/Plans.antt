@@ -4,7 +4,7 @@
 use Rattle.std.specs.Prelude.{◌≡◌, ◌*◌, ◌<◌, ◌≤◌, ℕ, [], length}
 use Rattle.flow.specs.declared.TheConstants.{BLOCKS_PER_WINDOW}
 use Rattle.block_pool.specs.declared.TheConstants.{MAX_BLOCK}
-use Rattle.board.specs.declared.TheConstants.{MAX_GAUGES}
+use Rattle.calibration.specs.declared.limits.TheConstants.{MAX_GAUGES}
 use Rattle.round_making.specs.declared.TheConstants.{MAX_WORKERS}
 use Rattle.round_making.specs.Resting.{PreparedValue}
 use Rattle.round_making.specs.Round.{ring_at}

@@ -1,17 +1,15 @@
 ghost use Rattle.std.specs.Prelude.{◌≡◌, ◌<◌, ◌*◌, ℕ, length, slice_index_or, IfOk};
-ghost use Rattle.board.specs.Board.{IsFront};
+ghost use Rattle.round_making.specs.Board.{IsFront};
 ghost use Rattle.flow.specs.declared.TheConstants.{BLOCKS_PER_WINDOW};
 
 use crate::preparing::{new_readers, new_worker};
 use crate::{Lane, OutOfMemory, Plan};
 use block_pool::Pool;
 use block_workers::{Reader, Worker};
-use board::Board;
-use collector::Return;
 use flow::BLOCKS_PER_WINDOW;
 use gauge_ring::ring;
 use outside::{Gate, Source};
-use round_making::make_round;
+use round_making::{Board, Return, make_round};
 use segment::{Name, Segment};
 use std::alloc::Global;
 use std::marker::Model;

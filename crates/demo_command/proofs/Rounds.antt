@@ -16,10 +16,10 @@ use Rattle.segment.proofs.Empty.{empty_stands}
 use Rattle.lane_ends.specs.declared.end.End.{End}
 use Rattle.lane_ends.specs.declared.end.End.TheVariants.{More, Ended, Torn, ReadFault, TooLong}
 use Rattle.lane_ends.proofs.Giving.{more_or_not}
-use Rattle.lane_loans.specs.declared.lane.Lane.{Lane}
-use Rattle.lane_loans.proofs.Walking.{some_of}
-use Rattle.round_making.specs.Resting.{PreparedValue}
-use Rattle.round_making.specs.Round.{LaneDone, FrontDone, RoundDone}
+use Rattle.site_lanes.specs.Lane.{Lane}
+use Rattle.site_lanes.proofs.Walking.{some_of}
+use Rattle.site_lanes.specs.Resting.{PreparedValue}
+use Rattle.site_lanes.specs.Round.{LaneDone, FrontDone, RoundDone}
 use Rattle.recorded.specs.Recorded.{Recorded}
 use Rattle.site_lanes.specs.Lanes.{SourceStands, IsLane, AreReady, AreLanes, IsWhole}
 use Rattle.site_lanes.proofs.AfterRound.{stood_more}

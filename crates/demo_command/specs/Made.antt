@@ -9,7 +9,7 @@ use Rattle.calibration.specs.Gain.{GainValue}
 use Rattle.calibration.specs.Grid.{GridValue}
 use Rattle.calibration.specs.History.{history}
 use Rattle.lane_ends.specs.declared.end.End.TheVariants.{More}
-use Rattle.lane_loans.specs.declared.lane.Lane.{Lane}
+use Rattle.site_lanes.specs.Lane.{Lane}
 use Rattle.demo_command.specs.declared.made.TheConstants.{CLASSES, WIDTH, LOW_KPA, REFERENCE, KPA}
 
 abbrev pub demo_grid : GridValue

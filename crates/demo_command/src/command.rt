@@ -5,7 +5,7 @@ ghost use Rattle.demo_command.specs.Summary.{IsSummary};
 ghost use Rattle.status.specs.Printing.{IsPrinting};
 ghost use Rattle.demo_command.specs.Answer.{IsDemoAnswer};
 ghost use Rattle.demo_command.specs.declared.TheConstants.{MAX_SEED, MAX_DEMO_SAMPLES};
-ghost use Rattle.round_making.specs.declared.TheConstants.{MAX_WORKERS};
+ghost use Rattle.calibration.specs.declared.limits.TheConstants.{MAX_WORKERS};
 ghost use Rattle.status.specs.declared.status.Status.TheVariants.{Done, WriteFault};
 
 use crate::counting::count_made;

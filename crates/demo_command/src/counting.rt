@@ -1,16 +1,16 @@
 ghost use Rattle.std.specs.Prelude.{◌≡◌, ◌≤◌, ◌<◌, ℕ, length, slice_index_or, IfOk};
 ghost use Rattle.demo_command.specs.Totals.{IsTotal};
 ghost use Rattle.demo_command.specs.declared.TheConstants.{MAX_SEED, MAX_DEMO_SAMPLES};
-ghost use Rattle.round_making.specs.declared.TheConstants.{MAX_WORKERS};
+ghost use Rattle.calibration.specs.declared.limits.TheConstants.{MAX_WORKERS};
 ghost use Rattle.demo_command.specs.declared.made.TheConstants.{GAUGES};
 
 use crate::made::{BLOCK, GAUGES, grid_of_demo, made_lanes};
 use crate::totals::{join_fronts, new_totals};
-use count_workers::{OutOfMemory, Plan, Prepared};
 use flow::BLOCKS_PER_WINDOW;
 use outside::Gate;
 use recording::Synth;
 use segment::Segment;
+use site_lanes::{OutOfMemory, Plan, Prepared};
 use std::sync::Wait;
 use std::thread::Threads;
 

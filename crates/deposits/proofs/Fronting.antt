@@ -3,10 +3,9 @@ use Rattle.std.proofs.Common.{◌≡◌, inl, inr, ◌≤◌, ℕ, ap, ◌∙◌
 use Rattle.std.proofs.lemmas.Bool.{cases_lt}
 use Rattle.std.proofs.lemmas.Bool.Decides.{nat_tests}
 use Rattle.segment_rules.specs.declared.name.Name.{Name}
-use Rattle.segment.specs.Segment.{SegmentValue}
-use Rattle.segment.specs.Name.{name_of}
-use Rattle.flow.specs.Flow.{name_of_samples}
-use Rattle.flow.specs.Flow.{hits}
+use Rattle.board.specs.Segment.{SegmentValue}
+use Rattle.board.specs.Name.{name_of}
+use Rattle.flow.specs.Flow.{name_of_samples, hits}
 use Rattle.flow.specs.Kept.{between}
 use Rattle.flow.proofs.Counting.{between_one}
 use Rattle.board.specs.Board.{BoardValue, IsFront, start_of}

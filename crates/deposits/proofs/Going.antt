@@ -4,12 +4,12 @@ use Rattle.std.specs.Prelude.{ℤ}
 use Rattle.std.proofs.lemmas.List.{append-nil}
 use Rattle.calibration.specs.Gain.{GainValue}
 use Rattle.segment_rules.specs.declared.name.Name.{Name}
-use Rattle.segment.specs.Segment.{SegmentValue}
-use Rattle.segment.specs.Name.{name_of}
+use Rattle.board.specs.Segment.{SegmentValue}
+use Rattle.board.specs.Name.{name_of}
 use Rattle.board.specs.declared.windows.Deposit.{Deposit}
 use Rattle.board.specs.declared.windows.Deposit.TheVariants.{Placed, Stranger, Double}
 use Rattle.board.specs.Deposits.{IsDepositAnswer}
-use Rattle.block_pool.specs.Units.{CountedValue, PoolValue}
+use Rattle.board.specs.Units.{CountedValue, PoolValue}
 use Rattle.flow.specs.Flow.{hits_of_name, hits}
 use Rattle.flow.proofs.Counting.{hits-append, hits_of_name_inside}
 use Rattle.board.specs.Board.{BoardValue, CarriesSamples, StandsIn, SameBoard, Fits}

@@ -8,8 +8,8 @@
 use Rattle.std.specs.Prelude.{◌≡◌, ◌+◌, ◌<◌, ◌≤◌, ℕ, ℤ, List, [], ◌∷◌, ◌++◌, length, map}
 use Rattle.calibration.specs.Gain.{GainValue}
 use Rattle.segment_rules.specs.declared.name.Name.{Name}
-use Rattle.segment.specs.Name.{name_of}
-use Rattle.block_pool.specs.Units.{CountedValue, PoolValue}
+use Rattle.board.specs.Name.{name_of}
+use Rattle.board.specs.Units.{CountedValue, PoolValue}
 use Rattle.flow.specs.Flow.{hits}
 use Rattle.flow.specs.Kept.{Each}
 use Rattle.board.specs.Board.{BoardValue, CarriesSamples, StandsIn, SameBoard, Fits}

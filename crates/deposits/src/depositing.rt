@@ -1,8 +1,7 @@
 ghost use Rattle.std.specs.Prelude.{◌≡◌};
 ghost use Rattle.deposits.specs.Deposited.{DepositsUnit};
 
-use block_pool::{Counted, Pool};
-use board::Board;
+use board::{Board, Counted, Pool};
 
 /// Deposits a unit of the pool's block and grid on the board, and gives it back to the pool, which
 /// has room. A unit that does not fit the pool is dropped.

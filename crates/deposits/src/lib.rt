@@ -10,4 +10,5 @@ mod depositing;
 #[cfg(test)]
 mod tests;
 
+pub use board::{Board, MAX_GAUGES};
 pub use depositing::deposit_one;

@@ -2,10 +2,8 @@ ghost use Rattle.std.specs.Prelude.{◌≡◌, ◌≤◌, length};
 ghost use Rattle.deposits.specs.Deposited.{SamePool};
 
 use super::*;
-use block_pool::{Counted, Pool};
-use board::Board;
+use board::{Board, Counted, Name, Pool};
 use calibration::{Gain, Grid};
-use segment::Name;
 use std::test::Fail;
 
 // A unit of the pool with these samples of gauge 0, from a place on.

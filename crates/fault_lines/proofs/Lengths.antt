@@ -15,19 +15,19 @@ use Rattle.site_config.specs.declared.fault.KeyName.{KeyName}
 use Rattle.site_config.specs.declared.fault.KeyName.TheVariants as name
 use Rattle.site_config.specs.declared.fault.ConfigFault.{ConfigFault}
 use Rattle.site_config.specs.declared.fault.ConfigFault.TheVariants as config
-use Rattle.store_head.specs.declared.fault.Field.{Field}
-use Rattle.store_head.specs.declared.fault.Field.TheVariants as field
-use Rattle.segment_store.specs.declared.damage.Damage.{Damage}
-use Rattle.segment_store.specs.declared.damage.Damage.TheVariants as damage
-use Rattle.recount.specs.declared.compare.What.{What}
-use Rattle.recount.specs.declared.compare.What.TheVariants as what
+use Rattle.status.specs.Field.{Field}
+use Rattle.status.specs.Field.TheVariants as field
+use Rattle.status.specs.Damage.{Damage}
+use Rattle.status.specs.Damage.TheVariants as damage
+use Rattle.status.specs.What.{What}
+use Rattle.status.specs.What.TheVariants as what
 use Rattle.status.specs.declared.status.RecordingFault.{RecordingFault}
 use Rattle.status.specs.declared.status.RecordingFault.TheVariants as recording
 use Rattle.status.specs.declared.status.StoreFault.{StoreFault}
 use Rattle.status.specs.declared.status.StoreFault.TheVariants as store
 use Rattle.status.specs.declared.status.Status.{Status}
 use Rattle.status.specs.declared.status.Status.TheVariants.{Done, Usage, Config, Store, Recording, Torn, ReadFault, WriteFault, DiskFault, OutOfMemory, TooLong, Differs}
-use Rattle.store_head.specs.FaultText.{field_text}
+use Rattle.status.specs.FaultText.{field_text}
 use Rattle.fault_lines.specs.FaultLine.{digest_digits, id_digits, damage_text, store_text, recording_text, what_text, differs_text, torn_text, recording_line, fault_line}
 use Rattle.fault_lines.specs.declared.line.TheConstants.{MAX_BYTES_BESIDE_NAME}
 use Rattle.lemmas.proofs.Lists.{length-append-le as appended, length-cond-le as either}

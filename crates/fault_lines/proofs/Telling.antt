@@ -2,7 +2,7 @@
 use Rattle.std.proofs.Common.{◌≡◌, ◌⊎◌, inl, inr, ⊎_elim, ℕ, List, [], ◌∷◌, ◌++◌, ◌∙◌, ap}
 use Rattle.station.specs.Station.{Image, Lines, MomentsSince, Since}
 use Rattle.station.proofs.Moments.{continues, entails}
-use Rattle.segment_store.specs.Quiet.{IsQuiet}
+use Rattle.status.specs.Quiet.{IsQuiet}
 use Rattle.fault_lines.specs.Telling.{InFault, TellsAtMost}
 
 -- a run that reads, and then tells

@@ -14,11 +14,11 @@ use Rattle.site_config.specs.FaultText.{config_fault_text}
 use Rattle.site_config.specs.declared.config.Config.{Config as Configuration}
 use Rattle.site_config.specs.Valid.{name_of}
 use Rattle.site_config.specs.declared.fault.ConfigFault.{ConfigFault}
-use Rattle.store_head.specs.FaultText.{field_text}
-use Rattle.segment_store.specs.declared.damage.Damage.{Damage}
-use Rattle.segment_store.specs.declared.damage.Damage.TheVariants.{Digest}
-use Rattle.recount.specs.declared.compare.What.{What}
-use Rattle.recount.specs.declared.compare.What.TheVariants as what
+use Rattle.status.specs.FaultText.{field_text}
+use Rattle.status.specs.Damage.{Damage}
+use Rattle.status.specs.Damage.TheVariants.{Digest}
+use Rattle.status.specs.What.{What}
+use Rattle.status.specs.What.TheVariants as what
 use Rattle.status.specs.declared.status.RecordingFault.{RecordingFault}
 use Rattle.status.specs.declared.status.RecordingFault.TheVariants as recording
 use Rattle.status.specs.declared.status.StoreFault.{StoreFault}

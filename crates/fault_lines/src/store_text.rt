@@ -1,12 +1,11 @@
 ghost use Rattle.std.specs.Prelude.{◌≡◌, ◌++◌, codes};
 ghost use Rattle.std.specs.Fmt.{decimal};
 ghost use Rattle.line_room.specs.Room.{Fits, with_text};
-ghost use Rattle.store_head.specs.FaultText.{field_text};
+ghost use Rattle.status.specs.FaultText.{field_text};
 ghost use Rattle.fault_lines.specs.FaultLine.{digest_digits, damage_text, store_text};
 
 use line_room::LineRoom;
-use segment_store::{Damage, Field};
-use status::StoreFault;
+use status::{Damage, Field, StoreFault};
 
 pub(crate) fn push_store(line: &mut LineRoom, fault: StoreFault)
     requires { Fits line.old (codes "store: " ++ store_text fault ++ codes "\n") }

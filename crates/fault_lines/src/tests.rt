@@ -1,9 +1,7 @@
 use super::*;
-use recount::What;
-use segment_store::{Damage, Field};
 use site_config::{ConfigFault, Key, KeyName, Part};
 use station::MomentStation;
-use status::{RecordingFault, Status, StoreFault};
+use status::{Damage, Field, RecordingFault, Status, StoreFault, What};
 use std::alloc::{AllocError, Global};
 use std::test::Fail;
 

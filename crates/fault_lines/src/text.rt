@@ -16,9 +16,8 @@ ghost use Rattle.fault_lines.specs.FaultLine.{
 
 use crate::store_text::push_store;
 use line_room::LineRoom;
-use recount::What;
 use site_config::{ConfigFault, Key, KeyName};
-use status::{RecordingFault, Status};
+use status::{RecordingFault, Status, What};
 
 const USAGE: &[u8] =
     b"usage: monitor table FILE | init | count [--workers N] | report | audit | demo [--seed N] [--samples N] [--workers N] | repeat | column FILE NAME ID PERIOD | sheet\n";

@@ -2,7 +2,7 @@ ghost use Rattle.std.specs.Prelude.{◌≡◌, ◌+◌, ◌*◌, ◌≤◌, ◌<
 ghost use Rattle.std.specs.List.{All};
 ghost use Rattle.flow.specs.Kept.{over};
 ghost use Rattle.block_pool.specs.Units.{IsBlank};
-ghost use Rattle.board.specs.Board.{IsBegun};
+ghost use Rattle.deposits.specs.Board.{IsBegun};
 ghost use Rattle.deposits.specs.Deposited.{SamePool};
 ghost use Rattle.block_workers.specs.Jobs.{CanRead};
 ghost use Rattle.recording.specs.declared.TheConstants.{MAX_SAMPLES};
@@ -14,7 +14,7 @@ use crate::Lane;
 use crate::units::{give_units, lend_units};
 use block_pool::Pool;
 use block_workers::Reader;
-use board::{Board, MAX_GAUGES};
+use deposits::{Board, MAX_GAUGES};
 use outside::Source;
 
 /// Begins the board's windows where the lanes stand.

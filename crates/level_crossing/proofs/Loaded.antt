@@ -4,12 +4,12 @@ use Rattle.std.specs.Prelude.{All}
 use Rattle.std.proofs.lemmas.Bool.Decides.{nat_tests}
 use Rattle.std.proofs.lemmas.List.{length-replicate}
 use Rattle.std.proofs.lemmas.List.Elements.{All-head, All-tail}
-use Rattle.tally.specs.declared.cells.Bin.{Bin}
+use Rattle.tables.specs.Bin.{Bin}
 use Rattle.turning_points.specs.EndPoints.{EndPoints}
 use Rattle.tables.specs.Tables.{table_with_bins}
 use Rattle.tables.specs.Bins.{count_at}
 use Rattle.tables.proofs.Filled.{count_placed, none_before, filled_at, table_at, table_long}
-use Rattle.lemmas.proofs.Lists.{get_or-zeros}
+use Rattle.tables.proofs.Lists.{get_or-zeros}
 use Rattle.calibration.specs.declared.grid.TheConstants.{MAX_CLASSES}
 use Rattle.level_crossing.specs.Crossings.{IsCrossings, crossing_count}
 use Rattle.level_crossing.specs.Loading.{CanLoadCrossings, loaded_of}

@@ -3,7 +3,7 @@
 --   loaded_of         the value with them
 --   HasEnds           whether there is a level, the first one and the last one
 use Rattle.std.specs.Prelude.{◌≡◌, ◌<◌, ◌≤◌, ℕ, ◌+◌, ◌==◌, not, List, All, replicate}
-use Rattle.tally.specs.declared.cells.Bin.{Bin}
+use Rattle.tables.specs.Bin.{Bin}
 use Rattle.turning_points.specs.EndPoints.{EndPoints}
 use Rattle.tables.specs.Tables.{table_with_bins}
 use Rattle.tables.specs.Bins.{AreBinsFrom}

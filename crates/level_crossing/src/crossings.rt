@@ -13,8 +13,7 @@ use crate::points::{fill, first_level, has_some, last_level};
 use calibration::Grid;
 use std::alloc::{AllocError, Global};
 use std::marker::Model;
-use tables::{add_to, empty, fill as fill_bins, raise};
-use tally::Bin;
+use tables::{Bin, add_to, empty, fill as fill_bins, raise};
 use turning_points::Ends;
 
 /// How often a history crossed each boundary, as a table of differences.

@@ -5,7 +5,7 @@ use super::*;
 use calibration::Grid;
 use std::alloc::{AllocError, Global};
 use std::test::Fail;
-use tally::Bin;
+use tables::Bin;
 use turning_points::ends_of;
 
 // The standard's own example, on 16 classes of 1 N/mm² from -8 N/mm², with the reference at 0.

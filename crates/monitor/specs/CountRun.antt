@@ -9,7 +9,7 @@ use Rattle.recorded.specs.Recorded.{recordings}
 use Rattle.recorded.specs.Asked.{AsksFirst, names_in}
 use Rattle.held_samples.specs.Going.{AllHold, KeepsTold}
 use Rattle.held_samples.specs.Told.{Acknowledges}
-use Rattle.site_lanes.specs.Answers.{HeadsFit, AllSound}
+use Rattle.count_command.specs.Answers.{HeadsFit, AllSound}
 use Rattle.status.specs.declared.status.Status.{Status}
 use Rattle.status.specs.declared.status.Status.TheVariants.{Done, Usage, ReadFault, WriteFault, DiskFault, OutOfMemory}
 use Rattle.status.specs.Printing.{IsPrinting}

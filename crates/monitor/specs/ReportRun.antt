@@ -12,7 +12,7 @@ use Rattle.fault_lines.specs.FaultLine.{fault_line}
 use Rattle.status.specs.declared.status.Status.{Status}
 use Rattle.status.specs.declared.status.Status.TheVariants.{Done, ReadFault, WriteFault, DiskFault, OutOfMemory}
 use Rattle.status.specs.Printing.{IsPrinting}
-use Rattle.site_report.specs.Report.{figures_by}
+use Rattle.report_command.specs.Report.{figures_by}
 use Rattle.report_command.specs.Printing.{Prints, PrintsKept, held_of}
 use Rattle.report_command.specs.Answers.{IsSound, ReportAnswers, IsReporting}
 use Rattle.monitor.specs.Shown.{Shown, Tells, Ends}

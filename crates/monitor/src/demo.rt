@@ -3,7 +3,7 @@ ghost use Rattle.fault_lines.specs.FaultLine.{fault_line};
 ghost use Rattle.fault_lines.specs.Telling.{TellsAtMost, EndsIn};
 ghost use Rattle.outside.specs.Fault.{CountRose};
 ghost use Rattle.demo_command.specs.declared.TheConstants.{MAX_SEED, MAX_DEMO_SAMPLES};
-ghost use Rattle.round_making.specs.declared.TheConstants.{MAX_WORKERS};
+ghost use Rattle.calibration.specs.declared.limits.TheConstants.{MAX_WORKERS};
 ghost use Rattle.monitor.specs.DemoRun.{DemoRuns};
 
 use crate::refused::no_memory;

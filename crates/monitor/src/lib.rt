@@ -28,6 +28,7 @@ mod table;
 mod top;
 
 pub use command::table_command;
+pub use fault_lines::tell_no_memory;
 pub use top::monitor;
 
 #[cfg(test)]

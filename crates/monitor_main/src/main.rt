@@ -17,8 +17,7 @@ ghost use Rattle.std.specs.Process.{exit_status};
 ghost use Rattle.status.specs.Status.{code_of};
 
 use adapters::{FolderSite, OutputSink};
-use fault_lines::tell_no_memory;
-use monitor::monitor;
+use monitor::{monitor, tell_no_memory};
 use named_file::NamedFile;
 use outside::OpenGate;
 use station::Station;

@@ -7,8 +7,8 @@ use Rattle.three_point.specs.Run.{three_point}
 use Rattle.tally.specs.Counts.{Counts, count_of}
 use Rattle.report.specs.Counts.{kinds_of}
 use Rattle.report.specs.declared.counts.SampleCounts.{SampleCounts}
-use Rattle.segment.specs.Segment.{SegmentValue}
-use Rattle.segment.specs.Figures.{halves_of}
+use Rattle.report.specs.Segment.{SegmentValue}
+use Rattle.report.specs.Figures.{halves_of}
 use Rattle.recount.specs.Counted.{IsRecount}
 use Rattle.recount.specs.Compared.{AreSame, Compares, IsCellOther, IsFirstOther, used_differ, missing_differ, refused_differ, cell_differs, all_same}
 use Rattle.recount.specs.declared.compare.Difference.{Difference}

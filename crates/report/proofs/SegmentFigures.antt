@@ -12,11 +12,11 @@ use Rattle.three_point.specs.Run.{half_units_of_pair}
 use Rattle.three_point.specs.Sums.{sum_at_range}
 use Rattle.three_point.proofs.Sums.{sum_at_range-doubled}
 use Rattle.tally.specs.Counts.{count_of}
-use Rattle.residue_join.specs.HalfUnits.{neighbours}
+use Rattle.segment.specs.HalfUnits.{neighbours}
 use Rattle.turning_points.specs.Points.{points}
-use Rattle.level_crossing.specs.Crossings.{crossings}
-use Rattle.simple_counts.specs.Simple.{SimpleValue, peaks_at, valleys_at, open_at}
-use Rattle.simple_counts.proofs.Readers.{peak_counts, range_counts, valley_counts}
+use Rattle.segment.specs.Crossings.{crossings}
+use Rattle.segment.specs.Simple.{SimpleValue, peaks_at, valleys_at, open_at}
+use Rattle.segment.proofs.Readers.{peak_counts, range_counts, valley_counts}
 use Rattle.segment.specs.Segment.{SegmentValue, IsSegment, Stands}
 use Rattle.segment.specs.Figures.{halves_of}
 use Rattle.segment.proofs.HalfUnits.{count_few, halves_stand, range_parts, range_stands}

@@ -4,3 +4,4 @@ pub mod Lines
 pub mod Texts
 pub mod Repeat
 pub mod Page
+pub use Rattle.segment.specs.Segment

@@ -22,6 +22,7 @@ pub use detail::detail_text;
 pub use gauge::gauge_text;
 pub use page::Page;
 pub use repeat::repeat_text;
+pub use segment::Segment;
 pub use table::table_text;
 
 #[cfg(test)]

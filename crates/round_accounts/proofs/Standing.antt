@@ -4,7 +4,7 @@ use Rattle.std.specs.Prelude.{ℤ, slice_range}
 use Rattle.std.proofs.lemmas.List.{drop-drop, append-nil, drop_at, take_at}
 use Rattle.calibration.specs.Gain.{GainValue}
 use Rattle.segment_rules.specs.declared.name.Name.{Name}
-use Rattle.segment.specs.Segment.{Stands}
+use Rattle.deposits.specs.Segment.{Stands}
 use Rattle.block_pool.specs.Units.{FilledValue, CountedValue, IsCountOf}
 use Rattle.deposits.specs.Deposited.{UnitStands, unit_names}
 use Rattle.flow.specs.Kept.Each.{none as no_item, both}

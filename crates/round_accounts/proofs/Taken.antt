@@ -9,8 +9,8 @@ use Rattle.flow.specs.Flow.{hits}
 use Rattle.flow.specs.Kept.{over, between, Each}
 use Rattle.flow.proofs.Counting.{over_same, hits_other, each_map}
 use Rattle.block_pool.specs.Units.{FilledValue, CountedValue, IsCountOf}
-use Rattle.board.specs.Board.{IsBlockOf}
-use Rattle.board.proofs.Counts.{over_only}
+use Rattle.deposits.specs.Board.{IsBlockOf}
+use Rattle.deposits.proofs.Counts.{over_only}
 use Rattle.deposits.specs.Deposited.{unit_name, unit_names, UnitStands}
 use Rattle.flow.specs.Kept.Each.{none as no_item, both}
 use Rattle.deposits.specs.Mixed.{IsMixOf}

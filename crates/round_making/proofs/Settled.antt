@@ -11,16 +11,16 @@ use Rattle.std.proofs.lemmas.List.{get_or_default, take_all, length-replicate}
 use Rattle.gauge_ring.specs.declared.taker.Taker.{Taker}
 use Rattle.gauge_ring.specs.declared.feeder.Feeder.{Feeder}
 use Rattle.gauge_ring.specs.Ends.{fed, taken, AreOneRing}
-use Rattle.segment_rules.specs.declared.name.Name.{Name}
-use Rattle.flow.specs.Flow.{hits}
+use Rattle.block_pool.specs.Name.{Name}
+use Rattle.flow.specs.Flow.{hits, name_of_samples}
 use Rattle.flow.specs.Kept.{over, between}
 use Rattle.flow.proofs.Counting.{over_same, over_sum, hits_other, each_map}
 use Rattle.block_pool.specs.Units.{FilledValue, PoolValue, IsBlank}
-use Rattle.board.specs.Board.{BoardValue, IsBegun, IsBlockOf, start_of, IsFront, CarriesSamples}
-use Rattle.board.proofs.Counts.{over_most}
-use Rattle.deposits.specs.Deposited.{unit_name, unit_names, IsGood, SamePool, UnitsArePlaced}
-use Rattle.deposits.specs.Mixed.{IsMixOf}
-use Rattle.deposits.proofs.Going.{good_at_first}
+use Rattle.collector.specs.Board.{BoardValue, IsBegun, IsBlockOf, start_of, IsFront, CarriesSamples}
+use Rattle.collector.proofs.Counts.{over_most}
+use Rattle.collector.specs.Deposited.{unit_name, unit_names, IsGood, SamePool, UnitsArePlaced}
+use Rattle.collector.specs.Mixed.{IsMixOf}
+use Rattle.collector.proofs.Going.{good_at_first}
 use Rattle.block_workers.specs.declared.item.Item.{Item}
 use Rattle.block_workers.specs.declared.desk.Desk.{Desk}
 use Rattle.block_workers.specs.declared.jobs.Reader.{Reader}
@@ -34,9 +34,8 @@ use Rattle.collector.specs.declared.collecting.Return.{Return}
 use Rattle.collector.specs.Collecting.{IsCollected}
 use Rattle.collector.specs.Settling.{SameFeeding, IsStillAwaited, BackFifo}
 use Rattle.lane_loans.specs.declared.lane.Lane.{Lane}
-use Rattle.lane_loans.specs.Lent.{LendsSource, blanks_at, ReturnsSource}
+use Rattle.lane_loans.specs.Lent.{LendsSource, blanks_at, ReturnsSource, CanRound, at_of}
 use Rattle.round_making.specs.Resting.{PreparedValue, IsResting, RestingReader, RestingWorker, RestingReturn, IsEven, value_of, rings_of}
-use Rattle.lane_loans.specs.Lent.{CanRound, at_of}
 use Rattle.round_making.specs.Round.{LaneDone, FrontDone, RingDone, RoundDone, flow_of}
 use Rattle.lane_loans.proofs.Walking.{map_at, some_of}
 use Rattle.round_accounts.proofs.Lists.{in_turn, turn_same, choose, chosen}
@@ -47,11 +46,9 @@ use Rattle.std.proofs.lemmas.Option.{same_Some}
 use Rattle.recording.specs.Samples.{samples}
 use Rattle.lane_ends.specs.Ends.{IsRead}
 use Rattle.calibration.specs.Gain.{GainValue}
-use Rattle.segment.specs.Segment.{SegmentValue}
+use Rattle.segment.specs.Segment.{SegmentValue, Stands}
 use Rattle.segment.specs.Name.{name_of}
-use Rattle.segment.specs.Segment.{Stands}
-use Rattle.flow.specs.Flow.{name_of_samples}
-use Rattle.deposits.proofs.Fronting.{front_name}
+use Rattle.collector.proofs.Fronting.{front_name}
 use Rattle.block_workers.specs.Reading.AreBlocks.{none, last, more}
 use Rattle.gauge_ring.proofs.Ends.{same_takers, still_one}
 use Rattle.arrivals.specs.Arrivals.{Round as RoundOfFlow, AreArrivals, IsRound}

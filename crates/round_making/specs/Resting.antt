@@ -10,8 +10,8 @@ use Rattle.gauge_ring.specs.declared.feeder.Feeder.{Feeder}
 use Rattle.gauge_ring.specs.Ends.{fed, taken}
 use Rattle.block_pool.specs.Units.{PoolValue}
 use Rattle.block_pool.specs.declared.TheConstants.{MAX_BLOCK}
-use Rattle.board.specs.declared.TheConstants.{MAX_GAUGES}
-use Rattle.board.specs.Board.{BoardValue}
+use Rattle.calibration.specs.declared.limits.TheConstants.{MAX_GAUGES}
+use Rattle.collector.specs.Board.{BoardValue}
 use Rattle.round_making.specs.declared.TheConstants.{MAX_WORKERS}
 use Rattle.flow.specs.declared.TheConstants.{BLOCKS_PER_WINDOW}
 use Rattle.block_workers.specs.declared.item.Item.{Item}

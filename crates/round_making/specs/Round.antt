@@ -16,7 +16,7 @@ use Rattle.segment.specs.Name.{name_of}
 use Rattle.flow.specs.Flow.{name_of_samples, hits}
 use Rattle.flow.specs.Kept.{between}
 use Rattle.block_pool.specs.Units.{FilledValue}
-use Rattle.board.specs.Board.{IsFront}
+use Rattle.collector.specs.Board.{IsFront}
 use Rattle.arrivals.specs.Arrivals.{Round as RoundOfFlow, AreArrivals, IsRound, fed_to, names_of}
 use Rattle.block_workers.specs.declared.item.Item.{Item}
 use Rattle.block_workers.specs.Dealing.{round_of}

@@ -9,6 +9,7 @@
 
 mod making;
 
+pub use collector::{Board, Return};
 pub use making::make_round;
 
 /// The most workers of a round.

@@ -5,8 +5,7 @@ ghost use Rattle.round_making.specs.Round.{RoundDone};
 
 use block_pool::Pool;
 use block_workers::{Reader, Worker, settle_all};
-use board::Board;
-use collector::{Return, run_round, settle_returns};
+use collector::{Board, Return, run_round, settle_returns};
 use lane_loans::{Lane, begin_windows, lend_lanes, return_lanes};
 use outside::{Gate, Source};
 use std::sync::Wait;

@@ -17,3 +17,5 @@ pub mod Ready
 pub mod Made
 pub mod PartsStanding
 pub mod Empty
+pub use Rattle.four_point.proofs.Index
+pub use Rattle.simple_counts.proofs.Readers

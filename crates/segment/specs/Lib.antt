@@ -16,3 +16,4 @@ pub use Rattle.level_crossing.specs.Crossings
 pub use Rattle.simple_counts.specs.Simple
 pub use Rattle.calibration.specs.Level
 pub use Rattle.calibration.specs.History
+pub use Rattle.residue_join.specs.HalfUnits

@@ -16,7 +16,7 @@ use Rattle.calibration.specs.Grid.{GridValue, IsGrid}
 use Rattle.calibration.specs.declared.grid.TheConstants.{MAX_CLASSES}
 use Rattle.turning_points.specs.EndPoints.{EndPoints}
 use Rattle.lemmas.proofs.Naturals.{few_cases}
-use Rattle.tables.specs.Bins.{AreBinsFrom, sum_of}
+use Rattle.segment_rules.specs.Bins.{AreBinsFrom, sum_of}
 use Rattle.segment_rules.specs.Parts.{PartsValue}
 use Rattle.segment_rules.specs.Rules.{EndsAgree, AreSegmentParts}
 use Rattle.segment_rules.proofs.CellsFrom.{AreCellsFrom, cells_in_order}

@@ -9,3 +9,4 @@ pub mod Loops
 pub mod RowReading
 pub mod Rows
 pub mod Walked
+pub use Rattle.segment_rules.proofs.Chosen

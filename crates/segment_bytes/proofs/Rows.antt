@@ -8,7 +8,7 @@ use Rattle.lemmas.proofs.Outcomes.{both_none, none_passed}
 use Rattle.tally.specs.declared.cells.Cell.{Cell}
 use Rattle.tally.specs.declared.cells.Bin.{Bin}
 use Rattle.tally.specs.Counts.{IsCell}
-use Rattle.tables.specs.Bins.{AreBinsFrom}
+use Rattle.segment_rules.specs.Bins.{AreBinsFrom}
 use Rattle.segment_rules.specs.Tests.{wrong_bin}
 use Rattle.segment_rules.proofs.CellsFrom.{IsFrom, AreCellsFrom}
 use Rattle.segment_rules.proofs.Ordered.{bins_kept, kept_bins}

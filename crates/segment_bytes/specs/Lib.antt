@@ -7,3 +7,4 @@ pub mod Rows
 pub mod Sizes
 pub mod Views
 pub mod Writing
+pub use Rattle.segment_rules.specs.Tests

@@ -8,7 +8,7 @@ use Rattle.std.specs.Prelude.{◌+◌, ◌<◌, ◌≤◌, ◌==◌, ◌&&◌, n
 use Rattle.std.specs.Option.{option_or}
 use Rattle.tally.specs.declared.cells.Cell.{Cell}
 use Rattle.tally.specs.declared.cells.Bin.{Bin}
-use Rattle.tables.specs.Bins.{AreBinsFrom}
+use Rattle.segment_rules.specs.Bins.{AreBinsFrom}
 use Rattle.segment_rules.specs.Tests.{wrong_bin}
 
 pub record RowValue : Type 0 where

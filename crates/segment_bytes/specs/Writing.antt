@@ -10,8 +10,8 @@ use Rattle.tally.specs.declared.cells.Cell.{Cell}
 use Rattle.tally.specs.declared.cells.Bin.{Bin}
 use Rattle.tally.specs.Counts.{count_of, is_from}
 use Rattle.calibration.specs.Grid.{GridValue}
-use Rattle.level_crossing.specs.Crossings.{crossing_count}
-use Rattle.simple_counts.specs.Simple.{peak_count, range_count, valley_count}
+use Rattle.segment.specs.Crossings.{crossing_count}
+use Rattle.segment.specs.Simple.{peak_count, range_count, valley_count}
 use Rattle.segment_rules.specs.Parts.{PartsValue}
 use Rattle.segment.specs.Segment.{SegmentValue}
 use Rattle.segment.specs.Parts.{bins_from}

@@ -4,7 +4,7 @@ use Rattle.std.specs.Prelude.{◌&&◌, ◌||◌, ◌==◌, not, if◌then◌els
 use Rattle.std.proofs.lemmas.Bool.Decides.{nat_tests}
 use Rattle.std.proofs.lemmas.Bool.{and_parts, and_from, eqb-true, eq-eqb, eqb-false, ltb-true, lt-ltb}
 use Rattle.tally.specs.declared.cells.Bin.{Bin}
-use Rattle.tables.specs.Bins.{count_at}
+use Rattle.simple_counts.specs.Bins.{count_at}
 use Rattle.turning_points.specs.Points.{is_turn}
 use Rattle.turning_points.specs.EndPoints.{EndPoints, no_ends, only_point}
 use Rattle.turning_points.proofs.Zigzag.{turn_test, turn_of_test}

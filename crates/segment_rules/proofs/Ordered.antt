@@ -5,7 +5,7 @@ use Rattle.std.proofs.lemmas.Bool.Decides.{nat_tests}
 use Rattle.tally.specs.declared.cells.Cell.{Cell}
 use Rattle.tally.specs.declared.cells.Bin.{Bin}
 use Rattle.tally.specs.Counts.{IsCell}
-use Rattle.tables.specs.Bins.{AreBinsFrom}
+use Rattle.simple_counts.specs.Bins.{AreBinsFrom}
 use Rattle.lemmas.proofs.Outcomes.{none_passed}
 use Rattle.segment_rules.specs.Rules.{AreCells}
 use Rattle.segment_rules.specs.Tests.{is_cell_from, wrong_cell, is_bin_from, wrong_bin}

@@ -4,7 +4,7 @@ use Rattle.std.proofs.lemmas.List.Sums.{sum_by-cons}
 use Rattle.tally.specs.declared.cells.Cell.{Cell}
 use Rattle.tally.specs.declared.cells.Bin.{Bin}
 use Rattle.tally.specs.Counts.{total_of}
-use Rattle.tables.specs.Bins.{AreBinsFrom, sum_of}
+use Rattle.simple_counts.specs.Bins.{AreBinsFrom, sum_of}
 use Rattle.calibration.specs.Grid.{GridValue}
 use Rattle.four_point.proofs.Index.{residue_bound}
 use Rattle.segment_rules.specs.Parts.{PartsValue}

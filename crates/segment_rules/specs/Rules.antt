@@ -8,7 +8,7 @@
 use Rattle.std.specs.Prelude.{◌≡◌, ◌<◌, ◌≤◌, ◌+◌, ◌-◌, ◌*◌, ℕ, List, All, length, slice_index}
 use Rattle.tally.specs.declared.cells.Cell.{Cell}
 use Rattle.tally.specs.Counts.{IsAscending, IsCell, total_of}
-use Rattle.tables.specs.Bins.{AreBinsFrom, sum_of}
+use Rattle.simple_counts.specs.Bins.{AreBinsFrom, sum_of}
 use Rattle.turning_points.specs.EndPoints.{EndPoints, no_ends, only_point}
 use Rattle.turning_points.specs.Points.{IsTurn}
 use Rattle.four_point.specs.Residue.{IsResidue}

@@ -11,7 +11,7 @@ use Rattle.std.specs.Option.{option_or}
 use Rattle.tally.specs.declared.cells.Cell.{Cell}
 use Rattle.tally.specs.declared.cells.Bin.{Bin}
 use Rattle.tally.specs.Counts.{is_from, total_of}
-use Rattle.tables.specs.Bins.{sum_of, count_at}
+use Rattle.simple_counts.specs.Bins.{sum_of, count_at}
 use Rattle.turning_points.specs.Points.{is_turn}
 use Rattle.turning_points.specs.Pairs.{range}
 use Rattle.turning_points.specs.EndPoints.{EndPoints}

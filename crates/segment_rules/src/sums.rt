@@ -3,7 +3,7 @@ ghost use Rattle.std.specs.List.{list_all};
 ghost use Rattle.tally.specs.Counts.{total_of};
 ghost use Rattle.turning_points.specs.Ends.{end_points};
 ghost use Rattle.turning_points.specs.Pairs.{range};
-ghost use Rattle.tables.specs.Bins.{count_at, sum_of};
+ghost use Rattle.simple_counts.specs.Bins.{count_at, sum_of};
 ghost use Rattle.recording.specs.declared.TheConstants.{MAX_SAMPLES};
 ghost use Rattle.segment_rules.specs.Few.{AreFew};
 ghost use Rattle.segment_rules.specs.Parts.{parts_value};

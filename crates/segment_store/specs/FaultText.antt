@@ -9,6 +9,7 @@ use Rattle.segment.specs.Faults.{refusal_text}
 use Rattle.segment.specs.declared.segment.join.JoinRefusal.TheVariants as joints
 use Rattle.segment_bytes.specs.Faults.{bytes_text}
 use Rattle.store_head.specs.FaultText.{head_text}
+pub use Rattle.store_head.specs.FaultText.{field_text}
 use Rattle.store_head.specs.declared.fault.HeadFault.TheVariants as heads
 use Rattle.segment_store.specs.declared.damage.Damage.{Damage}
 use Rattle.segment_store.specs.declared.damage.Damage.TheVariants.{Cut, Length, Digest, Bytes, Gauge, Empty, Join}

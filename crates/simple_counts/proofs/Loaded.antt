@@ -2,7 +2,7 @@
 use Rattle.std.proofs.Common.{◌≡◌, ◌≢◌, ℕ, ◌+◌, ◌-◌, ◌<◌, ◌≤◌, ◌⊎◌, inl, inr, Bool, true, false, cond, leb, List, length, get_or, replicate, sum, refl, sym, ap, subst, ◌∙◌, arith, length-set}
 use Rattle.std.proofs.lemmas.Bool.Decides.{nat_tests}
 use Rattle.std.proofs.lemmas.Bool.{cases_eq, leb-true, leb-false}
-use Rattle.tally.specs.declared.cells.Bin.{Bin}
+use Rattle.tables.specs.Bin.{Bin}
 use Rattle.calibration.specs.declared.grid.TheConstants.{MIN_CLASSES, MAX_CLASSES}
 use Rattle.turning_points.specs.EndPoints.{EndPoints}
 use Rattle.tables.specs.Tables.{lower, table_with_bins, is_at}

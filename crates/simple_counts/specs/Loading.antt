@@ -4,7 +4,7 @@
 --   CanLoad       ends, peaks, valleys and ranges that it can take over
 --   loaded_of     the value with them
 use Rattle.std.specs.Prelude.{◌≡◌, ◌≤◌, ℕ, ◌+◌, ◌-◌, nat_le, if◌then◌else◌, List, replicate}
-use Rattle.tally.specs.declared.cells.Bin.{Bin}
+use Rattle.tables.specs.Bin.{Bin}
 use Rattle.turning_points.specs.Pairs.{range}
 use Rattle.turning_points.specs.EndPoints.{EndPoints, IsEnds}
 use Rattle.tables.specs.Tables.{table_with_bins, lower}

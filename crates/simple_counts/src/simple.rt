@@ -16,8 +16,7 @@ use calibration::Grid;
 use level_crossing::Crossings;
 use std::alloc::{AllocError, Global};
 use std::marker::Model;
-use tables::{add_to, empty, fill as fill_bins, lower, raise, raise_if};
-use tally::Bin;
+use tables::{Bin, add_to, empty, fill as fill_bins, lower, raise, raise_if};
 use turning_points::{Ends, ends_of, join_ends, no_ends, put_before, put_behind};
 
 /// Counts of simple ranges, peaks and valleys of a history. The last range is not in the table

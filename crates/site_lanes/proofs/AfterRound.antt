@@ -14,8 +14,8 @@ use Rattle.lane_ends.specs.declared.end.End.{End}
 use Rattle.lane_ends.specs.declared.end.End.TheVariants.{More, Ended, Torn, ReadFault, TooLong}
 use Rattle.lane_ends.specs.Ends.{IsRead}
 use Rattle.lane_ends.proofs.Giving.{more_or_not}
-use Rattle.lane_loans.specs.declared.lane.Lane.{Lane}
-use Rattle.round_making.specs.Round.{LaneDone}
+use Rattle.count_workers.specs.Lane.{Lane}
+use Rattle.count_workers.specs.Round.{LaneDone}
 use Rattle.recorded.specs.Recorded.{Recorded}
 use Rattle.site_lanes.specs.Lanes.{SourceStands, IsLane, IsFaulty}
 use Rattle.lemmas.proofs.Outcomes.{same_some}

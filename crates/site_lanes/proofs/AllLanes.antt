@@ -4,9 +4,9 @@ use Rattle.std.specs.Prelude.{slice_index_or}
 use Rattle.std.specs.List.{All}
 use Rattle.recording.specs.declared.TheConstants.{MAX_SAMPLES}
 use Rattle.lane_ends.specs.declared.end.End.TheVariants.{More, ReadFault, TooLong}
-use Rattle.lane_loans.specs.declared.lane.Lane.{Lane}
-use Rattle.round_making.specs.Resting.{PreparedValue}
-use Rattle.round_making.specs.Round.{LaneDone, RoundDone}
+use Rattle.count_workers.specs.Lane.{Lane}
+use Rattle.count_workers.specs.Resting.{PreparedValue}
+use Rattle.count_workers.specs.Round.{LaneDone, RoundDone}
 use Rattle.recorded.specs.Recorded.{Recorded}
 use Rattle.site_lanes.specs.Lanes.{AreReady, AreLanes, HasSource, IsFaulty, IsWhole}
 use Rattle.site_lanes.proofs.AfterRound.{lane_after, faulty_after, reached}

@@ -4,7 +4,7 @@
 use Rattle.std.specs.Prelude.{◌≡◌, ◌<◌, ℕ, List, length, Option, Some, None, slice_index_or}
 use Rattle.lane_ends.specs.declared.end.End.{End}
 use Rattle.lane_ends.specs.declared.end.End.TheVariants as end
-use Rattle.lane_loans.specs.declared.lane.Lane.{Lane}
+use Rattle.count_workers.specs.Lane.{Lane}
 use Rattle.status.specs.declared.status.Status.{Status}
 use Rattle.status.specs.declared.status.Status.TheVariants.{Torn, ReadFault, TooLong}
 

@@ -10,8 +10,8 @@ use Rattle.recording.specs.declared.TheConstants.{MAX_SAMPLES}
 use Rattle.calibration.specs.Gain.{GainValue}
 use Rattle.lane_ends.specs.declared.end.End.{End}
 use Rattle.lane_ends.specs.declared.end.End.TheVariants.{More, Ended, Torn, ReadFault, TooLong}
-use Rattle.lane_loans.specs.declared.lane.Lane.{Lane}
-use Rattle.lane_loans.specs.Lent.{CanRound}
+use Rattle.count_workers.specs.Lane.{Lane}
+use Rattle.count_workers.specs.Lent.{CanRound}
 use Rattle.recorded.specs.Recorded.{Recorded}
 
 -- of these samples, and so many bytes behind them, `at` samples were read, and the source has `left`

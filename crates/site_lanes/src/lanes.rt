@@ -18,7 +18,7 @@ ghost use Rattle.std.specs.Prelude.{
 ghost use Rattle.std.specs.List.{All};
 ghost use Rattle.outside.specs.Fault.{CountRose};
 ghost use Rattle.outside.specs.Site.{Asks};
-ghost use Rattle.lane_loans.specs.Lent.{CanRound};
+ghost use Rattle.count_workers.specs.Lent.{CanRound};
 ghost use Rattle.segment_store.specs.Held.{ends_of};
 ghost use Rattle.site_config.specs.Valid.{IsConfig, file_of};
 ghost use Rattle.recorded.specs.Recorded.{recordings};

@@ -3,7 +3,7 @@
 --   store_fault_text       of a store; a damaged body is told by its number
 use Rattle.std.specs.Prelude.{ℕ, List, ◌++◌, codes}
 use Rattle.std.specs.Fmt.{decimal, signed_decimal}
-use Rattle.store_head.specs.FaultText.{field_text}
+pub use Rattle.segment_store.specs.FaultText.{field_text}
 use Rattle.status.specs.declared.status.RecordingFault.{RecordingFault}
 use Rattle.status.specs.declared.status.RecordingFault.TheVariants as recording
 use Rattle.status.specs.declared.status.StoreFault.{StoreFault}

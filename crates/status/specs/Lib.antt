@@ -3,3 +3,7 @@ pub mod Refused
 pub mod Printing
 pub mod RecordingFaults
 pub mod FaultText
+pub use Rattle.segment_store.specs.declared.damage.Damage
+pub use Rattle.segment_store.specs.Quiet
+pub use Rattle.segment_store.specs.Field
+pub use Rattle.recount.specs.declared.compare.What

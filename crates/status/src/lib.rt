@@ -10,5 +10,7 @@ mod refused;
 mod status;
 
 pub use recording_faults::recording_fault_of;
+pub use recount::What;
 pub use refused::status_of;
+pub use segment_store::{Damage, Field};
 pub use status::{RecordingFault, Status, StoreFault};

@@ -11,8 +11,8 @@ use Rattle.std.proofs.lemmas.Bool.{cases_lt, and_parts, leb-true, le-leb, eqb-tr
 use Rattle.std.proofs.lemmas.List.Folds.{drop_split}
 use Rattle.std.specs.Option.{option_or}
 use Rattle.lemmas.proofs.Outcomes.{both_none, none_both}
-use Rattle.segment_rules.specs.Tests.{unless}
-use Rattle.segment_rules.proofs.Chosen.{kept, kept_none}
+use Rattle.segment_bytes.specs.Tests.{unless}
+use Rattle.segment_bytes.proofs.Chosen.{kept, kept_none}
 use Rattle.calibration.specs.Gain.{GainValue, IsGain}
 use Rattle.calibration.specs.Grid.{GridValue, IsGrid}
 use Rattle.segment_bytes.specs.declared.layout.Layout.{Layout}

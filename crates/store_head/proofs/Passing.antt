@@ -12,7 +12,7 @@ use Rattle.recording.specs.Head.{IsRecorded}
 use Rattle.store_head.specs.Head.{HeadValue, IsHead, front, numbers, gauge, gauges, head_of, start_of, gauge_place}
 use Rattle.store_head.specs.HeadFaults.{front_fault, gauge_fault, gauge_at, gauges_fault, head_fault, layout_in, recording_in}
 use Rattle.lemmas.proofs.Outcomes.{none_both}
-use Rattle.segment_rules.proofs.Chosen.{kept_none}
+use Rattle.segment_bytes.proofs.Chosen.{kept_none}
 use Rattle.store_head.proofs.Faultless.{is_front, is_gauge}
 use Rattle.store_head.proofs.Gauges.{slice_range-middle}
 use Rattle.store_head.specs.declared.setup.TheConstants.{FRONT_LENGTH, GAUGE_LENGTH}

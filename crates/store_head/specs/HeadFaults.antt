@@ -7,7 +7,7 @@ use Rattle.std.specs.Prelude.{◌+◌, ℕ, ℤ, pos, ◌==◌, ◌&&◌, ◌||�
 use Rattle.std.specs.Int.{Width, w16, w32, w64, byte_len, from_be_bytes, cast_signed}
 use Rattle.std.specs.Ordering.{int_eq}
 use Rattle.std.specs.Option.{option_or}
-use Rattle.segment_rules.specs.Tests.{unless}
+use Rattle.segment_bytes.specs.Tests.{unless}
 use Rattle.calibration.specs.Gain.{GainValue}
 use Rattle.calibration.specs.Grid.{GridValue}
 use Rattle.segment_bytes.specs.declared.layout.Layout.{Layout}

@@ -1,5 +1,5 @@
 ghost use Rattle.std.specs.Prelude.{◌≡◌, ◌≤◌, length};
-ghost use Rattle.segment_rules.specs.Tests.{unless as unless_in};
+ghost use Rattle.segment_bytes.specs.Tests.{unless as unless_in};
 ghost use Rattle.store_head.specs.HeadFaults.{
   differs as differs_in,
   front_fault as front_fault_in,

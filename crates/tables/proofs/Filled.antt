@@ -7,7 +7,7 @@ use Rattle.std.proofs.lemmas.List.{length-replicate}
 use Rattle.std.proofs.lemmas.List.Elements.{All-nil, All-cons}
 use Rattle.std.proofs.lemmas.List.Sums.{sum_by-set, sum_by-cons}
 use Rattle.tally.specs.declared.cells.Bin.{Bin}
-use Rattle.lemmas.proofs.Lists.{get_or-zeros}
+use Rattle.tally.proofs.Lists.{get_or-zeros}
 use Rattle.tables.specs.Bins.{AreBinsFrom, count_at, sum_of}
 use Rattle.tables.specs.Tables.{table_with_bins}
 

@@ -1,2 +1,3 @@
 pub mod Counting
 pub mod Filled
+pub use Rattle.tally.proofs.Lists

@@ -1,2 +1,3 @@
 pub mod Tables
 pub mod Bins
+pub use Rattle.tally.specs.declared.cells.Bin

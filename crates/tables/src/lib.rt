@@ -7,7 +7,7 @@
 ghost use Rattle.tables.specs.Tables.{sum_of_tables, table_with_bins, lower, raise};
 ghost use Rattle.std.specs.Prelude.{All, if◌then◌else◌, slice_index, length, replicate, sum, ◌+◌, ◌<◌, ◌≡◌, ◌≤◌, ◌^◌, ℕ};
 
-use tally::Bin;
+pub use tally::Bin;
 
 /// One more at a place.
 pub fn raise(table: &mut [u64], place: usize)

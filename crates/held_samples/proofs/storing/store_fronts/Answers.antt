@@ -1,6 +1,6 @@
 use Rattle.std.proofs.Common.{◌≡◌, ◌≤◌, ◌<◌, ℕ, List, length, slice_index, refl, sym, ◌∙◌, ap, subst, arith}
 use Rattle.calibration.specs.declared.setup.Setup.{Setup}
-use Rattle.store_head.specs.Head.{HeadValue}
+use Rattle.segment_store.specs.Head.{HeadValue}
 use Rattle.segment_store.specs.Held.{ends_of}
 use Rattle.site_config.specs.declared.limits.TheConstants.{MAX_NAME_BYTES}
 use Rattle.site_config.specs.Valid.{name_of}

@@ -5,7 +5,7 @@ use Rattle.lemmas.proofs.Outcomes.{on_err}
 use Rattle.segment_store.specs.Holds.{gain_at}
 use Rattle.site_config.specs.Valid.{name_of}
 use Rattle.site_config.proofs.Named.{name_is, short_name}
-use Rattle.site_report.proofs.Printed.{lines_more, lines_front, lines_whole, lines_start}
+use Rattle.report_command.proofs.Printed.{lines_more, lines_front, lines_whole, lines_start}
 use Rattle.repeat_command.specs.Printing.{repeat_texts, text_of_gauge}
 use Rattle.repeat_command.proofs.Printed.{gauge_is}
 use Rattle.repeat_command.proofs.Stand.{held_stands}

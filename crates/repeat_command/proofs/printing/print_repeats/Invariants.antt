@@ -1,6 +1,6 @@
 use Rattle.std.proofs.Common.{◌≡◌, ◌≤◌, ◌-◌, ℕ, ℤ, List, length}
 use Rattle.report.specs.Lines.{lines_from}
-use Rattle.site_report.specs.Report.{IsPrinted}
+use Rattle.report_command.specs.Report.{IsPrinted}
 use Rattle.repeat_command.specs.Printing.{AllHeldStand, repeat_texts, text_of_gauge}
 use Rattle.repeat_command.proofs.printing.print_repeats.Given as goal
 

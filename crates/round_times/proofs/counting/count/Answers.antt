@@ -1,5 +1,5 @@
 use Rattle.std.proofs.Common.{rules}
-use Rattle.round_making.proofs.Settled.{can_go_on}
+use Rattle.count_workers.proofs.Settled.{can_go_on}
 use Rattle.round_times.proofs.counting.count.Goals as goal
 
 pub loop-made-preserved : goal.loop-made-preserved

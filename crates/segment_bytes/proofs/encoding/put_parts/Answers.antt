@@ -1,7 +1,7 @@
 use Rattle.std.proofs.Common.{length, ap, sym, subst, ◌∙◌, arith}
 use Rattle.std.specs.Int.{w16, to_be_bytes}
 use Rattle.calibration.specs.Grid.{GridValue}
-use Rattle.four_point.proofs.Index.{residue_bound}
+use Rattle.segment.proofs.Index.{residue_bound}
 use Rattle.segment.specs.Parts.{parts_of}
 use Rattle.segment_bytes.specs.Fields.{list_bytes}
 use Rattle.segment_bytes.specs.Grammar.{ends}

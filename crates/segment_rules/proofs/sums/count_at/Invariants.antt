@@ -1,5 +1,5 @@
 use Rattle.std.proofs.Common.{◌≡◌, drop}
-use Rattle.tables.specs.Bins.{count_at}
+use Rattle.simple_counts.specs.Bins.{count_at}
 use Rattle.segment_rules.proofs.sums.count_at.Given as goal
 
 abbrev pub invariant-loop-bin : goal.invariant-loop-bin

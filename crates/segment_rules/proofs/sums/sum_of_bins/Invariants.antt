@@ -1,5 +1,5 @@
 use Rattle.std.proofs.Common.{◌≡◌, ◌+◌, ◌-◌, ◌*◌, ◌^◌, ◌≤◌, drop}
-use Rattle.tables.specs.Bins.{sum_of}
+use Rattle.simple_counts.specs.Bins.{sum_of}
 use Rattle.segment_rules.proofs.sums.sum_of_bins.Given as goal
 
 abbrev pub invariant-loop-bin : goal.invariant-loop-bin

@@ -1,5 +1,5 @@
 use Rattle.std.proofs.Common.{◌≢◌, ℕ, length, refl, ◌∙◌, arith}
-use Rattle.lane_loans.specs.declared.lane.Lane.{Lane}
+use Rattle.count_workers.specs.Lane.{Lane}
 use Rattle.lane_ends.specs.declared.end.End.TheVariants.{ReadFault}
 use Rattle.site_lanes.proofs.Places.{each_before}
 use Rattle.site_lanes.specs.Lanes.{HasSource, IsFaulty}

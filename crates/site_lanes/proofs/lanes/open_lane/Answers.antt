@@ -3,8 +3,8 @@ use Rattle.std.specs.Prelude.{slice_index}
 use Rattle.site_config.specs.Valid.{file_of}
 use Rattle.segment_rules.specs.declared.name.Name.{Name}
 use Rattle.segment_store.specs.Held.{ends_of}
-use Rattle.store_head.specs.Head.{HeadValue}
-use Rattle.lane_loans.specs.declared.lane.Lane.{Lane}
+use Rattle.segment_store.specs.Head.{HeadValue}
+use Rattle.count_workers.specs.Lane.{Lane}
 use Rattle.recorded.proofs.Asking.{asks_file, file_is}
 use Rattle.site_lanes.proofs.Opened.{gauge_fault, gauge_refused}
 use Rattle.site_lanes.proofs.lanes.open_lane.Goals as goal

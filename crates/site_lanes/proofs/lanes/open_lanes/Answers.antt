@@ -2,8 +2,8 @@ use Rattle.std.proofs.Common.{◌≡◌, ℕ, length, ◌∙◌, ap, subst, arit
 use Rattle.std.specs.Prelude.{Err, None}
 use Rattle.outside.specs.Site.{Files}
 use Rattle.segment_store.specs.Held.{ends_of}
-use Rattle.lane_loans.specs.Lent.{CanRound}
-use Rattle.lane_loans.specs.declared.lane.Lane.{Lane}
+use Rattle.count_workers.specs.Lent.{CanRound}
+use Rattle.count_workers.specs.Lane.{Lane}
 use Rattle.lane_ends.specs.declared.end.End.TheVariants.{More}
 use Rattle.recorded.specs.Recorded.{recordings}
 use Rattle.recorded.proofs.Asking.{asks_more, stops_behind, first_names}
