@@ -5,6 +5,7 @@ use station::MomentStation;
 use status::{RecordingFault, Status};
 use std::alloc::{AllocError, Global};
 use std::collections::BTreeMap;
+use std::process::Abort;
 use std::test::Fail;
 
 const CONFIG: &str = "\
@@ -39,8 +40,13 @@ const STORE: [u8; 258] = [
     4, 93, 59, 4, 0,
 ];
 
-// What an audit of these samples answers, prints and tells.
-fn audit(alloc: Global, raws: &[i32]) -> Result<(Status, VecSink, MomentStation), AllocError> {
+// What an audit of these samples answers.
+fn audit(
+    alloc: Global,
+    raws: &[i32],
+    station: &mut MomentStation,
+    out: &mut VecSink,
+) -> Result<Status, AllocError> {
     let mut file = RECORDING.to_vec(alloc)?;
     for raw in raws {
         file.extend_from_slice(&raw.to_le_bytes())?;
@@ -49,45 +55,51 @@ fn audit(alloc: Global, raws: &[i32]) -> Result<(Status, VecSink, MomentStation)
     files.insert(String::from_str(alloc, "g1.sgrc")?, file)?;
     let mut site = MapSite::new(alloc, files, 7, Vec::new(alloc));
     let mut config = BytesSource::new(CONFIG.as_bytes().to_vec(alloc)?, 7, Vec::new(alloc));
+    Ok(audit_command(alloc, &mut config, &mut site, station, out))
+}
+
+// What it answers, prints and tells.
+fn check(
+    rt: &impl Abort,
+    alloc: Global,
+    raws: &[i32],
+    status: Status,
+    printed: &str,
+    told: &str,
+) -> Result<(), Fail> {
     let mut station = MomentStation::new(alloc, STORE.to_vec(alloc)?, Vec::new(alloc));
     let mut out = VecSink::new(alloc, 100, Vec::new(alloc))?;
-    let status = audit_command(alloc, &mut config, &mut site, &mut station, &mut out);
-    Ok((status, out, station))
+    assert_eq!(rt; audit(alloc, raws, &mut station, &mut out)?, status);
+    assert_eq!(rt; out.written(), printed.as_bytes());
+    assert_eq!(rt; station.told(), told.as_bytes());
+    Ok(())
 }
 
 // Raw values behind the held ones are not looked at. One that was rewritten takes the cycle away,
 // since 8 13 9 13 has another one, of 9 and 13.
 #[test]
 fn the_held_samples_are_compared(rt: HostRuntime) -> Result<(), Fail> {
-    let (status, out, station) = audit(rt.alloc(), &[0, 5, 0, 5, 7])?;
-    assert_eq!(rt; status, Status::Done);
-    assert_eq!(rt; out.written(), b"audit G1 same\n".as_slice());
-    assert_eq!(rt; station.told(), b"".as_slice());
-    let (status, out, station) = audit(rt.alloc(), &[0, 5, 1, 5])?;
+    let alloc = rt.alloc();
+    check(
+        &rt,
+        alloc,
+        &[0, 5, 0, 5, 7],
+        Status::Done,
+        "audit G1 same\n",
+        "",
+    )?;
     let other = Status::Differs {
         gauge: 0,
         what: What::Cell(8, 13),
         held: 3,
         found: 1,
     };
-    assert_eq!(rt; status, other);
-    assert_eq!(rt; out.written(), b"".as_slice());
-    assert_eq!(rt;
-        station.told(),
-        b"audit G1: cell 8 13 held 3, recount 1\n".as_slice()
-    );
-    let (status, _, station) = audit(rt.alloc(), &[0, 5, 0])?;
-    let fewer = RecordingFault::Fewer { held: 4, there: 3 };
-    assert_eq!(rt;
-        status,
-        Status::Recording {
-            gauge: 0,
-            fault: fewer
-        }
-    );
-    assert_eq!(rt;
-        station.told(),
-        b"recording G1: 4 held, 3 there\n".as_slice()
-    );
-    Ok(())
+    let line = "audit G1: cell 8 13 held 3, recount 1\n";
+    check(&rt, alloc, &[0, 5, 1, 5], other, "", line)?;
+    let fewer = Status::Recording {
+        gauge: 0,
+        fault: RecordingFault::Fewer { held: 4, there: 3 },
+    };
+    let line = "recording G1: 4 held, 3 there\n";
+    check(&rt, alloc, &[0, 5, 0], fewer, "", line)
 }

@@ -38,24 +38,28 @@ fn recording(fault: RecordingFault) -> Status {
     Status::Recording { gauge: 0, fault }
 }
 
-// What the column of this name answers, and what is written.
+// An output of which some puts fail.
+fn out_of(alloc: Global, failing: &[u64]) -> Result<VecSink, AllocError> {
+    VecSink::new(alloc, 100, failing.to_vec(alloc)?)
+}
+
+// What the column of this name answers.
 fn run(
     alloc: Global,
     text: &str,
     name: &str,
-    failing_takes: &[u64],
-    failing_puts: &[u64],
-) -> Result<(Status, VecSink), AllocError> {
-    let mut site = site_of(alloc, text, failing_takes)?;
-    let mut out = VecSink::new(alloc, 100, failing_puts.to_vec(alloc)?)?;
-    let status = column_command(alloc, "d.csv", name, &HEAD, &mut site, &mut out);
-    Ok((status, out))
+    failing: &[u64],
+    out: &mut VecSink,
+) -> Result<Status, AllocError> {
+    let mut site = site_of(alloc, text, failing)?;
+    Ok(column_command(alloc, "d.csv", name, &HEAD, &mut site, out))
 }
 
 #[test]
 fn a_column_is_a_recording(rt: HostRuntime) -> Result<(), Fail> {
     let alloc = rt.alloc();
-    let (status, out) = run(alloc, ROWS, "G2", &[], &[])?;
+    let mut out = out_of(alloc, &[])?;
+    let status = run(alloc, ROWS, "G2", &[], &mut out)?;
     let mut bytes = HEAD_BYTES.to_vec(alloc)?;
     for sample in [-2, i32::MIN, 1] {
         bytes.extend_from_slice(&sample.to_le_bytes())?;
@@ -84,7 +88,8 @@ fn what_is_refused(rt: HostRuntime) -> Result<(), Fail> {
     for (more, name, status) in table {
         let mut text = String::from_str(rt.alloc(), ROWS)?;
         text.push_str(more)?;
-        let (answer, out) = run(rt.alloc(), text.as_str(), name, &[], &[])?;
+        let mut out = out_of(rt.alloc(), &[])?;
+        let answer = run(rt.alloc(), text.as_str(), name, &[], &mut out)?;
         assert_eq!(rt; answer, status);
         assert_eq!(rt; out.written(), b"".as_slice());
     }
@@ -102,7 +107,8 @@ fn faults_of_the_outside(rt: HostRuntime) -> Result<(), Fail> {
         (none, 1, Status::WriteFault, 32),
     ];
     for (take, put, status, written) in table {
-        let (answer, out) = run(rt.alloc(), ROWS, "G1", &[take], &[put])?;
+        let mut out = out_of(rt.alloc(), &[put])?;
+        let answer = run(rt.alloc(), ROWS, "G1", &[take], &mut out)?;
         assert_eq!(rt; answer, status);
         assert_eq!(rt; out.written().len(), written);
     }
@@ -112,7 +118,7 @@ fn faults_of_the_outside(rt: HostRuntime) -> Result<(), Fail> {
 #[test]
 fn a_missing_file(rt: HostRuntime) -> Result<(), Fail> {
     let mut site = site_of(rt.alloc(), ROWS, &[])?;
-    let mut out = VecSink::new(rt.alloc(), 100, Vec::new(rt.alloc()))?;
+    let mut out = out_of(rt.alloc(), &[])?;
     let status = column_command(rt.alloc(), "e.csv", "G1", &HEAD, &mut site, &mut out);
     assert_eq!(rt; status, Status::ReadFault);
     Ok(())

@@ -8,23 +8,6 @@ use std::sync::Wait;
 use std::test::Fail;
 use std::thread::Threads;
 
-// What `demo` answers over an output with so much room, and the output.
-fn run<R: AllocGlobal + Threads + Wait + Sync>(
-    rt: &R,
-    seed: u64,
-    samples: u64,
-    workers: u8,
-    room: usize,
-) -> Result<(Status, VecSink), Fail>
-    requires seed { seed ≤ MAX_SEED }
-    requires samples { (1 ≤ samples) × (samples ≤ MAX_DEMO_SAMPLES) }
-    requires workers { (1 ≤ workers) × (workers ≤ 8) }
-{
-    let mut out = VecSink::new(rt.alloc(), room, Vec::new(rt.alloc()))?;
-    let status = demo_command(rt, seed, samples, workers, &mut out, &OpenGate);
-    Ok((status, out))
-}
-
 // It prints this text with any number of workers.
 fn check<R: Abort + AllocGlobal + Threads + Wait + Sync>(
     rt: &R,
@@ -36,7 +19,8 @@ fn check<R: Abort + AllocGlobal + Threads + Wait + Sync>(
     requires samples { (1 ≤ samples) × (samples ≤ MAX_DEMO_SAMPLES) }
 {
     for workers in 1..9 {
-        let (status, out) = run(rt, seed, samples, workers, 400)?;
+        let mut out = VecSink::new(rt.alloc(), 400, Vec::new(rt.alloc()))?;
+        let status = demo_command(rt, seed, samples, workers, &mut out, &OpenGate);
         assert_eq!(rt; status, Status::Done);
         assert_eq!(rt; out.written(), text.as_bytes(), "with {workers} workers");
     }
@@ -94,7 +78,8 @@ gauge 3 cycles 33286.5 residue 8
 
 #[test]
 fn an_output_without_room_is_a_write_fault(rt: HostRuntime) -> Result<(), Fail> {
-    let (status, out) = run(&rt, 0, 1, 2, 21)?;
+    let mut out = VecSink::new(rt.alloc(), 21, Vec::new(rt.alloc()))?;
+    let status = demo_command(&rt, 0, 1, 2, &mut out, &OpenGate);
     assert_eq!(rt; status, Status::WriteFault);
     assert!(rt; b"demo seed 0 samples 1\n".starts_with(out.written()));
     Ok(())

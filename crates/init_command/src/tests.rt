@@ -22,28 +22,31 @@ const STORE: [u8; 63] = [
     0x11, 0x11, 0, 0, 0x27, 0x10, 0, 0, 0, 0, 0, 0, 3, 0xe8, 0, 0, 0, 1, 0, 0, 0, 0, 0, 0, 0, 0, 0,
 ];
 
-// What a run of `init` answers, over a station with these bytes, and the station.
+// A station with these bytes, of which some calls fail.
+fn station_of(alloc: Global, image: &[u8], failing: &[u64]) -> Result<MomentStation, AllocError> {
+    let image = image.to_vec(alloc)?;
+    Ok(MomentStation::new(alloc, image, failing.to_vec(alloc)?))
+}
+
+// What a run of `init` answers.
 fn init(
     alloc: Global,
     config: &str,
     head: &[u8],
-    image: &[u8],
-    failing: Vec<u64>,
-) -> Result<(Status, MomentStation), AllocError> {
+    station: &mut MomentStation,
+) -> Result<Status, AllocError> {
     let mut files = BTreeMap::new(alloc);
     files.insert(String::from_str(alloc, "g1.sgrc")?, head.to_vec(alloc)?)?;
     let mut site = MapSite::new(alloc, files, 7, Vec::new(alloc));
-    let mut station = MomentStation::new(alloc, image.to_vec(alloc)?, failing);
     let mut source = SteadySource::new(config.as_bytes().to_vec(alloc)?);
-    let status = init_command(alloc, &mut source, &mut site, &mut station);
-    Ok((status, station))
+    Ok(init_command(alloc, &mut source, &mut site, station))
 }
 
 #[test]
 fn a_store_is_made_and_told(rt: HostRuntime) -> Result<(), Fail> {
     let alloc = rt.alloc();
-    let (status, station) = init(alloc, CONFIG, &HEAD, &[], Vec::new(alloc))?;
-    assert_eq!(rt; status, Status::Done);
+    let mut station = station_of(alloc, &[], &[])?;
+    assert_eq!(rt; init(alloc, CONFIG, &HEAD, &mut station)?, Status::Done);
     assert_eq!(rt; station.told(), b"init 1\n".as_slice());
     let left = station.crash(alloc, station.calls(), Torn::Old)?;
     assert_eq!(rt; left.as_slice(), STORE.as_slice());
@@ -77,8 +80,8 @@ fn what_is_refused_is_told(rt: HostRuntime) -> Result<(), Fail> {
         ),
     ];
     for (config, head, image, wanted, line) in rows {
-        let (status, station) = init(alloc, config, head, image, Vec::new(alloc))?;
-        assert_eq!(rt; status, wanted);
+        let mut station = station_of(alloc, image, &[])?;
+        assert_eq!(rt; init(alloc, config, head, &mut station)?, wanted);
         assert_eq!(rt; station.told(), line.as_bytes());
     }
     Ok(())
@@ -89,7 +92,8 @@ fn what_is_refused_is_told(rt: HostRuntime) -> Result<(), Fail> {
 fn a_disk_that_fails(rt: HostRuntime) -> Result<(), Fail> {
     let alloc = rt.alloc();
     for call in 0..8u64 {
-        let (status, station) = init(alloc, CONFIG, &HEAD, &[], vec![in alloc; call]?)?;
+        let mut station = station_of(alloc, &[], &[call])?;
+        let status = init(alloc, CONFIG, &HEAD, &mut station)?;
         assert_eq!(rt; status, Status::DiskFault);
         assert_eq!(rt; station.told(), b"station fault\n".as_slice());
     }

@@ -4,6 +4,7 @@ ghost use Rattle.level_crossing.specs.Crossings.{crossing_count};
 use super::*;
 use calibration::Grid;
 use std::alloc::{AllocError, Global};
+use std::process::Abort;
 use std::test::Fail;
 use tables::Bin;
 use turning_points::ends_of;
@@ -33,18 +34,45 @@ fn counted(alloc: Global, grid: &Grid, levels: &[u16]) -> Result<Crossings, Allo
     Ok(crossings)
 }
 
+fn assert_counts(rt: &impl Abort, crossings: &Crossings, counts: &[u64; 16])
+    requires classes { crossings.now.classes ≡ 16 }
+{
+    for boundary in 0..16u16 {
+        let expected = counts[usize::from(boundary)];
+        assert_eq!(rt; crossings.at(boundary), expected, "at {boundary}");
+    }
+}
+
+fn assert_same(rt: &impl Abort, one: &Crossings, other: &Crossings, classes: u16)
+    requires one { one.now.classes ≡ classes }
+    requires other { other.now.classes ≡ classes }
+{
+    for boundary in 0..classes {
+        assert_eq!(rt; one.at(boundary), other.at(boundary), "at {boundary}");
+    }
+}
+
 #[test]
 fn the_standards_example(rt: HostRuntime) -> Result<(), Fail> {
     let grid = Grid::new(16, 2, -8000, 8)?;
     let crossings = counted(rt.alloc(), &grid, &LEVELS)?;
-    for boundary in 0..grid.classes() {
-        assert!(rt; boundary < 16);
-        assert_eq!(rt;
-            crossings.at(boundary),
-            COUNTS[usize::from(boundary)],
-            "at {boundary}"
-        );
-    }
+    assert_counts(&rt, &crossings, &COUNTS);
+    Ok(())
+}
+
+fn assert_joined(
+    rt: &impl Abort,
+    alloc: Global,
+    grid: &Grid,
+    levels: &[u16],
+    cut: usize,
+) -> Result<(), Fail> {
+    assert!(rt; levels.len() <= 16 && cut <= levels.len());
+    let whole = counted(alloc, grid, levels)?;
+    let mut joined = counted(alloc, grid, &levels[..cut])?;
+    let right = counted(alloc, grid, &levels[cut..])?;
+    joined.join(&right);
+    assert_same(rt, &joined, &whole, grid.classes());
     Ok(())
 }
 
@@ -60,19 +88,8 @@ fn joined_at_any_cut(rt: HostRuntime) -> Result<(), Fail> {
         [7, 7, 7].as_slice(),
     ];
     for levels in histories {
-        assert!(rt; levels.len() <= 16);
-        let whole = counted(rt.alloc(), &grid, levels)?;
         for cut in 0..=levels.len() {
-            let mut joined = counted(rt.alloc(), &grid, &levels[..cut])?;
-            let right = counted(rt.alloc(), &grid, &levels[cut..])?;
-            joined.join(&right);
-            for boundary in 0..grid.classes() {
-                assert_eq!(rt;
-                    joined.at(boundary),
-                    whole.at(boundary),
-                    "at {boundary}, cut at {cut}"
-                );
-            }
+            assert_joined(&rt, rt.alloc(), &grid, levels, cut)?;
         }
     }
     Ok(())
@@ -104,17 +121,8 @@ fn taken_from_points(rt: HostRuntime) -> Result<(), Fail> {
     let mut extremes = vec![in rt.alloc(); 9; 16]?;
     crossings.take_points(&LEVELS, &mut extremes);
     assert_eq!(rt; extremes.as_slice(), EXTREMES.as_slice());
-    for boundary in 0..grid.classes() {
-        assert!(rt; boundary < 16);
-        assert_eq!(rt;
-            crossings.at(boundary),
-            COUNTS[usize::from(boundary)],
-            "at {boundary}"
-        );
-    }
+    assert_counts(&rt, &crossings, &COUNTS);
     crossings.clear();
-    for boundary in 0..grid.classes() {
-        assert_eq!(rt; crossings.at(boundary), 0, "at {boundary}");
-    }
+    assert_counts(&rt, &crossings, &[0; 16]);
     Ok(())
 }

@@ -6,6 +6,7 @@ use station::MomentStation;
 use status::{RecordingFault, Status, StoreFault};
 use std::alloc::{AllocError, Global};
 use std::collections::BTreeMap;
+use std::process::Abort;
 use std::sync::Wait;
 use std::test::Fail;
 use std::thread::Threads;
@@ -45,104 +46,119 @@ fn words_of(alloc: Global, words: &[&str]) -> Result<Vec<String>, AllocError> {
     Ok(all)
 }
 
-// What these words answer without a configuration, and the lines told.
+fn empty_station(alloc: Global) -> MomentStation {
+    MomentStation::new(alloc, Vec::new(alloc), Vec::new(alloc))
+}
+
+// What these words answer without a configuration.
 fn run<R: AllocGlobal + Threads + Wait + Sync>(
     rt: &R,
     words: &[String],
     site: &mut MapSite,
+    station: &mut MomentStation,
     out: &mut VecSink,
-) -> Result<(Status, MomentStation), AllocError>
+) -> Status
     requires { site.old.out ≡ 0 }
 {
-    let alloc = rt.alloc();
-    let mut config = SteadySource::new(Vec::new(alloc));
-    let mut station = MomentStation::new(alloc, Vec::new(alloc), Vec::new(alloc));
-    let status = monitor(rt, words, &mut config, site, &mut station, out, &OpenGate);
-    Ok((status, station))
+    let mut config = SteadySource::new(Vec::new(rt.alloc()));
+    monitor(rt, words, &mut config, site, station, out, &OpenGate)
 }
 
-// What `table t` answers of a file, and what it prints.
+// What `table t` answers of a file.
 fn table<R: AllocGlobal + Threads + Wait + Sync>(
     rt: &R,
     bytes: Vec<u8>,
     longest: usize,
-    room: usize,
-) -> Result<(Status, VecSink), AllocError> {
+    out: &mut VecSink,
+) -> Result<Status, AllocError> {
     let alloc = rt.alloc();
     let mut site = site_of(alloc, bytes, longest)?;
-    let mut out = VecSink::new(alloc, room, Vec::new(alloc))?;
+    let mut station = empty_station(alloc);
     let words = words_of(alloc, &["table", "t"])?;
-    let (status, _) = run(rt, words.as_slice(), &mut site, &mut out)?;
-    Ok((status, out))
+    Ok(run(rt, words.as_slice(), &mut site, &mut station, out))
 }
 
-// The tables were computed by hand, from the steps of the standard.
+// Samples, the first line of their table, and what stands behind it. The tables were computed by
+// hand, from the steps of the standard.
+const TABLES: &[(&[i32], &str, &str)] = &[
+    (
+        &EXAMPLE,
+        "samples 9 used 9 missing 0 refused 0\n",
+        EXAMPLE_TABLE,
+    ),
+    (
+        &[6, 9, 5, 13, 7, 11, 4, 12, 6, 64],
+        "samples 10 used 9 missing 0 refused 1\n",
+        EXAMPLE_TABLE,
+    ),
+    (
+        &[
+            i32::MIN,
+            6,
+            9,
+            5,
+            -1,
+            13,
+            7,
+            i32::MIN,
+            11,
+            4,
+            i32::MAX,
+            12,
+            6,
+        ],
+        "samples 13 used 9 missing 2 refused 2\n",
+        EXAMPLE_TABLE,
+    ),
+    (&[], "samples 0 used 0 missing 0 refused 0\n", "rainflow\n"),
+    (
+        &[10, 10, 10],
+        "samples 3 used 3 missing 0 refused 0\n",
+        "rainflow\n",
+    ),
+    (
+        &[8, 13, 8, 13],
+        "samples 4 used 4 missing 0 refused 0\n",
+        "rainflow\n5.0 1.5\n",
+    ),
+    (
+        &[8, 13, 13, 8],
+        "samples 4 used 4 missing 0 refused 0\n",
+        "rainflow\n5.0 1.0\n",
+    ),
+    (
+        &[8, 13, 11, 9, 14],
+        "samples 5 used 5 missing 0 refused 0\n",
+        "rainflow\n6.0 0.5\n4.0 1.0\n",
+    ),
+    (
+        &[0, 63],
+        "samples 2 used 2 missing 0 refused 0\n",
+        "rainflow\n63.0 0.5\n",
+    ),
+];
+
+fn check_table<R: AllocGlobal + Abort + Threads + Wait + Sync>(
+    rt: &R,
+    raws: &[i32],
+    longest: usize,
+    samples: &str,
+    rainflow: &str,
+) -> Result<(), Fail> {
+    let alloc = rt.alloc();
+    let mut out = VecSink::new(alloc, 200, Vec::new(alloc))?;
+    let status = table(rt, file_of(alloc, raws)?, longest, &mut out)?;
+    assert_eq!(rt; status, Status::Done);
+    let expected = format!(in alloc; "{samples}{rainflow}")?;
+    assert_eq!(rt; out.written(), expected.as_bytes());
+    Ok(())
+}
+
 #[test]
 fn tables(rt: HostRuntime) -> Result<(), Fail> {
-    let alloc = rt.alloc();
-    let cases: [(&[i32], &str, &str); 9] = [
-        (
-            &EXAMPLE,
-            "samples 9 used 9 missing 0 refused 0\n",
-            EXAMPLE_TABLE,
-        ),
-        (
-            &[6, 9, 5, 13, 7, 11, 4, 12, 6, 64],
-            "samples 10 used 9 missing 0 refused 1\n",
-            EXAMPLE_TABLE,
-        ),
-        (
-            &[
-                i32::MIN,
-                6,
-                9,
-                5,
-                -1,
-                13,
-                7,
-                i32::MIN,
-                11,
-                4,
-                i32::MAX,
-                12,
-                6,
-            ],
-            "samples 13 used 9 missing 2 refused 2\n",
-            EXAMPLE_TABLE,
-        ),
-        (&[], "samples 0 used 0 missing 0 refused 0\n", "rainflow\n"),
-        (
-            &[10, 10, 10],
-            "samples 3 used 3 missing 0 refused 0\n",
-            "rainflow\n",
-        ),
-        (
-            &[8, 13, 8, 13],
-            "samples 4 used 4 missing 0 refused 0\n",
-            "rainflow\n5.0 1.5\n",
-        ),
-        (
-            &[8, 13, 13, 8],
-            "samples 4 used 4 missing 0 refused 0\n",
-            "rainflow\n5.0 1.0\n",
-        ),
-        (
-            &[8, 13, 11, 9, 14],
-            "samples 5 used 5 missing 0 refused 0\n",
-            "rainflow\n6.0 0.5\n4.0 1.0\n",
-        ),
-        (
-            &[0, 63],
-            "samples 2 used 2 missing 0 refused 0\n",
-            "rainflow\n63.0 0.5\n",
-        ),
-    ];
-    for (raws, samples, rainflow) in cases {
+    for &(raws, samples, rainflow) in TABLES {
         for longest in [1, 7, 4096] {
-            let (status, out) = table(&rt, file_of(alloc, raws)?, longest, 200)?;
-            assert_eq!(rt; status, Status::Done);
-            let expected = format!(in alloc; "{samples}{rainflow}")?;
-            assert_eq!(rt; out.written(), expected.as_bytes());
+            check_table(&rt, raws, longest, samples, rainflow)?;
         }
     }
     Ok(())
@@ -168,32 +184,48 @@ fn refusals_print_nothing(rt: HostRuntime) -> Result<(), Fail> {
         if place < bytes.len() {
             bytes[place] = byte;
         }
-        let (answer, out) = table(&rt, bytes, 5, 200)?;
-        assert_eq!(rt; answer, status);
+        let mut out = VecSink::new(alloc, 200, Vec::new(alloc))?;
+        assert_eq!(rt; table(&rt, bytes, 5, &mut out)?, status);
         assert_eq!(rt; out.written().len(), 0);
     }
     Ok(())
 }
 
 #[test]
-fn faults_of_the_outside(rt: HostRuntime) -> Result<(), Fail> {
+fn an_output_without_room(rt: HostRuntime) -> Result<(), Fail> {
     let alloc = rt.alloc();
-    let (status, out) = table(&rt, file_of(alloc, &EXAMPLE)?, 5, 0)?;
+    let mut out = VecSink::new(alloc, 0, Vec::new(alloc))?;
+    let status = table(&rt, file_of(alloc, &EXAMPLE)?, 5, &mut out)?;
     assert_eq!(rt; status, Status::WriteFault);
     assert_eq!(rt; out.written().len(), 0);
+    Ok(())
+}
 
-    // Takes of 7 bytes: the head ends in the fifth, the body in the eleventh, and the twelfth finds
-    // the end.
+// `table t` where this take of the file fails.
+fn check_failing<R: AllocGlobal + Abort + Threads + Wait + Sync>(
+    rt: &R,
+    failing: u64,
+) -> Result<(), Fail> {
+    let alloc = rt.alloc();
+    let site = site_of(alloc, file_of(alloc, &EXAMPLE)?, 7)?;
+    let name = String::from_str(alloc, "t")?;
+    let mut site = site.failing_reads(name, vec![in alloc; failing]?);
+    let mut station = empty_station(alloc);
+    let mut out = VecSink::new(alloc, 200, Vec::new(alloc))?;
     let words = words_of(alloc, &["table", "t"])?;
+    let status = run(rt, words.as_slice(), &mut site, &mut station, &mut out);
+    assert_eq!(rt; status, Status::ReadFault, "at take {failing}");
+    assert_eq!(rt; station.told(), b"read fault\n".as_slice());
+    assert_eq!(rt; out.written().len(), 0);
+    Ok(())
+}
+
+// Takes of 7 bytes: the head ends in the fifth, the body in the eleventh, and the twelfth finds the
+// end.
+#[test]
+fn takes_that_fail(rt: HostRuntime) -> Result<(), Fail> {
     for failing in [0, 4, 5, 10, 11u64] {
-        let site = site_of(alloc, file_of(alloc, &EXAMPLE)?, 7)?;
-        let name = String::from_str(alloc, "t")?;
-        let mut site = site.failing_reads(name, vec![in alloc; failing]?);
-        let mut out = VecSink::new(alloc, 200, Vec::new(alloc))?;
-        let (status, station) = run(&rt, words.as_slice(), &mut site, &mut out)?;
-        assert_eq!(rt; status, Status::ReadFault, "at take {failing}");
-        assert_eq!(rt; station.told(), b"read fault\n".as_slice());
-        assert_eq!(rt; out.written().len(), 0);
+        check_failing(&rt, failing)?;
     }
     Ok(())
 }
@@ -217,8 +249,9 @@ fn words(rt: HostRuntime) -> Result<(), Fail> {
     for (words, status, line) in cases {
         let mut site = site_of(alloc, file_of(alloc, &EXAMPLE)?, 5)?;
         let mut out = VecSink::new(alloc, 200, Vec::new(alloc))?;
+        let mut station = empty_station(alloc);
         let words = words_of(alloc, words)?;
-        let (answer, station) = run(&rt, words.as_slice(), &mut site, &mut out)?;
+        let answer = run(&rt, words.as_slice(), &mut site, &mut station, &mut out);
         assert_eq!(rt; answer, status);
         assert!(rt; station.told().starts_with(line.as_bytes()));
         assert_eq!(rt; out.written().len(), 0);
@@ -233,7 +266,7 @@ const CONFIG: &str = "[grid]\nclasses = 16\nwidth = 2\nlow = -8000\nreference = 
 #[test]
 fn a_store_is_made(rt: HostRuntime) -> Result<(), Fail> {
     let alloc = rt.alloc();
-    let mut station = MomentStation::new(alloc, Vec::new(alloc), Vec::new(alloc));
+    let mut station = empty_station(alloc);
     let mut out = VecSink::new(alloc, 200, Vec::new(alloc))?;
     let made = Status::Store(StoreFault::NotEmpty { size: 63 });
     for (word, status) in [

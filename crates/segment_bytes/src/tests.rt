@@ -5,7 +5,10 @@ use std::alloc::{AllocError, Global};
 use std::process::Abort;
 use std::test::Fail;
 
-// The body of the levels 8 13 8 13 of gauge 0 from 0, in layout one.
+// The raw values of the levels 8 13 8 13.
+const LEVELS: [i32; 4] = [0, 5, 0, 5];
+
+// The body of these levels of gauge 0 from 0, in layout one.
 const VECTOR: [u8; 158] = [
     0, 0, 0, 0, 0, 0, 0, 0, 0, 0, 0, 0, 0, 0, 0, 0, 0, 4, // gauge, from, to
     0, 0, 0, 0, 0, 0, 0, 4, 0, 0, 0, 0, 0, 0, 0, 0, 0, 0, 0, 0, 0, 0, 0, 0, // readings
@@ -77,9 +80,10 @@ fn assert_written(
     rt: &impl Abort,
     alloc: Global,
     layout: Layout,
+    raws: &[i32],
     expected: &[u8],
 ) -> Result<(), Fail> {
-    let segment = taken(rt, alloc, &[0, 5, 0, 5])?;
+    let segment = taken(rt, alloc, raws)?;
     let mut buf = vec![in alloc; 7; 3000]?;
     assert_eq!(rt; body(rt, layout, &segment, &mut buf), expected);
     Ok(())
@@ -102,13 +106,13 @@ fn in_rows() -> [u8; 158] {
 
 #[test]
 fn the_vector(rt: HostRuntime) -> Result<(), Fail> {
-    assert_written(&rt, rt.alloc(), Layout::One, &VECTOR)?;
+    assert_written(&rt, rt.alloc(), Layout::One, &LEVELS, &VECTOR)?;
     assert_read(&rt, rt.alloc(), Layout::One, &VECTOR)
 }
 
 #[test]
 fn the_vector_in_rows(rt: HostRuntime) -> Result<(), Fail> {
-    assert_written(&rt, rt.alloc(), Layout::Two, &in_rows())?;
+    assert_written(&rt, rt.alloc(), Layout::Two, &LEVELS, &in_rows())?;
     assert_read(&rt, rt.alloc(), Layout::Two, &in_rows())
 }
 
@@ -186,15 +190,24 @@ fn assert_no_samples(rt: &impl Abort, segment: &Segment) {
     assert_eq!(rt; segment.next_cycle(0, 0), None);
 }
 
+fn assert_zeros_read(
+    rt: &impl Abort,
+    alloc: Global,
+    layout: Layout,
+    zeros: &[u8],
+) -> Result<(), Fail> {
+    let found = read(rt, alloc, layout, zeros)??;
+    assert_no_samples(rt, &found);
+    Ok(())
+}
+
 #[test]
 fn the_body_of_no_samples(rt: HostRuntime) -> Result<(), Fail> {
-    for (layout, zeros) in [(Layout::One, 72usize), (Layout::Two, 70)] {
-        let segment = taken(&rt, rt.alloc(), &[])?;
-        let mut buf = vec![in rt.alloc(); 7; 3000]?;
-        assert!(rt; zeros <= 73);
-        assert_eq!(rt; body(&rt, layout, &segment, &mut buf), &[0; 73][..zeros]);
-        let found = read(&rt, rt.alloc(), layout, &[0; 73][..zeros])??;
-        assert_no_samples(&rt, &found);
+    for (layout, bytes) in [(Layout::One, 72usize), (Layout::Two, 70)] {
+        assert!(rt; bytes <= 73);
+        let zeros = &[0; 73][..bytes];
+        assert_written(&rt, rt.alloc(), layout, &[], zeros)?;
+        assert_zeros_read(&rt, rt.alloc(), layout, zeros)?;
     }
     Ok(())
 }

@@ -18,6 +18,7 @@ use Rattle.simple_counts.specs.Simple.{AreExtremes, HasRanges, SimpleValue, Coun
 use Rattle.level_crossing.specs.Extremes.{extremes_at, is_extreme}
 use Rattle.level_crossing.proofs.Extremes.{none_of_two}
 use Rattle.simple_counts.proofs.Pushed.{pushed_counted, pushed_counts}
+use Rattle.simple_counts.proofs.Stage.{value_same}
 use Rattle.turning_points.specs.declared.ends.TheConstants.{MAX_POINTS}
 use Rattle.lemmas.proofs.Lists.{get_or-zeros}
 use Rattle.lemmas.proofs.Sums.{get_or-le-sum, sum-zeros}
@@ -43,11 +44,6 @@ turn_here p i z o h =
     let b : suc (suc (i - 2)) ≡ i = omega arith in
     subst (λ k. IsTurn (get_or p (i - 2) 0) (get_or p (i - 1) 0) (get_or p k 0)) b
     (subst (λ k. IsTurn (get_or p (i - 2) 0) (get_or p k 0) (get_or p (suc (suc (i - 2))) 0)) a t)
-
-value_same : (K r : ℕ) (e e' : EndPoints) (d d' m m' : List ℕ) → e ≡ e' → d ≡ d' → m ≡ m' →
-    ◌≡◌ {A = SimpleValue} (record { classes = K; reference = r; ends = e; decided = d; extremes = m })
-    (record { classes = K; reference = r; ends = e'; decided = d'; extremes = m' })
-value_same K r e e' d d' m m' p q s = cc
 
 yes_and : {A : Type 0} (a b : Bool) (x y : A) → a ≡ true → cond (a && b) x y ≡ cond b x y
 yes_and true b x y e = refl

@@ -79,7 +79,8 @@ ready {s} {t} {d} {m} i j k p q r =
       space = omega (arith, y, i.agrees.few, j.agrees.few);
     }
 
-value_same : (K r : ℕ) (e e' : EndPoints) (d d' m m' : List ℕ) → e' ≡ e → d' ≡ d → m' ≡ m →
+-- a value is the same where its parts are
+pub value_same : (K r : ℕ) (e e' : EndPoints) (d d' m m' : List ℕ) → e ≡ e' → d ≡ d' → m ≡ m' →
     ◌≡◌ {A = SimpleValue} (record { classes = K; reference = r; ends = e; decided = d; extremes = m })
     (record { classes = K; reference = r; ends = e'; decided = d'; extremes = m' })
 value_same K r e e' d d' m m' p q s = cc
@@ -91,11 +92,12 @@ pub closed : {s t : SimpleValue} {e : EndPoints} {d m d' m' : List ℕ} → IsSi
     d' ≡ decide_join s.ends t.ends d → m' ≡ mark_join s.reference s.ends t.ends m →
     IsSimple (record { classes = s.classes; reference = s.reference; ends = e; decided = d'; extremes = m' })
 closed {s} {t} {e} {d} {m} {d'} {m'} i j k p q r x y z =
-    subst IsSimple (value_same s.classes s.reference _ e _ d' _ m' x (y ∙ ap (decide_join s.ends t.ends) q)
-    (z ∙ ap (mark_join s.reference s.ends t.ends) r)) (joined_counted s t i j k p)
+    subst IsSimple (sym (value_same s.classes s.reference e _ d' _ m' _ x (y ∙ ap (decide_join s.ends t.ends) q)
+    (z ∙ ap (mark_join s.reference s.ends t.ends) r))) (joined_counted s t i j k p)
 
 pub closed_push : {v : SimpleValue} {e : EndPoints} {d m : List ℕ} (x : ℕ) → IsSimple v → x < v.classes → v.ends.points + 1 ≤ MAX_POINTS →
     e ≡ ends_push x v.ends → d ≡ cond (turns_at x v.ends) (raise v.decided (range v.ends.before v.ends.last)) v.decided →
     m ≡ cond (leb 2 v.ends.points && is_extreme v.reference v.ends.before v.ends.last x) (raise v.extremes v.ends.last) v.extremes →
     IsSimple (record { classes = v.classes; reference = v.reference; ends = e; decided = d; extremes = m })
-closed_push {v} {e} {d} {m} x i h p q r s = subst IsSimple (value_same v.classes v.reference _ e _ d _ m q r s) (pushed_counted v x i h p)
+closed_push {v} {e} {d} {m} x i h p q r s =
+    subst IsSimple (sym (value_same v.classes v.reference e _ d _ m _ q r s)) (pushed_counted v x i h p)

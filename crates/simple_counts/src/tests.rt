@@ -4,6 +4,7 @@ use super::*;
 use calibration::Grid;
 use level_crossing::Crossings;
 use std::alloc::{AllocError, Global};
+use std::process::Abort;
 use std::test::Fail;
 use tables::Bin;
 use turning_points::ends_of;
@@ -32,18 +33,59 @@ fn counted(alloc: Global, grid: &Grid, levels: &[u16]) -> Result<Simple, AllocEr
     Ok(simple)
 }
 
+fn assert_counts(
+    rt: &impl Abort,
+    simple: &Simple,
+    peaks: &[u64; 16],
+    valleys: &[u64; 16],
+    ranges: &[u64; 16],
+)
+    requires classes { simple.now.classes ≡ 16 }
+{
+    for k in 0..16u16 {
+        let place = usize::from(k);
+        assert_eq!(rt; simple.peaks(k), peaks[place], "peaks at {k}");
+        assert_eq!(rt; simple.valleys(k), valleys[place], "valleys at {k}");
+        assert_eq!(rt; simple.half_ranges(k), ranges[place], "ranges of {k}");
+    }
+}
+
+fn assert_same(rt: &impl Abort, one: &Simple, other: &Simple, classes: u16)
+    requires one { one.now.classes ≡ classes }
+    requires other { other.now.classes ≡ classes }
+{
+    assert_eq!(rt; one.ends(), other.ends());
+    for k in 0..classes {
+        assert_eq!(rt; one.peaks(k), other.peaks(k), "peaks at {k}");
+        assert_eq!(rt; one.valleys(k), other.valleys(k), "valleys at {k}");
+        assert_eq!(rt; one.half_ranges(k), other.half_ranges(k), "ranges of {k}");
+    }
+}
+
 #[test]
 fn the_standards_example(rt: HostRuntime) -> Result<(), Fail> {
     let grid = Grid::new(16, 2, -8000, 8)?;
     let simple = counted(rt.alloc(), &grid, &LEVELS)?;
     assert_eq!(rt; simple.ends(), ends_of(&LEVELS));
-    for k in 0..grid.classes() {
-        assert!(rt; k < 16);
-        let place = usize::from(k);
-        assert_eq!(rt; simple.peaks(k), PEAKS[place], "peaks at {k}");
-        assert_eq!(rt; simple.valleys(k), VALLEYS[place], "valleys at {k}");
-        assert_eq!(rt; simple.half_ranges(k), RANGES[place], "ranges of {k}");
-    }
+    assert_counts(&rt, &simple, &PEAKS, &VALLEYS, &RANGES);
+    Ok(())
+}
+
+fn assert_joined(
+    rt: &impl Abort,
+    alloc: Global,
+    grid: &Grid,
+    levels: &[u16],
+    cut: usize,
+) -> Result<(), Fail> {
+    assert!(rt; cut <= levels.len());
+    let whole = counted(alloc, grid, levels)?;
+    let mut joined = counted(alloc, grid, &levels[..cut])?;
+    let right = counted(alloc, grid, &levels[cut..])?;
+    assert!(rt; joined.ends().points < 100);
+    assert!(rt; right.ends().points < 100);
+    joined.join(&right);
+    assert_same(rt, &joined, &whole, grid.classes());
     Ok(())
 }
 
@@ -59,31 +101,8 @@ fn joined_at_any_cut(rt: HostRuntime) -> Result<(), Fail> {
         [7, 7, 7].as_slice(),
     ];
     for levels in histories {
-        let whole = counted(rt.alloc(), &grid, levels)?;
         for cut in 0..=levels.len() {
-            let mut joined = counted(rt.alloc(), &grid, &levels[..cut])?;
-            let right = counted(rt.alloc(), &grid, &levels[cut..])?;
-            assert!(rt; joined.ends().points < 100);
-            assert!(rt; right.ends().points < 100);
-            joined.join(&right);
-            assert_eq!(rt; joined.ends(), whole.ends(), "cut at {cut}");
-            for k in 0..grid.classes() {
-                assert_eq!(rt;
-                    joined.peaks(k),
-                    whole.peaks(k),
-                    "peaks at {k}, cut at {cut}"
-                );
-                assert_eq!(rt;
-                    joined.valleys(k),
-                    whole.valleys(k),
-                    "valleys at {k}, cut at {cut}"
-                );
-                assert_eq!(rt;
-                    joined.half_ranges(k),
-                    whole.half_ranges(k),
-                    "ranges of {k}, cut at {cut}"
-                );
-            }
+            assert_joined(&rt, rt.alloc(), &grid, levels, cut)?;
         }
     }
     Ok(())
@@ -99,21 +118,10 @@ fn taken_from_points(rt: HostRuntime) -> Result<(), Fail> {
     for (boundary, count) in [(4, 0), (5, 1), (7, 3), (8, 4), (13, 1), (14, 0)] {
         assert_eq!(rt; crossings.at(boundary), count, "crossings of {boundary}");
     }
-    for k in 0..grid.classes() {
-        assert!(rt; k < 16);
-        let place = usize::from(k);
-        assert_eq!(rt; simple.peaks(k), PEAKS[place], "peaks at {k}");
-        assert_eq!(rt; simple.valleys(k), VALLEYS[place], "valleys at {k}");
-        assert_eq!(rt; simple.half_ranges(k), RANGES[place], "ranges of {k}");
-    }
+    assert_counts(&rt, &simple, &PEAKS, &VALLEYS, &RANGES);
     simple.clear();
     assert_eq!(rt; simple.ends(), ends_of(&[]));
-    for k in 0..grid.classes() {
-        assert_eq!(rt;
-            (simple.peaks(k), simple.valleys(k), simple.half_ranges(k)),
-            (0, 0, 0)
-        );
-    }
+    assert_counts(&rt, &simple, &[0; 16], &[0; 16], &[0; 16]);
     Ok(())
 }
 

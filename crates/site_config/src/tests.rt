@@ -1,4 +1,5 @@
 use crate::*;
+use calibration::Setup;
 use std::process::Abort;
 use std::test::Fail;
 
@@ -53,36 +54,56 @@ fn check<R: Abort + AllocGlobal>(rt: &R, table: &[(&str, &str, ConfigFault)]) ->
     Ok(())
 }
 
+fn assert_setup(rt: &impl Abort, setup: &Setup) {
+    let grid = setup.grid;
+    assert_eq!(rt; (grid.classes(), grid.w2()), (16, 2));
+    assert_eq!(rt; (grid.low_kpa(), grid.reference()), (-8000, 8));
+    assert_eq!(rt; setup.gains.as_slice().len(), 1);
+    let gain = setup.gains.as_slice()[0];
+    assert_eq!(rt; (gain.num(), gain.den(), gain.offset()), (1000, 1, 0));
+}
+
+fn assert_gauge(rt: &impl Abort, gauges: &GaugeNames) {
+    assert_eq!(rt; gauges.as_slice().len(), 1);
+    let gauge = &gauges.as_slice()[0];
+    assert_eq!(rt;
+        (gauge.name.as_str(), gauge.file.as_str()),
+        ("G1", "g1.sgrc")
+    );
+}
+
+fn assert_detail(rt: &impl Abort, details: &Details) {
+    assert_eq!(rt; details.as_slice().len(), 1);
+    let named = &details.as_slice()[0];
+    assert_eq!(rt; (named.name.as_str(), named.gauge), ("weld", 0));
+    assert_eq!(rt; (named.detail.category(), named.detail.gamma()), (71, 100));
+}
+
 #[test]
 fn whole_configuration(rt: HostRuntime) -> Result<(), Fail> {
     let config = read(rt.alloc(), WHOLE.as_bytes()).expect(&rt, "it is sound");
-    assert_eq!(rt; config.setup.grid.classes(), 16);
-    assert_eq!(rt; config.setup.grid.w2(), 2);
-    assert_eq!(rt; config.setup.grid.low_kpa(), -8000);
-    assert_eq!(rt; config.setup.grid.reference(), 8);
+    assert_setup(&rt, &config.setup);
     assert_eq!(rt; (config.block, config.workers), (4, 2));
-    assert_eq!(rt; config.gauges.as_slice().len(), 1);
-    assert_eq!(rt; config.gauges.as_slice()[0].name.as_str(), "G1");
-    assert_eq!(rt; config.gauges.as_slice()[0].file.as_str(), "g1.sgrc");
-    assert_eq!(rt; config.setup.gains.as_slice().len(), 1);
-    let gain = config.setup.gains.as_slice()[0];
-    assert_eq!(rt; (gain.num(), gain.den(), gain.offset()), (1000, 1, 0));
-    assert_eq!(rt; config.details.as_slice().len(), 1);
-    let named = &config.details.as_slice()[0];
-    assert_eq!(rt; (named.name.as_str(), named.gauge), ("weld", 0));
-    assert_eq!(rt; (named.detail.category(), named.detail.gamma()), (71, 100));
+    assert_gauge(&rt, &config.gauges);
+    assert_detail(&rt, &config.details);
     Ok(())
 }
 
-// The defaults, and the limits themselves.
+// What holds where a part is left out.
 #[test]
-fn sound_configurations(rt: HostRuntime) -> Result<(), Fail> {
+fn defaults(rt: HostRuntime) -> Result<(), Fail> {
     let text = WHOLE.replacen(rt.alloc(), COUNT, "", 1)?;
     let config = read(rt.alloc(), text.as_bytes()).expect(&rt, "the count has defaults");
     assert_eq!(rt; (config.block, config.workers), (1024, 4));
     let text = WHOLE.replacen(rt.alloc(), DETAIL, "", 1)?;
     let config = read(rt.alloc(), text.as_bytes()).expect(&rt, "there need be no detail");
     assert_eq!(rt; config.details.as_slice().len(), 0);
+    Ok(())
+}
+
+// The limits themselves.
+#[test]
+fn sound_configurations(rt: HostRuntime) -> Result<(), Fail> {
     let table = [
         ("classes = 16\nwidth = 2", "classes = 1024\nwidth = 1"),
         (

@@ -17,6 +17,7 @@ use Rattle.calibration.specs.Gain.{GainValue, IsGain}
 use Rattle.calibration.specs.Grid.{GridValue, IsGrid}
 use Rattle.segment_bytes.specs.declared.layout.Layout.{Layout}
 use Rattle.segment_bytes.specs.declared.layout.Layout.TheVariants.{One, Two}
+use Rattle.segment_bytes.specs.declared.layout.TheConstants.{MAX_CLASSES_ONE}
 use Rattle.recording.specs.declared.head.Head.{Head}
 use Rattle.segment_bytes.proofs.Formats.{IsBytes}
 use Rattle.store_head.specs.declared.fault.Field.{Field}
@@ -133,11 +134,12 @@ one_back v e = by (eqb v 1) refl
     by true f = f
     by false f = absurd (two (sym (ap (λ t. cond t One Two) f) ∙ e))
 
-narrow_is : (a : Bool) (n k : ℕ) → not (a && ltb 128 n) ≡ true → a ≡ true → n ≡ k → k ≤ 128
+narrow_is : (a : Bool) (n k : ℕ) → not (a && ltb MAX_CLASSES_ONE n) ≡ true → a ≡ true → n ≡ k → k ≤ MAX_CLASSES_ONE
 narrow_is a n k e f g = grind (arith, nat_tests)
 
 pub front_is : (s : Setup) (size : ℕ) (b : List ℕ) → length b ≡ FRONT_LENGTH → IsBytes b → front_fault s size b ≡ None
-    → (b ≡ front (layout_of (get_or b 5 0)) s) × (start_of s + 1 ≤ size) × (layout_of (get_or b 5 0) ≡ One → s.grid.classes ≤ 128)
+    → (b ≡ front (layout_of (get_or b 5 0)) s) × (start_of s + 1 ≤ size)
+    × (layout_of (get_or b 5 0) ≡ One → s.grid.classes ≤ MAX_CLASSES_ONE)
 front_is s size b long fits none =
     let a = both_none _ _ none in
     let v = both_none _ _ a.1 in
@@ -189,20 +191,23 @@ is_one : (l : Layout) → is_version (version_of l) ≡ true
 is_one One = refl
 is_one Two = refl
 
-whole_true : (l : Layout) (gauges size classes : ℕ) → gauge_place gauges + 1 ≤ size → classes < 2 ^ 16 → (l ≡ One → classes ≤ 128)
-    → (leb (gauge_place gauges + 1) size && not (eqb (version_of l) 1 && ltb 128 (from_be_bytes w16 (to_be_bytes w16 classes)))) ≡ true
-whole_true l gauges size classes le k narrow = ap (λ n. leb (gauge_place gauges + 1) size && not (eqb (version_of l) 1 && ltb 128 n))
+whole_true : (l : Layout) (gauges size classes : ℕ) → gauge_place gauges + 1 ≤ size → classes < 2 ^ 16
+    → (l ≡ One → classes ≤ MAX_CLASSES_ONE)
+    → (leb (gauge_place gauges + 1) size
+    && not (eqb (version_of l) 1 && ltb MAX_CLASSES_ONE (from_be_bytes w16 (to_be_bytes w16 classes)))) ≡ true
+whole_true l gauges size classes le k narrow =
+    ap (λ n. leb (gauge_place gauges + 1) size && not (eqb (version_of l) 1 && ltb MAX_CLASSES_ONE n))
     (from_be_bytes-to_be_bytes_2 classes k) ∙ by l narrow
   where
-    below : (n : ℕ) → n ≤ 128 → ltb 128 n ≡ false
+    below : (n : ℕ) → n ≤ MAX_CLASSES_ONE → ltb MAX_CLASSES_ONE n ≡ false
     below n h = grind (arith, nat_tests)
 
-    by : (l : Layout) → (l ≡ One → classes ≤ 128)
-        → (leb (gauge_place gauges + 1) size && not (eqb (version_of l) 1 && ltb 128 classes)) ≡ true
+    by : (l : Layout) → (l ≡ One → classes ≤ MAX_CLASSES_ONE)
+        → (leb (gauge_place gauges + 1) size && not (eqb (version_of l) 1 && ltb MAX_CLASSES_ONE classes)) ≡ true
     by One h = ap (λ b. leb (gauge_place gauges + 1) size && not b) (below classes (h refl)) ∙ ap (λ b. b && true) (le-leb _ _ le)
     by Two h = ap (λ b. b && true) (le-leb _ _ le)
 
-pub is_front : (l : Layout) (s : Setup) (size : ℕ) → IsSetup s → (l ≡ One → s.grid.classes ≤ 128) → start_of s + 1 ≤ size
+pub is_front : (l : Layout) (s : Setup) (size : ℕ) → IsSetup s → (l ≡ One → s.grid.classes ≤ MAX_CLASSES_ONE) → start_of s + 1 ≤ size
     → front_fault s size (front l s) ≡ None
 is_front l s size i narrow le =
     let g = i.grid in

@@ -1,4 +1,6 @@
 ghost use Rattle.std.specs.Prelude.{◌≡◌, ◌≤◌, ◌⊎◌};
+ghost use Rattle.calibration.specs.declared.grid.TheConstants.{MAX_CLASSES};
+ghost use Rattle.segment_bytes.specs.declared.layout.TheConstants.{MAX_CLASSES_ONE};
 
 use calibration::{Classifier, Gain, Grid};
 use recording::MAX_SAMPLES;
@@ -85,7 +87,7 @@ fn join_block(
 
 // Classes of 0.5 N/mm² whose numbers are the raw values.
 fn grid_of(classes: u16) -> Grid
-    requires { (classes ≡ 128) ⊎ (classes ≡ 1024) }
+    requires { (classes ≡ MAX_CLASSES_ONE) ⊎ (classes ≡ MAX_CLASSES) }
 {
     match Grid::new(classes, 1, 0, classes / 2) {
         Ok(grid) => grid,
@@ -103,7 +105,7 @@ pub fn gain() -> Gain {
 
 /// The segment of so many samples of noise over 128 or 1024 classes, in blocks.
 pub fn noise_segment(alloc: Global, classes: u16, samples: u32) -> Result<Segment, AllocError>
-    requires classes { (classes ≡ 128) ⊎ (classes ≡ 1024) }
+    requires classes { (classes ≡ MAX_CLASSES_ONE) ⊎ (classes ≡ MAX_CLASSES) }
     requires some { 1 ≤ samples }
 {
     let grid = grid_of(classes);

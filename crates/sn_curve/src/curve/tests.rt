@@ -6,7 +6,7 @@ use std::test::Fail;
 // cut-off, of each category with each factor. The numerators are the denominator over twice the
 // endurance, which Python's exact `Fraction` gave by the equations of the standard, with 0.737 and
 // 0.549 as decimals.
-const NORMAL: [(u16, u16, u16, u128); 168] = [
+const NORMAL: &[(u16, u16, u16, u128)] = &[
     (160, 100, 117, 561266697139200000000000000000),
     (160, 100, 118, 585333526953995943319961600000),
     (160, 100, 64, 0),
@@ -178,7 +178,7 @@ const NORMAL: [(u16, u16, u16, u128); 168] = [
 ];
 
 // The same beside the cut-off limit of shear stress, 0.457 times the category.
-const SHEAR: [(u16, u16, u16, u128); 12] = [
+const SHEAR: &[(u16, u16, u16, u128)] = &[
     (100, 100, 45, 0),
     (100, 100, 46, 21090608742400000),
     (100, 115, 39, 0),
@@ -236,7 +236,7 @@ fn denominator(kind: Kind, category: u16) -> Option<u128> {
 
 #[test]
 fn shares_beside_limits(rt: HostRuntime) -> Result<(), Fail> {
-    for (category, gamma, k, numerator) in NORMAL {
+    for &(category, gamma, k, numerator) in NORMAL {
         let expected = (
             numerator,
             denominator(Kind::Normal, category).ok_or("category")?,
@@ -244,7 +244,7 @@ fn shares_beside_limits(rt: HostRuntime) -> Result<(), Fail> {
         let found = share_of(Kind::Normal, category, gamma, 2, k);
         assert_eq!(rt; found, Some(expected), "normal {category} {gamma} {k}");
     }
-    for (category, gamma, k, numerator) in SHEAR {
+    for &(category, gamma, k, numerator) in SHEAR {
         let expected = (
             numerator,
             denominator(Kind::Shear, category).ok_or("category")?,

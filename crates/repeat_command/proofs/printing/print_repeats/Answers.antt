@@ -1,6 +1,7 @@
 use Rattle.std.proofs.Common.{◌<◌, ◌≤◌, ◌++◌, ℕ, List, length, refl, ◌∙◌, ap, subst, sym, arith}
 use Rattle.outside.specs.Sink.{AppendsPrefix}
 use Rattle.calibration.specs.declared.setup.Setup.{Setup}
+use Rattle.calibration.specs.declared.limits.TheConstants.{MAX_NAME_BYTES}
 use Rattle.lemmas.proofs.Outcomes.{on_err}
 use Rattle.segment_store.specs.Holds.{gain_at}
 use Rattle.site_config.specs.Valid.{name_of}
@@ -14,7 +15,7 @@ use Rattle.repeat_command.proofs.printing.print_repeats.Goals as goal
 pub print_repeat-requires-clause-name : goal.print_repeat-requires-clause-name
 print_repeat-requires-clause-name g c =
     let known : c.loop-gauge.gauge < length c.args.bridge.now.gauges = omega (arith, ap length c.as_slice-gauge-end.ensures) in
-    subst (λ (l : List ℕ). length l ≤ 32) (name_is c.args.bridge.now c.loop-gauge.gauge _ _ _ known c.as_slice.ensures
+    subst (λ (l : List ℕ). length l ≤ MAX_NAME_BYTES) (name_is c.args.bridge.now c.loop-gauge.gauge _ _ _ known c.as_slice.ensures
     c.as_str-name.ensures)
     (short_name (name_of c.args.bridge.now c.loop-gauge.gauge) (c.requires.bridge.names c.loop-gauge.gauge known))
 
