@@ -62,10 +62,12 @@ def try_those_of(name):
     if not edits:
         print(f"further edits: {name} has none")
         return 1
-    lent = []
+    lent, folder = [], crate / "must-fail"
+    is_lent = not folder.exists()
+    folder.mkdir(exist_ok=True)
     try:
         for edit in edits:
-            beside = crate / "must-fail" / edit.name
+            beside = folder / edit.name
             if beside.exists():
                 print(f"further edits: must-fail/ of {name} has {edit.name} too")
                 return 1
@@ -75,6 +77,8 @@ def try_those_of(name):
     finally:
         for beside in lent:
             beside.unlink(missing_ok=True)
+        if is_lent:
+            folder.rmdir()
 
 
 def main(names):
