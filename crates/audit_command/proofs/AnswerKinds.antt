@@ -1,12 +1,12 @@
 -- No answer is that of wrong words.
 use Rattle.std.proofs.Common.{◌≡◌, ◌≢◌, subst}
 use Rattle.segment_store.specs.declared.fault.ResumeFault.{ResumeFault}
-use Rattle.config_reading.specs.Reading.{IsRefusal}
+use Rattle.status.specs.config_reading.Reading.{IsRefusal}
 use Rattle.status.specs.declared.status.Status.{Status}
 use Rattle.status.specs.declared.status.Status.TheVariants.{Usage}
 use Rattle.status.specs.Refused.{store_status}
-use Rattle.report_command.specs.Answers.{IsReporting}
-use Rattle.report_command.proofs.AnswerKinds.{kind_of_store}
+use Rattle.status.specs.Printing.{IsReporting}
+use Rattle.status.proofs.Refusals.{kind_of_store}
 use Rattle.audit_command.specs.Answers.{IsAuditing}
 
 pub audited_named : (s : Status) → IsAuditing s → s ≢ Usage

@@ -9,10 +9,10 @@ use Rattle.std.proofs.lemmas.Bool.{cases_lt}
 use Rattle.calibration.specs.Gain.{GainValue}
 use Rattle.calibration.specs.Grid.{GridValue}
 use Rattle.calibration.specs.History.{history}
-use Rattle.three_point.specs.Run.{three_point}
-use Rattle.segment_rules.specs.Parts.{PartsValue}
-use Rattle.report.specs.Counts.{kinds_of}
-use Rattle.report.specs.declared.counts.SampleCounts.{SampleCounts}
+use Rattle.turning_points.specs.three_point.Run.{three_point}
+use Rattle.segment.specs.segment_rules.Parts.{PartsValue}
+use Rattle.segment.specs.Counts.{kinds_of}
+use Rattle.segment.specs.declared.counts.SampleCounts.{SampleCounts}
 use Rattle.segment.specs.Segment.{SegmentValue, IsSegment}
 use Rattle.recount.specs.Compared.{Compares, used_differ, missing_differ, refused_differ, cell_differs, all_same}
 use Rattle.recount.specs.Counted.{IsRecount}

@@ -4,19 +4,19 @@ use Rattle.std.proofs.lemmas.Bool.{cases_lt}
 use Rattle.std.proofs.lemmas.List.{get_or_past}
 use Rattle.std.specs.Prelude.{slice_index, Result, Ok, Err}
 use Rattle.outside.specs.Site.{Files}
-use Rattle.station.specs.Station.{Image}
+use Rattle.outside.specs.station.Station.{Image}
 use Rattle.recording.specs.declared.head.Head.{Head}
 use Rattle.calibration.specs.declared.setup.Setup.{Setup}
 use Rattle.calibration.specs.History.{history}
-use Rattle.three_point.specs.Run.{three_point}
-use Rattle.segment_rules.specs.Parts.{PartsValue}
-use Rattle.report.specs.Counts.{kinds_of}
+use Rattle.turning_points.specs.three_point.Run.{three_point}
+use Rattle.segment.specs.segment_rules.Parts.{PartsValue}
+use Rattle.segment.specs.Counts.{kinds_of}
 use Rattle.segment_store.specs.Keeps.{bodies_of}
 use Rattle.segment.specs.Segment.{SegmentValue, IsSegment, Stands}
 use Rattle.recount.specs.declared.compare.What.{What}
 use Rattle.segment_store.specs.Held.{ends_of}
-use Rattle.segment_store.specs.Holds.{AllStand, gain_at}
-use Rattle.segment_store.specs.Image.{Reads}
+use Rattle.segment_store.specs.Holds.{AllStand, gain_at, held_of}
+use Rattle.segment_store.specs.Image.{Reads, IsStoreOf}
 use Rattle.segment_store.specs.Moments.{IsOn, StoreValue}
 use Rattle.segment_store.specs.declared.fault.ResumeFault.TheVariants as fault
 use Rattle.segment_store.proofs.HeldKeep.{held_keep}
@@ -26,19 +26,17 @@ use Rattle.site_config.specs.declared.config.Config.{Config}
 use Rattle.site_config.specs.declared.config.Gauge.{Gauge}
 use Rattle.site_config.specs.declared.limits.TheConstants.{MAX_NAME_BYTES}
 use Rattle.site_config.proofs.Named.{short_name}
-use Rattle.fault_lines.specs.FaultLine.{name_for}
+use Rattle.status.specs.fault_lines.FaultLine.{name_for}
 use Rattle.site_config.specs.declared.fault.ConfigFault.{ConfigFault}
-use Rattle.recorded.specs.Recorded.{recordings}
+use Rattle.site_config.specs.recorded.Recorded.{recordings}
 use Rattle.site_lanes.specs.Answers.{AllOpened, OpenAnswers}
 use Rattle.site_lanes.proofs.Opened.{not_both}
 use Rattle.status.specs.declared.status.RecordingFault.{RecordingFault}
 use Rattle.status.specs.declared.status.Status.{Status}
 use Rattle.status.specs.declared.status.Status.TheVariants.{Done, Usage, Config as BadConfig, Store as BadStore, Recording, Torn, ReadFault, WriteFault, DiskFault, OutOfMemory, TooLong, Differs}
-use Rattle.config_reading.specs.Reading.{MeansAs, IsRefusal}
+use Rattle.status.specs.config_reading.Reading.{MeansAs, IsRefusal}
 use Rattle.status.specs.Printing.{IsPrinting}
-use Rattle.report_command.specs.Printing.{held_of}
-use Rattle.report_command.specs.Answers.{IsStoreOf}
-use Rattle.config_reading.proofs.Refusing.{by_refusal}
+use Rattle.status.proofs.on_config_reading.Refusing.{by_refusal}
 use Rattle.audit_command.specs.Recounted.{IsRecounting}
 use Rattle.audit_command.specs.Audited.{SegmentChoice, IsItem, HasKept, IsStanding, IsOther, AllSame, FindsDifference}
 use Rattle.audit_command.specs.Answers.{HeldAnswers, CountedAnswers, MayAnswerOver, AuditAnswers, IsSound, IsAuditing}

@@ -7,7 +7,7 @@ use Rattle.outside.specs.Site.{Files}
 use Rattle.recording.specs.Head.{recording_head}
 use Rattle.recording.specs.Samples.{samples}
 use Rattle.recording.specs.declared.head.Head.{Head}
-use Rattle.recorded.specs.Recorded.{body_in}
+use Rattle.site_config.specs.recorded.Recorded.{body_in}
 use Rattle.recount.specs.declared.count.RecountFault.{RecountFault}
 use Rattle.recount.specs.declared.count.RecountFault.TheVariants as recount
 use Rattle.site_config.specs.Valid.{file_of}

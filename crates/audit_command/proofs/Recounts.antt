@@ -8,7 +8,7 @@ use Rattle.calibration.specs.Gain.{GainValue}
 use Rattle.recount.specs.Counted.{IsRecount}
 use Rattle.recount.specs.declared.count.Recount.{Recount}
 use Rattle.outside.specs.Site.{Files}
-use Rattle.recorded.specs.Recorded.{recordings}
+use Rattle.site_config.specs.recorded.Recorded.{recordings}
 use Rattle.segment_store.specs.Holds.{gain_at}
 use Rattle.site_config.specs.declared.config.Config.{Config}
 use Rattle.status.specs.declared.status.Status.{Status}

@@ -7,17 +7,17 @@
 --                  holds
 use Rattle.std.specs.Prelude.{◌≡◌, ◌<◌, ℕ, List, length, slice_index, Some, Result, Ok, Err}
 use Rattle.outside.specs.Site.{Files}
-use Rattle.station.specs.Station.{Image}
+use Rattle.outside.specs.station.Station.{Image}
 use Rattle.recording.specs.declared.head.Head.{Head}
 use Rattle.site_config.specs.declared.config.Config.{Config}
 use Rattle.site_config.specs.declared.fault.ConfigFault.{ConfigFault}
-use Rattle.recorded.specs.Recorded.{recordings}
+use Rattle.site_config.specs.recorded.Recorded.{recordings}
 use Rattle.site_lanes.specs.Answers.{AllOpened, FaultOf}
 use Rattle.status.specs.declared.status.Status.{Status}
 use Rattle.status.specs.declared.status.Status.TheVariants.{Done, Config as BadConfig, Store as BadStore, Recording, ReadFault, WriteFault, DiskFault, OutOfMemory, Differs}
 use Rattle.status.specs.Refused.{IsRefusedAs}
-use Rattle.report_command.specs.Printing.{held_of}
-use Rattle.report_command.specs.Answers.{IsStoreOf}
+use Rattle.segment_store.specs.Holds.{held_of}
+use Rattle.segment_store.specs.Image.{IsStoreOf}
 use Rattle.audit_command.specs.Audited.{SegmentChoice, HasKept, AllSame, FindsDifference}
 
 -- nothing is wrong with any recording, and the comparison finds this

@@ -8,9 +8,9 @@
 --   FindsDifference  what an answer says that comes after all were compared
 use Rattle.std.specs.Prelude.{◌≡◌, ◌<◌, ℕ, ℤ, List, length, slice_index_or, Option, Some, None}
 use Rattle.calibration.specs.History.{history}
-use Rattle.three_point.specs.Run.{three_point}
-use Rattle.segment_rules.specs.Parts.{PartsValue}
-use Rattle.report.specs.Counts.{kinds_of}
+use Rattle.turning_points.specs.three_point.Run.{three_point}
+use Rattle.segment.specs.segment_rules.Parts.{PartsValue}
+use Rattle.segment.specs.Counts.{kinds_of}
 use Rattle.segment.specs.Segment.{SegmentValue, IsSegment, Stands}
 use Rattle.recount.specs.Compared.{Compares}
 use Rattle.recount.specs.declared.compare.Difference.{Difference}

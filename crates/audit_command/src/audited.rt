@@ -2,7 +2,7 @@ ghost use Rattle.std.specs.Prelude.{◌≡◌, ◌≤◌, ◌<◌, length};
 ghost use Rattle.outside.specs.Fault.{CountRose};
 ghost use Rattle.segment_store.specs.Held.{ends_of};
 ghost use Rattle.site_config.specs.Valid.{IsConfig};
-ghost use Rattle.recorded.specs.Asked.{AsksFirst, file_names};
+ghost use Rattle.site_config.specs.recorded.Asked.{AsksFirst, file_names};
 ghost use Rattle.status.specs.declared.status.Status.TheVariants.{Done, ReadFault, WriteFault};
 ghost use Rattle.audit_command.specs.Audited.{IsItem};
 ghost use Rattle.audit_command.specs.Answers.{HeldAnswers, IsAuditing};

@@ -1,29 +1,28 @@
 ghost use Rattle.std.specs.Prelude.{◌≡◌, ◌≢◌, ◌≤◌, ◌⊎◌, ◌++◌, [], ◌∷◌, ℕ, ℤ, List, Ok};
 ghost use Rattle.outside.specs.Fault.{CountRose};
-ghost use Rattle.segment_store.specs.Holds.{Holds};
+ghost use Rattle.segment_store.specs.Holds.{Holds, held_of};
 ghost use Rattle.segment_store.specs.Quiet.{IsQuiet};
 ghost use Rattle.site_config.specs.Configuration.{config_of_bytes};
 ghost use Rattle.site_config.specs.Valid.{IsConfig};
 ghost use Rattle.site_config.specs.declared.config.Config.{Config};
 ghost use Rattle.site_config.specs.declared.limits.TheConstants.{MAX_NAME_BYTES};
-ghost use Rattle.recorded.specs.Recorded.{recordings};
-ghost use Rattle.recorded.specs.Asked.{AsksFirst, file_names, names_in};
-ghost use Rattle.fault_lines.specs.FaultLine.{fault_line, name_by};
-ghost use Rattle.fault_lines.specs.Telling.{TellsAtMost};
+ghost use Rattle.site_config.specs.recorded.Recorded.{recordings};
+ghost use Rattle.site_config.specs.recorded.Asked.{AsksFirst, file_names, names_in};
+ghost use Rattle.status.specs.fault_lines.FaultLine.{fault_line, name_by};
+ghost use Rattle.status.specs.fault_lines.Telling.{TellsAtMost};
 ghost use Rattle.status.specs.declared.status.Status.TheVariants.{Done, Usage, ReadFault, WriteFault, DiskFault, OutOfMemory};
 ghost use Rattle.status.specs.Printing.{IsPrinting};
-ghost use Rattle.report_command.specs.Printing.{held_of};
 ghost use Rattle.audit_command.specs.Audited.{FindsDifference, IsStanding};
 ghost use Rattle.audit_command.specs.Answers.{MayAnswerOver, AuditAnswers, IsAudited, IsSound};
 ghost use Rattle.audit_command.specs.Printing.{Prints};
 
 use crate::audited::audit_held;
-use config_reading::read_config;
-use fault_lines::{FaultLine, name_in, tell_fault, tell_no_memory};
+use outside::station::Station;
 use outside::{Sink, Site, Source};
 use segment_store::Store;
 use site_config::{Config, MAX_NAME_BYTES};
-use station::Station;
+use status::config_reading::read_config;
+use status::fault_lines::{FaultLine, name_in, tell_fault, tell_no_memory};
 use status::{Status, status_of};
 use std::alloc::Global;
 

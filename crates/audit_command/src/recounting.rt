@@ -2,12 +2,12 @@ ghost use Rattle.std.specs.Prelude.{◌≡◌, ◌<◌, ◌≤◌, ℤ, List, []
 ghost use Rattle.outside.specs.Fault.{CountRose};
 ghost use Rattle.outside.specs.Site.{Asks};
 ghost use Rattle.recording.specs.Samples.{samples as samples_of};
-ghost use Rattle.recording.specs.declared.TheConstants.{MAX_SAMPLES};
+ghost use Rattle.calibration.specs.declared.limits.TheConstants.{MAX_SAMPLES};
 ghost use Rattle.recount.specs.Counted.{IsRecount};
 ghost use Rattle.segment_store.specs.Held.{ends_of};
 ghost use Rattle.site_config.specs.Valid.{IsConfig, file_of};
-ghost use Rattle.recorded.specs.Recorded.{body_in, recordings};
-ghost use Rattle.recorded.specs.Asked.{AsksFirst, file_names};
+ghost use Rattle.site_config.specs.recorded.Recorded.{body_in, recordings};
+ghost use Rattle.site_config.specs.recorded.Asked.{AsksFirst, file_names};
 ghost use Rattle.site_lanes.specs.Answers.{GaugeAnswers, OpenAnswers};
 ghost use Rattle.site_lanes.specs.Opening.{fault_of};
 ghost use Rattle.status.specs.declared.status.Status.TheVariants.{ReadFault};

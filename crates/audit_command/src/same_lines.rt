@@ -6,9 +6,9 @@ ghost use Rattle.site_config.specs.declared.limits.TheConstants.{MAX_NAME_BYTES}
 ghost use Rattle.audit_command.specs.Printing.{same_line, same_lines};
 ghost use Rattle.audit_command.specs.declared.same_lines.TheConstants.{MAX_LINE_BYTES};
 
-use line_room::LineRoom;
 use outside::{Failed, Sink};
 use site_config::{Config, MAX_NAME_BYTES};
+use status::line_room::LineRoom;
 use std::alloc::{AllocError, Global};
 
 // The bytes of a line, at most: those of `audit NAME same` and its end.

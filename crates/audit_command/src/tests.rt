@@ -1,7 +1,7 @@
 use super::*;
+use outside::station::MomentStation;
 use outside::{BytesSource, MapSite, VecSink};
 use recount::What;
-use station::MomentStation;
 use status::{RecordingFault, Status};
 use std::alloc::{AllocError, Global};
 use std::collections::BTreeMap;

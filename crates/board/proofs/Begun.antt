@@ -1,21 +1,21 @@
 -- Rows and boards of which nothing is placed.
-use Rattle.recording.specs.declared.TheConstants.{MAX_SAMPLES}
+use Rattle.calibration.specs.declared.limits.TheConstants.{MAX_SAMPLES}
 use Rattle.std.specs.Prelude.{ℤ}
 use Rattle.std.proofs.Common.{◌≡◌, ◌≤◌, ◌<◌, ◌+◌, ◌*◌, ℕ, List, [], length, get_or, take, drop, ◌++◌, sym, ap, ◌∙◌, subst, arith}
 use Rattle.calibration.specs.Grid.{GridValue}
-use Rattle.segment_rules.specs.declared.name.Name.{Name}
-use Rattle.block_pool.specs.declared.TheConstants.{MAX_BLOCK}
+use Rattle.segment.specs.declared.segment_rules.name.Name.{Name}
+use Rattle.board.specs.declared.block_pool.TheConstants.{MAX_BLOCK}
 use Rattle.board.specs.declared.TheConstants.{MAX_GAUGES}
 use Rattle.calibration.specs.Gain.{GainValue}
 use Rattle.segment.specs.Segment.{SegmentValue, Stands, empty_at}
 use Rattle.segment.proofs.Empty.{empty_stands}
-use Rattle.flow.specs.Flow.{hits}
-use Rattle.flow.proofs.Counting.{over_none}
+use Rattle.board.specs.flow.Flow.{hits}
+use Rattle.board.proofs.on_flow.Counting.{over_none}
 use Rattle.board.specs.Board.{BoardValue, Row, IsRow, IsBoard, IsBegun, StandsIn, spans, start_of}
 use Rattle.board.specs.Clearing.{IsFresh, RowBegun, RowsBegun}
 use Rattle.board.proofs.Placing.{between_off, spans_none, none_stand}
 use Rattle.lemmas.proofs.Lists.{all_written}
-use Rattle.flow.specs.declared.TheConstants.{BLOCKS_PER_WINDOW}
+use Rattle.board.specs.declared.flow.TheConstants.{BLOCKS_PER_WINDOW}
 
 module _ (block gauge start : ℕ) (kind : GridValue) (r : Row) (h : IsFresh block kind gauge start r) where
   from_is : (k : ℕ) (d : SegmentValue) → k < BLOCKS_PER_WINDOW → (get_or r.slots k d).from ≡ start

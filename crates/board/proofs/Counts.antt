@@ -4,14 +4,14 @@ use Rattle.std.proofs.lemmas.Bool.{cases_eq, cases_lt}
 use Rattle.std.proofs.lemmas.Bool.Decides.{nat_tests}
 use Rattle.std.proofs.Math.Nat.{mul-le-mul_right}
 use Rattle.calibration.specs.Grid.{GridValue}
-use Rattle.segment_rules.specs.declared.name.Name.{Name}
+use Rattle.segment.specs.declared.segment_rules.name.Name.{Name}
 use Rattle.segment.specs.Segment.{SegmentValue}
-use Rattle.flow.specs.Flow.{hits_of_name, hits}
-use Rattle.flow.specs.Kept.{between, over}
-use Rattle.flow.proofs.Counting.{over_same, over_none, hits_of_name_other, hits_of_name_past, hits_of_name_inside, hits-append, over_sum}
+use Rattle.board.specs.flow.Flow.{hits_of_name, hits}
+use Rattle.board.specs.flow.Kept.{between, over}
+use Rattle.board.proofs.on_flow.Counting.{over_same, over_none, hits_of_name_other, hits_of_name_past, hits_of_name_inside, hits-append, over_sum}
 use Rattle.board.specs.Board.{spans, IsRow, Row}
 use Rattle.board.proofs.Placing.{between_off, spans_none}
-use Rattle.flow.specs.declared.TheConstants.{BLOCKS_PER_WINDOW}
+use Rattle.board.specs.declared.flow.TheConstants.{BLOCKS_PER_WINDOW}
 
 pub over_most : (n c : ℕ) (f : ℕ → ℕ) → ((v : ℕ) → v < n → f v ≤ c) → over n f ≤ n * c
 over_most zero c f h = omega arith

@@ -1,23 +1,22 @@
 -- What a deposit does to a board.
 use Rattle.segment.specs.Name.{name_of}
-use Rattle.recording.specs.declared.TheConstants.{MAX_SAMPLES}
+use Rattle.calibration.specs.declared.limits.TheConstants.{MAX_SAMPLES}
 use Rattle.std.proofs.Common.{◌≡◌, ◌≢◌, ◌≤◌, ◌<◌, ◌+◌, ◌*◌, ℕ, zero, suc, List, [], ◌∷◌, ◌++◌, length, get_or, set, refl, sym, ap, ◌∙◌, subst, arith}
-use Rattle.std.specs.Prelude.{ℤ}
+use Rattle.std.specs.Prelude.{ℤ, Some}
 use Rattle.std.proofs.lemmas.List.{get_or_default, length_push, set-get_or}
 use Rattle.std.proofs.Math.ListN.{length-set}
 use Rattle.calibration.specs.Gain.{GainValue}
-use Rattle.segment_rules.specs.declared.name.Name.{Name}
+use Rattle.segment.specs.declared.segment_rules.name.Name.{Name}
 use Rattle.segment.specs.Segment.{SegmentValue}
-use Rattle.flow.specs.Flow.{hits_of_name, hits}
-use Rattle.flow.specs.Kept.{between, over}
-use Rattle.flow.proofs.Counting.{over_same, hits_of_name_other, hits-append, hits_of_name_between, between_one}
+use Rattle.board.specs.flow.Flow.{hits_of_name, hits}
+use Rattle.board.specs.flow.Kept.{between, over}
+use Rattle.board.proofs.on_flow.Counting.{over_same, hits_of_name_other, hits-append, hits_of_name_between, between_one}
 use Rattle.board.specs.Board.{BoardValue, Row, IsRow, IsBoard, CarriesSamples, StandsIn, SameBoard, spans, start_of, blocks_placed, Fits}
 use Rattle.board.specs.Rows.{CanPlace, PlacesSegment, FindsDouble}
-use Rattle.board.specs.Deposits.{IsBlockNumber, HasSample}
+use Rattle.board.specs.DepositAnswers.{IsBlockNumber, HasSample}
 use Rattle.board.proofs.Lists.{at_set}
 use Rattle.board.proofs.Counts.{one_block_more, over_most, row_once}
-use Rattle.std.specs.Prelude.{Some}
-use Rattle.flow.specs.declared.TheConstants.{BLOCKS_PER_WINDOW}
+use Rattle.board.specs.declared.flow.TheConstants.{BLOCKS_PER_WINDOW}
 
 no_row : Row
 no_row = record { start = 0; slots = [] }

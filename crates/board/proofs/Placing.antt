@@ -9,16 +9,15 @@ use Rattle.std.proofs.Math.Seq.{take-add}
 use Rattle.std.specs.Prelude.{slice_range, ℤ}
 use Rattle.calibration.specs.Gain.{GainValue}
 use Rattle.calibration.specs.Grid.{GridValue}
-use Rattle.segment.specs.Segment.{SegmentValue}
-use Rattle.segment.specs.Segment.{Stands}
-use Rattle.flow.specs.Kept.{between}
-use Rattle.flow.proofs.Counting.{between_parts}
+use Rattle.segment.specs.Segment.{SegmentValue, Stands}
+use Rattle.board.specs.flow.Kept.{between}
+use Rattle.board.proofs.on_flow.Counting.{between_parts}
 use Rattle.segment.specs.Name.{name_of}
 use Rattle.board.specs.Board.{spans, IsRow, IsSlot, StandsIn}
 use Rattle.board.specs.Rows.{IsEmpty, IsCopy, IsJoin, CopiesToPlace, JoinsToPlace, ClosesGapAt, CanPlace, PlacesSegment, AllStand}
 use Rattle.board.proofs.Lists.{at_set}
 use Rattle.board.proofs.Slots.{spans-set}
-use Rattle.flow.specs.declared.TheConstants.{BLOCKS_PER_WINDOW}
+use Rattle.board.specs.declared.flow.TheConstants.{BLOCKS_PER_WINDOW}
 
 -- a row in which the interval at t may touch the one at n, and no others touch
 pub record Loose (start block gauge : ℕ) (kind : GridValue) (t n : ℕ) (l : List SegmentValue) : Type 0 where

@@ -1,11 +1,10 @@
 -- Lists of segments at numbered places.
 use Rattle.std.proofs.Common.{◌≡◌, ◌<◌, ◌+◌, ℕ, zero, suc, List, [], ◌∷◌, ◌++◌, length, get_or, set, take, drop, refl, sym, ap, subst, ◌∙◌, arith, rules, Result, Ok, Err, IsOk, OnOk}
 use Rattle.segment.specs.Segment.{SegmentValue, SameStart}
-use Rattle.segment.specs.Segment.{SegmentValue, SameStart}
-use Rattle.flow.specs.Kept.{between}
+use Rattle.board.specs.flow.Kept.{between}
 use Rattle.std.proofs.lemmas.List.{get_or_default, get_or-take, get_or-drop}
 use Rattle.board.specs.Board.{spans}
-use Rattle.flow.specs.Flow.{name_of_samples}
+use Rattle.board.specs.flow.Flow.{name_of_samples}
 use Rattle.segment.specs.Name.{name_of}
 use Rattle.segment.specs.Joining.{IsJoinAnswer}
 use Rattle.segment.specs.declared.segment.join.JoinRefusal.{JoinRefusal}

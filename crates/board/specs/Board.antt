@@ -9,16 +9,16 @@
 --   IsBoard           what holds of every board
 --   IsBegun, IsFront  nothing is placed; the front of a gauge
 use Rattle.std.specs.Prelude.{◌≡◌, ◌+◌, ◌*◌, ◌<◌, ◌≤◌, ℕ, ℤ, List, [], ◌∷◌, length, slice_index_or, slice_range}
-use Rattle.recording.specs.declared.TheConstants.{MAX_SAMPLES}
+use Rattle.calibration.specs.declared.limits.TheConstants.{MAX_SAMPLES}
 use Rattle.calibration.specs.Gain.{GainValue}
 use Rattle.calibration.specs.Grid.{GridValue}
-use Rattle.segment_rules.specs.declared.name.Name.{Name}
+use Rattle.segment.specs.declared.segment_rules.name.Name.{Name}
 use Rattle.segment.specs.Segment.{SegmentValue, Stands}
-use Rattle.block_pool.specs.declared.TheConstants.{MAX_BLOCK}
+use Rattle.board.specs.declared.block_pool.TheConstants.{MAX_BLOCK}
 use Rattle.board.specs.declared.TheConstants.{MAX_GAUGES}
-use Rattle.flow.specs.declared.TheConstants.{BLOCKS_PER_WINDOW}
-use Rattle.flow.specs.Flow.{hits}
-use Rattle.flow.specs.Kept.{between, over}
+use Rattle.board.specs.declared.flow.TheConstants.{BLOCKS_PER_WINDOW}
+use Rattle.board.specs.flow.Flow.{hits}
+use Rattle.board.specs.flow.Kept.{between, over}
 
 -- the intervals of a gauge: the one that begins at the k-th block of the window stands at place k, and an empty segment
 -- where none does

@@ -6,7 +6,7 @@ use Rattle.std.specs.Prelude.{◌≡◌, ◌<◌, ◌*◌, ℕ, List, length, sl
 use Rattle.calibration.specs.Grid.{GridValue}
 use Rattle.segment.specs.Segment.{SegmentValue, empty_at}
 use Rattle.board.specs.Board.{Row}
-use Rattle.flow.specs.declared.TheConstants.{BLOCKS_PER_WINDOW}
+use Rattle.board.specs.declared.flow.TheConstants.{BLOCKS_PER_WINDOW}
 
 abbrev pub empty_like : ℕ → ℕ → SegmentValue → SegmentValue
 empty_like gauge start s = empty_at s.grid gauge start s.longest

@@ -10,13 +10,13 @@
 --   PlacesSegment, FindsDouble, IsPlacing   a segment was placed, or an interval has its first sample
 use Rattle.std.specs.Prelude.{◌≡◌, ◌≢◌, ◌⊎◌, ◌+◌, ◌*◌, ◌<◌, ◌≤◌, ℕ, ℤ, List, [], ◌++◌, length, slice_index_or, slice_set, Option, Some, None}
 use Rattle.calibration.specs.Gain.{GainValue}
-use Rattle.segment_rules.specs.declared.name.Name.{Name}
+use Rattle.segment.specs.declared.segment_rules.name.Name.{Name}
 use Rattle.segment.specs.Segment.{SegmentValue, Stands}
 use Rattle.segment.specs.Name.{name_of}
 use Rattle.board.specs.Board.{IsRow, spans, StandsIn}
-use Rattle.flow.specs.Flow.{name_of_samples}
-use Rattle.flow.specs.Kept.{between}
-use Rattle.flow.specs.declared.TheConstants.{BLOCKS_PER_WINDOW}
+use Rattle.board.specs.flow.Flow.{name_of_samples}
+use Rattle.board.specs.flow.Kept.{between}
+use Rattle.board.specs.declared.flow.TheConstants.{BLOCKS_PER_WINDOW}
 
 abbrev pub IsEmpty : SegmentValue → Type 0
 IsEmpty s = s.to ≤ s.from

@@ -1,17 +1,18 @@
 ghost use Rattle.std.specs.Prelude.{◌≡◌, ◌*◌, ◌<◌, ◌≤◌, ℕ, length, slice_index, slice_index_or, IfOk};
-ghost use Rattle.recording.specs.declared.TheConstants.{MAX_SAMPLES};
-ghost use Rattle.block_pool.specs.declared.TheConstants.{MAX_BLOCK};
+ghost use Rattle.calibration.specs.declared.limits.TheConstants.{MAX_SAMPLES};
+ghost use Rattle.board.specs.declared.block_pool.TheConstants.{MAX_BLOCK};
 ghost use Rattle.board.specs.declared.TheConstants.{MAX_GAUGES};
 ghost use Rattle.segment.specs.Segment.{SegmentValue};
 ghost use Rattle.board.specs.Board.{IsRow};
 ghost use Rattle.board.specs.Rows.{CanPlace, IsPlacing};
 ghost use Rattle.board.specs.Clearing.{AllEmptied, RowBegun, RowsBegun, IsFresh};
 
+use crate::OutOfMemory;
+use crate::flow::BLOCKS_PER_WINDOW;
 use crate::rows::place;
-use crate::{BLOCKS_PER_WINDOW, OutOfMemory};
 use calibration::Grid;
 use segment::Segment;
-use segment_rules::Name;
+use segment::segment_rules::Name;
 use std::alloc::Global;
 use std::marker::Model;
 

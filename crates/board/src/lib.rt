@@ -9,18 +9,19 @@
 //! An interval that begins at the k-th block of a window stands at place k. No call but
 //! [`Board::new`] takes memory; a deposit costs a look at 16 places at most, and one join or two.
 //!
-//! `specs/Board.antt` has what holds of every board, `specs/Deposits.antt` what a deposit answers.
+//! `specs/Board.antt` has what holds of every board, `specs/DepositAnswers.antt` what a deposit answers.
 #![tactic(auto)]
 
+pub mod arrivals;
+pub mod block_pool;
+pub mod deposits;
+pub mod flow;
 mod intervals;
 mod rows;
 #[cfg(test)]
 mod tests;
 mod windows;
 
-pub use block_pool::{Counted, Pool};
-pub use flow::BLOCKS_PER_WINDOW;
-pub use segment::Name;
 pub use std::alloc::AllocError as OutOfMemory;
 pub use windows::{Board, Deposit};
 

@@ -5,7 +5,7 @@ ghost use Rattle.board.specs.Rows.{CopiesToPlace, JoinsToPlace, JoinsPlaces, Bef
 ghost use Rattle.board.specs.Board.{IsRow};
 
 use segment::Segment;
-use segment_rules::Name;
+use segment::segment_rules::Name;
 
 // Makes a segment another one. It keeps the number of samples that it may come to.
 fn copy(slot: &mut Segment, segment: &Segment)

@@ -1,10 +1,9 @@
 ghost use Rattle.std.specs.Prelude.{◌≡◌, length};
 
 use super::*;
-use calibration::{Gain, Grid};
-use recording::MAX_SAMPLES;
+use calibration::{Gain, Grid, MAX_SAMPLES};
 use segment::Segment;
-use segment_rules::Name;
+use segment::segment_rules::Name;
 use std::alloc::Global;
 use std::process::Abort;
 use std::test::Fail;

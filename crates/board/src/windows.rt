@@ -1,15 +1,16 @@
 ghost use Rattle.std.specs.Prelude.{◌≡◌, ◌<◌, ◌≤◌, ℕ, ℤ, List, length, slice_index, IfOk};
-ghost use Rattle.recording.specs.declared.TheConstants.{MAX_SAMPLES};
-ghost use Rattle.block_pool.specs.declared.TheConstants.{MAX_BLOCK};
+ghost use Rattle.calibration.specs.declared.limits.TheConstants.{MAX_SAMPLES};
+ghost use Rattle.board.specs.declared.block_pool.TheConstants.{MAX_BLOCK};
 ghost use Rattle.board.specs.declared.TheConstants.{MAX_GAUGES};
 ghost use Rattle.calibration.specs.Gain.{GainValue};
-ghost use Rattle.board.specs.Deposits.{IsBlockNumber};
+ghost use Rattle.board.specs.DepositAnswers.{IsBlockNumber};
 
+use crate::OutOfMemory;
+use crate::flow::BLOCKS_PER_WINDOW;
 use crate::intervals::{Intervals, begin_all};
-use crate::{BLOCKS_PER_WINDOW, OutOfMemory};
 use calibration::Grid;
 use segment::Segment;
-use segment_rules::Name;
+use segment::segment_rules::Name;
 use std::alloc::Global;
 use std::marker::Model;
 
@@ -37,7 +38,7 @@ pub struct Board {
 impl Model for Board {
     ghost use Rattle.board.specs.Board.{BoardValue, IsBoard};
     ghost use Rattle.std.specs.Prelude.{◌≤◌, ◌*◌, vec_capacity, vec_len};
-    ghost use Rattle.flow.specs.declared.TheConstants.{BLOCKS_PER_WINDOW};
+    ghost use Rattle.board.specs.declared.flow.TheConstants.{BLOCKS_PER_WINDOW};
 
     ghost Value = { BoardValue };
 
@@ -77,7 +78,7 @@ fn number_in(start: u64, block: u32, gauges: usize, name: Name) -> Option<u64>
 
 impl Board {
     ghost use Rattle.board.specs.Board.{IsBoard, IsBegun, SameBoard, CarriesSamples, StandsIn, IsFront};
-    ghost use Rattle.board.specs.Deposits.{IsDepositAnswer};
+    ghost use Rattle.board.specs.DepositAnswers.{IsDepositAnswer};
 
     /// An empty board for blocks of so many samples, whose windows begin at 0. Takes all memory
     /// that it will need.

@@ -35,7 +35,7 @@ mod tests;
 pub use classifier::Classifier;
 pub use gain::{Gain, GainFault, MAX_DEN, MAX_NUM, MAX_OFFSET};
 pub use grid::{Grid, GridFault, MAX_CLASSES, MAX_LOW_KPA, MAX_SPAN, MIN_CLASSES, STEP_KPA};
-pub use limits::{MAX_BLOCK, MAX_GAUGES, MAX_NAME_BYTES, MAX_WORKERS};
+pub use limits::{MAX_BLOCK, MAX_GAUGES, MAX_NAME_BYTES, MAX_SAMPLES, MAX_WORKERS};
 pub use reading::{LevelCounts, MISSING, Reading};
 pub use setup::{Gains, Setup};
 pub use single::level;

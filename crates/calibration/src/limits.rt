@@ -12,3 +12,6 @@ pub const MAX_BLOCK: u32 = 4096;
 
 /// The most workers of a round.
 pub const MAX_WORKERS: u8 = 8;
+
+/// The most samples of a recording.
+pub const MAX_SAMPLES: u64 = (1 << 40) - 1;

@@ -1,3 +1,7 @@
 mod Preparation
-pub use Rattle.lane_loans.proofs.Walking
-pub use Rattle.round_making.proofs.Settled
+pub mod on_gauge_ring
+pub mod on_block_workers
+pub mod on_collector
+pub mod on_round_accounts
+pub mod on_lane_loans
+pub mod on_round_making

@@ -3,22 +3,22 @@ use Rattle.std.proofs.Common.{◌≡◌, ◌⊎◌, inl, inr, ◌≤◌, ◌<◌
 use Rattle.std.proofs.lemmas.List.{get_or-set_same, get_or-set_other, get_or_append_left}
 use Rattle.std.proofs.Math.Seq.{get_or-append_seam}
 use Rattle.std.proofs.lemmas.Bool.{cases_eq}
-use Rattle.gauge_ring.specs.declared.taker.Taker.{Taker}
-use Rattle.gauge_ring.specs.declared.feeder.Feeder.{Feeder}
-use Rattle.gauge_ring.specs.Ends.{fed, taken, AreOneRing}
-use Rattle.block_workers.specs.declared.item.Item.{Item}
-use Rattle.block_workers.specs.declared.item.Back.{Back}
-use Rattle.block_workers.specs.declared.jobs.Reader.{Reader}
-use Rattle.block_workers.specs.declared.worker.Worker.{Worker}
+use Rattle.count_workers.specs.declared.gauge_ring.taker.Taker.{Taker}
+use Rattle.count_workers.specs.declared.gauge_ring.feeder.Feeder.{Feeder}
+use Rattle.count_workers.specs.gauge_ring.Ends.{fed, taken, AreOneRing}
+use Rattle.count_workers.specs.declared.block_workers.item.Item.{Item}
+use Rattle.count_workers.specs.declared.block_workers.item.Back.{Back}
+use Rattle.count_workers.specs.declared.block_workers.jobs.Reader.{Reader}
+use Rattle.count_workers.specs.declared.block_workers.worker.Worker.{Worker}
 use Rattle.count_workers.specs.declared.plan.Plan.{Plan}
 use Rattle.count_workers.specs.Plans.{IsPlan}
-use Rattle.round_making.specs.Resting.{IsEven, RestingWorker, RestingReturn, IsResting, rings_of}
-use Rattle.lane_loans.proofs.Walking.{map_at, some_of}
-use Rattle.block_pool.specs.Units.{PoolValue}
-use Rattle.round_making.specs.Board.{BoardValue}
-use Rattle.round_making.specs.Return.{Return}
+use Rattle.count_workers.specs.round_making.Resting.{IsEven, RestingWorker, RestingReturn, IsResting, rings_of}
+use Rattle.count_workers.proofs.on_lane_loans.Walking.{map_at, some_of}
+use Rattle.board.specs.block_pool.Units.{PoolValue}
+use Rattle.board.specs.Board.{BoardValue}
+use Rattle.count_workers.specs.declared.collector.collecting.Return.{Return}
 use Rattle.count_workers.specs.Preparing.{IsFreshReader, NewReaders, ConnectsRing, NewWorker}
-use Rattle.flow.specs.declared.TheConstants.{BLOCKS_PER_WINDOW}
+use Rattle.board.specs.declared.flow.TheConstants.{BLOCKS_PER_WINDOW}
 
 pushed_by : {A : Type 0} → (P : ℕ → A → Type 0) (xs : List A) (x : A) (k u : ℕ) (d : A) → length xs ≡ k → (u < k → P u (get_or xs u d))
     → P k x → u < k + 1 → ((u ≡ k) ⊎ (u ≡ k → ⊥)) → P u (get_or (xs ++ x ∷ []) u d)

@@ -1,6 +1,7 @@
 pub mod Plans
 pub mod Preparing
-pub use Rattle.round_making.specs.Round
-pub use Rattle.round_making.specs.Resting
-pub use Rattle.lane_loans.specs.Lent
-pub use Rattle.lane_loans.specs.declared.lane.Lane
+pub mod gauge_ring
+pub mod block_workers
+pub mod collector
+pub mod lane_loans
+pub mod round_making

@@ -2,12 +2,12 @@
 --   IsPlan   a plan within the limits
 --   IsNew    rounds that nothing was read in: all units are in the pool, and from no ring anything was taken
 use Rattle.std.specs.Prelude.{◌≡◌, ◌*◌, ◌<◌, ◌≤◌, ℕ, [], length}
-use Rattle.flow.specs.declared.TheConstants.{BLOCKS_PER_WINDOW}
-use Rattle.block_pool.specs.declared.TheConstants.{MAX_BLOCK}
+use Rattle.board.specs.declared.flow.TheConstants.{BLOCKS_PER_WINDOW}
+use Rattle.board.specs.declared.block_pool.TheConstants.{MAX_BLOCK}
 use Rattle.calibration.specs.declared.limits.TheConstants.{MAX_GAUGES}
-use Rattle.round_making.specs.declared.TheConstants.{MAX_WORKERS}
-use Rattle.round_making.specs.Resting.{PreparedValue}
-use Rattle.round_making.specs.Round.{ring_at}
+use Rattle.count_workers.specs.declared.round_making.TheConstants.{MAX_WORKERS}
+use Rattle.count_workers.specs.round_making.Resting.{PreparedValue}
+use Rattle.count_workers.specs.round_making.Round.{ring_at}
 use Rattle.count_workers.specs.declared.plan.Plan.{Plan}
 
 pub record IsPlan (p : Plan) : Type 0 where

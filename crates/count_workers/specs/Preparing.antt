@@ -1,14 +1,14 @@
 -- Readers, workers and their rings while rounds are prepared.
 use Rattle.std.specs.Prelude.{◌≡◌, ◌≤◌, ◌<◌, ◌++◌, ◌∷◌, ℕ, List, [], length, slice_index_or, vec_len, vec_capacity, None}
-use Rattle.gauge_ring.specs.declared.taker.Taker.{Taker}
-use Rattle.gauge_ring.specs.declared.feeder.Feeder.{Feeder}
-use Rattle.gauge_ring.specs.Ends.{fed, taken, AreOneRing}
-use Rattle.block_workers.specs.declared.item.Item.{Item}
-use Rattle.block_workers.specs.declared.item.Back.{Back}
-use Rattle.block_workers.specs.declared.jobs.Reader.{Reader}
-use Rattle.block_workers.specs.declared.worker.Worker.{Worker}
+use Rattle.count_workers.specs.declared.gauge_ring.taker.Taker.{Taker}
+use Rattle.count_workers.specs.declared.gauge_ring.feeder.Feeder.{Feeder}
+use Rattle.count_workers.specs.gauge_ring.Ends.{fed, taken, AreOneRing}
+use Rattle.count_workers.specs.declared.block_workers.item.Item.{Item}
+use Rattle.count_workers.specs.declared.block_workers.item.Back.{Back}
+use Rattle.count_workers.specs.declared.block_workers.jobs.Reader.{Reader}
+use Rattle.count_workers.specs.declared.block_workers.worker.Worker.{Worker}
 use Rattle.count_workers.specs.declared.plan.Plan.{Plan}
-use Rattle.flow.specs.declared.TheConstants.{BLOCKS_PER_WINDOW}
+use Rattle.board.specs.declared.flow.TheConstants.{BLOCKS_PER_WINDOW}
 
 module _ {C : Type 0} where
   -- a reader with no source and no units, with its first so many rings

@@ -8,18 +8,21 @@
 //! them, read the lanes and then count; where a thread can't be made, its work is done by the
 //! caller.
 //!
-//! What a round does is said by `RoundDone` (`crates/round_making/specs/Round.antt`).
+//! What a round does is said by `RoundDone` (`crates/count_workers/specs/round_making/Round.antt`).
 #![tactic(auto)]
 
+pub mod block_workers;
+pub mod collector;
+pub mod gauge_ring;
+pub mod lane_loans;
 mod plan;
 mod prepared;
 mod preparing;
+pub mod round_accounts;
+pub mod round_making;
 #[cfg(test)]
 mod tests;
 
-pub use lane_ends::End;
-pub use lane_loans::Lane;
 pub use plan::Plan;
 pub use prepared::Prepared;
-pub use round_making::MAX_WORKERS;
 pub use std::alloc::AllocError as OutOfMemory;

@@ -1,16 +1,20 @@
 ghost use Rattle.std.specs.Prelude.{◌≡◌, ◌<◌, ◌*◌, ℕ, length, slice_index_or, IfOk};
-ghost use Rattle.round_making.specs.Board.{IsFront};
-ghost use Rattle.flow.specs.declared.TheConstants.{BLOCKS_PER_WINDOW};
+ghost use Rattle.board.specs.Board.{IsFront};
+ghost use Rattle.board.specs.declared.flow.TheConstants.{BLOCKS_PER_WINDOW};
 
+use crate::block_workers::{Reader, Worker};
+use crate::collector::Return;
+use crate::gauge_ring::ring;
+use crate::lane_loans::Lane;
 use crate::preparing::{new_readers, new_worker};
-use crate::{Lane, OutOfMemory, Plan};
-use block_pool::Pool;
-use block_workers::{Reader, Worker};
-use flow::BLOCKS_PER_WINDOW;
-use gauge_ring::ring;
+use crate::round_making::make_round;
+use crate::{OutOfMemory, Plan};
+use board::Board;
+use board::block_pool::Pool;
+use board::flow::BLOCKS_PER_WINDOW;
 use outside::{Gate, Source};
-use round_making::{Board, Return, make_round};
-use segment::{Name, Segment};
+use segment::Segment;
+use segment::segment_rules::Name;
 use std::alloc::Global;
 use std::marker::Model;
 use std::sync::Wait;
@@ -27,7 +31,7 @@ pub struct Prepared<C: Source> {
 }
 
 impl<C: Source> Model for Prepared<C> {
-    ghost use Rattle.round_making.specs.Resting.{PreparedValue, IsResting, value_of};
+    ghost use Rattle.count_workers.specs.round_making.Resting.{PreparedValue, IsResting, value_of};
 
     ghost Value = { PreparedValue };
 
@@ -39,9 +43,9 @@ impl<C: Source> Model for Prepared<C> {
 
 impl<C: Source + Send> Prepared<C> {
     ghost use Rattle.count_workers.specs.Plans.{IsPlan, IsNew};
-    ghost use Rattle.round_making.specs.Resting.{PreparedValue, IsSameBut};
-    ghost use Rattle.lane_loans.specs.Lent.{CanRound};
-    ghost use Rattle.round_making.specs.Round.{RoundDone};
+    ghost use Rattle.count_workers.specs.round_making.Resting.{PreparedValue, IsSameBut};
+    ghost use Rattle.count_workers.specs.lane_loans.Lent.{CanRound};
+    ghost use Rattle.count_workers.specs.round_making.Round.{RoundDone};
 
     /// Takes all memory of rounds: 16 units for each gauge, a ring for each gauge and worker, a
     /// return ring for each worker, and the board.

@@ -1,13 +1,13 @@
 ghost use Rattle.std.specs.Prelude.{◌≡◌, ◌+◌, ◌<◌, ℕ, length, slice_index_or, vec_len, vec_capacity, IfOk};
 ghost use Rattle.count_workers.specs.Preparing.{IsFreshReader, NewReaders, ConnectsRing, NewWorker};
 
+use crate::block_workers::{Back, Desk, Item, Reader, Worker};
+use crate::gauge_ring::{Feeder, Taker, ring};
 use crate::{OutOfMemory, Plan};
-use block_workers::{Back, Desk, Item, Reader, Worker};
+use board::flow::BLOCKS_PER_WINDOW;
 use calibration::Gain;
-use flow::BLOCKS_PER_WINDOW;
-use gauge_ring::{Feeder, Taker, ring};
-use lane_ends::End;
 use outside::Source;
+use recording::lane_ends::End;
 use std::alloc::Global;
 
 // A reader without a source and units, with room for a round's units and a ring to each worker.

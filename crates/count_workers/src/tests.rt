@@ -1,13 +1,15 @@
 ghost use Rattle.std.specs.Prelude.{◌≡◌, ◌<◌, ◌≤◌, ℕ, IfOk, length, slice_index_or};
 ghost use Rattle.count_workers.specs.Plans.{IsPlan};
-ghost use Rattle.lane_loans.specs.Lent.{CanRound};
+ghost use Rattle.count_workers.specs.lane_loans.Lent.{CanRound};
 ghost use Rattle.calibration.specs.declared.limits.TheConstants.{MAX_GAUGES, MAX_BLOCK, MAX_WORKERS};
 
 use super::*;
-use block_pool::{Counted, Pool};
-use calibration::{Gain, Grid};
+use crate::lane_loans::Lane;
+use crate::round_making::MAX_WORKERS;
+use board::block_pool::{Counted, Pool};
+use calibration::{Gain, Grid, MAX_SAMPLES};
 use outside::{BytesSource, HoldGate, OpenGate};
-use recording::MAX_SAMPLES;
+use recording::lane_ends::End;
 use segment::Segment;
 use std::alloc::Global;
 use std::process::Abort;

@@ -1,10 +1,8 @@
-ghost use Rattle.std.specs.Prelude.{◌≡◌, ◌<◌, ◌-◌, ◌^◌, ℕ, List, [], ◌∷◌, ◌++◌, length, map};
-ghost use Rattle.std.specs.Prelude.{string_bytes, slice_index_or, IfOk, OnOk, OnErr};
+ghost use Rattle.std.specs.Prelude.{◌≡◌, ◌<◌, ◌-◌, ◌^◌, ℕ, List, [], ◌∷◌, ◌++◌, length, map, string_bytes, slice_index_or, IfOk, OnOk, OnErr};
 ghost use Rattle.csv.specs.Writing.{default_writer, row_text};
 ghost use Rattle.calibration.specs.declared.reading.TheConstants.{MISSING};
 ghost use Rattle.csv_recording.specs.Cells.{cell_text};
-ghost use Rattle.csv_recording.specs.Sheet.{longest as longest_of, cells_at, rows_from};
-ghost use Rattle.csv_recording.specs.Sheet.{sheet_text, text_of_rows};
+ghost use Rattle.csv_recording.specs.Sheet.{longest as longest_of, cells_at, rows_from, sheet_text, text_of_rows};
 ghost use Rattle.csv_recording.specs.Writers.{HasWrittenText};
 
 use crate::Samples;

@@ -6,21 +6,21 @@ use Rattle.std.specs.Prelude.{Some, replicate, slice_index_or}
 use Rattle.std.specs.List.{All}
 use Rattle.outside.specs.Fault.{CountRose}
 use Rattle.recording.specs.Samples.{samples, sample_bytes}
-use Rattle.recording.specs.declared.TheConstants.{MAX_SAMPLES}
-use Rattle.flow.specs.declared.TheConstants.{BLOCKS_PER_WINDOW}
+use Rattle.calibration.specs.declared.limits.TheConstants.{MAX_SAMPLES}
+use Rattle.board.specs.declared.flow.TheConstants.{BLOCKS_PER_WINDOW}
 use Rattle.calibration.specs.Gain.{GainValue}
-use Rattle.segment_rules.specs.declared.name.Name.{Name}
+use Rattle.segment.specs.declared.segment_rules.name.Name.{Name}
 use Rattle.segment.specs.Segment.{SegmentValue, Stands, empty_at}
 use Rattle.board.specs.Board.{BoardValue, IsFront}
 use Rattle.segment.proofs.Empty.{empty_stands}
-use Rattle.lane_ends.specs.declared.end.End.{End}
-use Rattle.lane_ends.specs.declared.end.End.TheVariants.{More, Ended, Torn, ReadFault, TooLong}
-use Rattle.lane_ends.proofs.Giving.{more_or_not}
-use Rattle.site_lanes.specs.Lane.{Lane}
-use Rattle.site_lanes.proofs.Walking.{some_of}
-use Rattle.site_lanes.specs.Resting.{PreparedValue}
-use Rattle.site_lanes.specs.Round.{LaneDone, FrontDone, RoundDone}
-use Rattle.recorded.specs.Recorded.{Recorded}
+use Rattle.recording.specs.declared.lane_ends.end.End.{End}
+use Rattle.recording.specs.declared.lane_ends.end.End.TheVariants.{More, Ended, Torn, ReadFault, TooLong}
+use Rattle.recording.proofs.on_lane_ends.Giving.{more_or_not}
+use Rattle.count_workers.specs.declared.lane_loans.lane.Lane.{Lane}
+use Rattle.count_workers.proofs.on_lane_loans.Walking.{some_of}
+use Rattle.count_workers.specs.round_making.Resting.{PreparedValue}
+use Rattle.count_workers.specs.round_making.Round.{LaneDone, FrontDone, RoundDone}
+use Rattle.site_config.specs.recorded.Recorded.{Recorded}
 use Rattle.site_lanes.specs.Lanes.{SourceStands, IsLane, AreReady, AreLanes, IsWhole}
 use Rattle.site_lanes.proofs.AfterRound.{stood_more}
 use Rattle.site_lanes.proofs.AllLanes.{ready_after, lanes_after, all_reached}

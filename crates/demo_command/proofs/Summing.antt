@@ -6,7 +6,7 @@ use Rattle.calibration.specs.Grid.{GridValue}
 use Rattle.calibration.specs.History.{history}
 use Rattle.turning_points.specs.Points.{points}
 use Rattle.four_point.specs.Reduction.{IsFourPointResult}
-use Rattle.site_lanes.proofs.Walking.{map_at, some_of}
+use Rattle.count_workers.proofs.on_lane_loans.Walking.{map_at, some_of}
 use Rattle.segment.specs.Segment.{SegmentValue, Stands}
 use Rattle.tally.specs.Counts.{count_of}
 use Rattle.demo_command.specs.declared.made.TheConstants.{GAUGES}

@@ -1,6 +1,6 @@
 -- A sum of half units, place by place.
 use Rattle.std.proofs.Common.{◌≡◌, ◌≤◌, ◌<◌, ℕ, zero, suc, ◌+◌, ◌-◌, ◌*◌, ◌^◌, List, length, slice_index, refl, ap, ◌∙◌, arith}
-use Rattle.three_point.specs.Run.{half_units}
+use Rattle.turning_points.specs.three_point.Run.{half_units}
 use Rattle.demo_command.specs.declared.made.TheConstants.{CLASSES}
 use Rattle.demo_command.specs.Summary.{all_halves, table_halves}
 

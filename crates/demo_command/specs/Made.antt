@@ -8,8 +8,8 @@ use Rattle.recording.specs.Synth.{made_samples}
 use Rattle.calibration.specs.Gain.{GainValue}
 use Rattle.calibration.specs.Grid.{GridValue}
 use Rattle.calibration.specs.History.{history}
-use Rattle.lane_ends.specs.declared.end.End.TheVariants.{More}
-use Rattle.site_lanes.specs.Lane.{Lane}
+use Rattle.recording.specs.declared.lane_ends.end.End.TheVariants.{More}
+use Rattle.count_workers.specs.declared.lane_loans.lane.Lane.{Lane}
 use Rattle.demo_command.specs.declared.made.TheConstants.{CLASSES, WIDTH, LOW_KPA, REFERENCE, KPA}
 
 abbrev pub demo_grid : GridValue

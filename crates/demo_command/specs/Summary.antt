@@ -7,7 +7,7 @@
 use Rattle.std.specs.Prelude.{◌≡◌, ◌<◌, ℕ, zero, suc, ◌+◌, ◌-◌, List, [], ◌++◌, length, codes}
 use Rattle.std.specs.Fmt.{decimal}
 use Rattle.turning_points.specs.Points.{points}
-use Rattle.three_point.specs.Run.{half_units}
+use Rattle.turning_points.specs.three_point.Run.{half_units}
 use Rattle.four_point.specs.Reduction.{IsFourPointResult}
 use Rattle.report.specs.Lines.{halves_text}
 use Rattle.demo_command.specs.Made.{levels_at}

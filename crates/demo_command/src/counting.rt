@@ -6,11 +6,11 @@ ghost use Rattle.demo_command.specs.declared.made.TheConstants.{GAUGES};
 
 use crate::made::{BLOCK, GAUGES, grid_of_demo, made_lanes};
 use crate::totals::{join_fronts, new_totals};
-use flow::BLOCKS_PER_WINDOW;
+use board::flow::BLOCKS_PER_WINDOW;
+use count_workers::{OutOfMemory, Plan, Prepared};
 use outside::Gate;
 use recording::Synth;
 use segment::Segment;
-use site_lanes::{OutOfMemory, Plan, Prepared};
 use std::sync::Wait;
 use std::thread::Threads;
 

@@ -4,8 +4,9 @@ ghost use Rattle.demo_command.specs.declared.TheConstants.{MAX_SEED, MAX_DEMO_SA
 ghost use Rattle.demo_command.specs.declared.made.TheConstants.{GAUGES};
 
 use calibration::{Gain, Grid};
+use count_workers::lane_loans::Lane;
 use recording::Synth;
-use site_lanes::{End, Lane};
+use recording::lane_ends::End;
 
 /// How many recordings are made.
 pub const GAUGES: usize = 4;

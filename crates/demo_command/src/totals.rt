@@ -6,9 +6,9 @@ ghost use Rattle.demo_command.specs.declared.TheConstants.{MAX_DEMO_SAMPLES};
 ghost use Rattle.demo_command.specs.declared.made.TheConstants.{GAUGES};
 
 use crate::made::{GAUGES, grid_of_demo};
+use count_workers::Prepared;
 use recording::Synth;
 use segment::Segment;
-use site_lanes::Prepared;
 use std::alloc::{AllocError, Global};
 
 fn new_total(alloc: Global, gauge: u16, samples: u64) -> Result<Segment, AllocError>

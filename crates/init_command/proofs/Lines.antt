@@ -5,7 +5,7 @@ use Rattle.std.proofs.lemmas.Fmt.{length-decimal-le}
 use Rattle.std.proofs.lemmas.List.{length-append}
 use Rattle.calibration.specs.declared.limits.TheConstants.{MAX_GAUGES}
 use Rattle.init_command.specs.declared.making.TheConstants.{MAX_LINE_BYTES}
-use Rattle.line_room.specs.Room.{RoomValue, Fits, with_text}
+use Rattle.status.specs.line_room.Room.{RoomValue, Fits, with_text}
 
 -- the number of gauges has two digits at most
 few_digits : (n : ℕ) → n ≤ MAX_GAUGES → length (decimal n) ≤ 2

@@ -3,7 +3,7 @@ use Rattle.std.proofs.Common.{◌≡◌, ◌⊎◌, inl, inr, ℕ, List, [], len
 use Rattle.std.specs.Prelude.{Option, Some, Result, Ok, Err}
 use Rattle.outside.specs.Fault.{CountRose}
 use Rattle.outside.specs.Site.{Files}
-use Rattle.station.specs.Station.{Image, Lines, MomentsSince, Since}
+use Rattle.outside.specs.station.Station.{Image, Lines, MomentsSince, Since}
 use Rattle.recording.specs.Head.{recording_head}
 use Rattle.recording.specs.declared.head.Head.{Head}
 use Rattle.recording.specs.declared.head.HeadFault.{HeadFault}
@@ -15,7 +15,7 @@ use Rattle.status.specs.declared.status.RecordingFault.{RecordingFault}
 use Rattle.status.specs.declared.status.StoreFault.TheVariants as store
 use Rattle.status.specs.declared.status.Status.{Status}
 use Rattle.status.specs.declared.status.Status.TheVariants.{Done, Usage, Config as BadConfig, Store, Recording, Torn, ReadFault, WriteFault, DiskFault, OutOfMemory, TooLong, Differs}
-use Rattle.fault_lines.specs.FaultLine.{name_for}
+use Rattle.status.specs.fault_lines.FaultLine.{name_for}
 use Rattle.init_command.specs.Heads.{HasHeadIn, HasFaultIn, AreHeads, AreSound}
 use Rattle.init_command.specs.Init.{AnswersBy, InitAnswers}
 use Rattle.init_command.specs.Making.{MakesBy, IsMaking}

@@ -9,17 +9,17 @@
 use Rattle.std.specs.Prelude.{◌≡◌, ◌≢◌, ◌<◌, ◌⊎◌, ℕ, ⊤, List, ◌++◌, codes, length, slice_index, Result, Ok, Err}
 use Rattle.std.specs.Fmt.{decimal}
 use Rattle.outside.specs.Site.{Files}
-use Rattle.station.specs.Station.{Image, IsMoment, Only}
+use Rattle.outside.specs.station.Station.{Image, IsMoment, Only}
 use Rattle.recording.specs.declared.head.Head.{Head}
 use Rattle.site_config.specs.declared.config.Config.{Config}
 use Rattle.site_config.specs.declared.fault.ConfigFault.{ConfigFault}
-use Rattle.segment_bytes.specs.declared.layout.Layout.TheVariants.{Two}
-use Rattle.store_head.specs.Head.{HeadValue, empty_store}
+use Rattle.store_bytes.specs.declared.segment_bytes.layout.Layout.TheVariants.{Two}
+use Rattle.store_bytes.specs.store_head.Head.{HeadValue, empty_store}
 use Rattle.status.specs.declared.status.StoreFault.TheVariants.{NotEmpty}
 use Rattle.status.specs.declared.status.Status.{Status}
 use Rattle.status.specs.declared.status.Status.TheVariants.{Done, Config as BadConfig, Store, Recording, ReadFault, DiskFault, OutOfMemory}
 use Rattle.init_command.specs.Heads.{AreHeads, AreSound, HasFault}
-use Rattle.store_head.specs.declared.setup.TheConstants.{FRONT_LENGTH}
+use Rattle.store_bytes.specs.declared.store_head.setup.TheConstants.{FRONT_LENGTH}
 
 abbrev pub init_line : ℕ → List ℕ
 init_line gauges = codes "init " ++ decimal gauges ++ codes "\n"

@@ -1,6 +1,6 @@
 -- What making the store answers, and what is there at a moment of it.
 use Rattle.std.specs.Prelude.{◌≡◌, ◌≢◌, ℕ, ⊤, List}
-use Rattle.station.specs.Station.{IsMoment}
+use Rattle.outside.specs.station.Station.{IsMoment}
 use Rattle.segment_store.specs.Beginning.{IsBegunAs}
 use Rattle.segment_store.specs.declared.fault.InitFault.{InitFault}
 use Rattle.segment_store.specs.declared.fault.InitFault.TheVariants as inits

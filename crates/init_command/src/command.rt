@@ -1,26 +1,26 @@
 ghost use Rattle.std.specs.Prelude.{◌≡◌, ◌≢◌, ◌<◌, ◌⊎◌, ◌++◌, [], ◌∷◌, Ok, length};
 ghost use Rattle.outside.specs.Fault.{CountRose};
-ghost use Rattle.station.specs.Station.{Image, Since};
+ghost use Rattle.outside.specs.station.Station.{Image, Since};
 ghost use Rattle.site_config.specs.Configuration.{config_of_bytes};
 ghost use Rattle.site_config.specs.Valid.{IsConfig};
 ghost use Rattle.site_config.specs.declared.config.Config.{Config};
-ghost use Rattle.recorded.specs.Asked.{AsksFirst, file_names, names_in};
+ghost use Rattle.site_config.specs.recorded.Asked.{AsksFirst, file_names, names_in};
 ghost use Rattle.status.specs.declared.status.Status.TheVariants.{Done, ReadFault, DiskFault, OutOfMemory};
-ghost use Rattle.fault_lines.specs.FaultLine.{fault_line, name_for, name_by};
-ghost use Rattle.fault_lines.specs.Telling.{TellsAtMost, EndsIn};
+ghost use Rattle.status.specs.fault_lines.FaultLine.{fault_line, name_for, name_by};
+ghost use Rattle.status.specs.fault_lines.Telling.{TellsAtMost, EndsIn};
 ghost use Rattle.init_command.specs.Heads.{AreSound};
 ghost use Rattle.init_command.specs.Init.{init_line, InMaking, IsMade, AnswersBy, InitAnswers, IsUnmade, IsInit};
 
 use crate::heads::read_heads;
 use crate::making::make_store;
-use config_reading::read_config;
-use fault_lines::{FaultLine, name_in, tell_fault, tell_no_memory};
+use outside::station::Station;
 use outside::{Site, Source};
 use site_config::{Config, MAX_NAME_BYTES};
-use station::Station;
 use status::Status;
+use status::config_reading::read_config;
+use status::fault_lines::{FaultLine, name_in, tell_fault, tell_no_memory};
 use std::alloc::Global;
-use store_head::StoreHead;
+use store_bytes::store_head::StoreHead;
 
 /// Makes the store of a site, by its configuration and the heads of its recordings, and tells
 /// `init G`, with the number of gauges. Whatever else is answered is told by its line.

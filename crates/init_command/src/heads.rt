@@ -2,7 +2,7 @@ ghost use Rattle.std.specs.Prelude.{◌≡◌, ◌≤◌, ◌<◌, [], ◌∷◌
 ghost use Rattle.outside.specs.Fault.{CountRose};
 ghost use Rattle.outside.specs.Site.{Asks};
 ghost use Rattle.site_config.specs.Valid.{IsConfig};
-ghost use Rattle.recorded.specs.Asked.{AsksFirst, file_names};
+ghost use Rattle.site_config.specs.recorded.Asked.{AsksFirst, file_names};
 ghost use Rattle.status.specs.declared.status.Status.TheVariants.{ReadFault};
 ghost use Rattle.init_command.specs.Heads.{HeadAnswer, HeadsAnswer, IsHeadsStatus, head_status as head_status_of};
 
@@ -11,7 +11,7 @@ use recording::{Head, HeadFault, read_head};
 use site_config::Config;
 use status::{Status, recording_fault_of};
 use std::alloc::Global;
-use store_head::Heads;
+use store_bytes::store_head::Heads;
 
 /// Reads the heads of all recordings, in order of gauge.
 pub(crate) fn read_heads<T: Site>(

@@ -1,8 +1,8 @@
 ghost use Rattle.std.specs.Prelude.{◌≡◌, ◌≤◌, ◌<◌, ◌++◌, [], ◌∷◌, IfOk, length};
 ghost use Rattle.outside.specs.Fault.{CountRose};
-ghost use Rattle.station.specs.Station.{Image, Since, Only};
-ghost use Rattle.segment_bytes.specs.declared.layout.Layout.TheVariants.{Two};
-ghost use Rattle.store_head.specs.Head.{see_head, empty_store};
+ghost use Rattle.outside.specs.station.Station.{Image, Since, Only};
+ghost use Rattle.store_bytes.specs.declared.segment_bytes.layout.Layout.TheVariants.{Two};
+ghost use Rattle.store_bytes.specs.store_head.Head.{see_head, empty_store};
 ghost use Rattle.segment_store.specs.Beginning.{IsBegunAs};
 ghost use Rattle.segment_store.specs.Quiet.{IsQuiet};
 ghost use Rattle.status.specs.declared.status.Status.TheVariants.{Done, DiskFault};
@@ -10,12 +10,12 @@ ghost use Rattle.init_command.specs.Init.{init_line};
 ghost use Rattle.init_command.specs.Making.{InStore, MakesBy, IsMaking, WhereUnmade, init_status as init_status_of};
 ghost use Rattle.calibration.specs.declared.limits.TheConstants.{MAX_GAUGES};
 
-use line_room::LineRoom;
+use outside::station::Station;
 use segment_store::{InitFault, init};
-use station::Station;
+use status::line_room::LineRoom;
 use status::{Status, StoreFault};
 use std::alloc::{AllocError, Global};
-use store_head::StoreHead;
+use store_bytes::store_head::StoreHead;
 
 // No line is longer: the number has at most two digits.
 const MAX_LINE_BYTES: usize = 16;

@@ -1,7 +1,7 @@
 use super::*;
+use outside::station::{MomentStation, Torn};
 use outside::{MapSite, SteadySource};
 use site_config::{ConfigFault, Key, KeyName, Part};
-use station::{MomentStation, Torn};
 use status::{RecordingFault, Status, StoreFault};
 use std::alloc::{AllocError, Global};
 use std::collections::BTreeMap;

@@ -2,11 +2,11 @@
 use Rattle.std.proofs.Common.{◌≡◌, inr, [], refl, sym, subst}
 use Rattle.outside.specs.Site.{AsksNothing}
 use Rattle.site_config.specs.Configuration.{config_of_bytes}
-use Rattle.recorded.specs.Asked.{names_in}
-use Rattle.recorded.proofs.Asking.{none_is_first}
+use Rattle.site_config.specs.recorded.Asked.{names_in}
+use Rattle.site_config.proofs.on_recorded.Asking.{none_is_first}
 use Rattle.status.specs.declared.status.Status.{Status}
 use Rattle.status.specs.declared.status.Status.TheVariants.{OutOfMemory}
-use Rattle.fault_lines.specs.FaultLine.{fault_line}
+use Rattle.status.specs.fault_lines.FaultLine.{fault_line}
 use Rattle.monitor.specs.Shown.{Shown, Tells, Ends}
 use Rattle.monitor.specs.AuditRun.{AuditRuns}
 

@@ -1,15 +1,15 @@
 -- `count`, where memory ran out before its configuration was read.
 use Rattle.std.proofs.Common.{◌≡◌, inr, ℕ, List, [], refl, sym, subst}
-use Rattle.station.specs.Station.{Image, Lines}
-use Rattle.recorded.specs.Recorded.{recordings, Recorded}
-use Rattle.held_samples.specs.Going.{AllHold, KeepsTold}
+use Rattle.outside.specs.station.Station.{Image, Lines}
+use Rattle.site_config.specs.recorded.Recorded.{recordings, Recorded}
+use Rattle.count_command.specs.held_samples.Going.{AllHold, KeepsTold}
 use Rattle.outside.specs.Site.{AsksNothing}
 use Rattle.site_config.specs.Configuration.{config_of_bytes}
-use Rattle.recorded.specs.Asked.{names_in}
-use Rattle.recorded.proofs.Asking.{none_is_first}
+use Rattle.site_config.specs.recorded.Asked.{names_in}
+use Rattle.site_config.proofs.on_recorded.Asking.{none_is_first}
 use Rattle.status.specs.declared.status.Status.{Status}
 use Rattle.status.specs.declared.status.Status.TheVariants.{OutOfMemory}
-use Rattle.fault_lines.specs.FaultLine.{fault_line}
+use Rattle.status.specs.fault_lines.FaultLine.{fault_line}
 use Rattle.count_command.proofs.FaultTold.{safe_fault, fault_below}
 use Rattle.count_command.proofs.Resumed.{safe_starts}
 use Rattle.monitor.specs.Shown.{Shown, Tells, Ends}

@@ -1,24 +1,24 @@
 -- A command line that is left where memory ran out, and the lines told of words.
 use Rattle.std.proofs.Common.{◌≡◌, ◌⊎◌, inl, inr, ℕ, List, [], ◌∷◌, ◌++◌, length, refl, sym, subst, append-nil, arith}
 use Rattle.std.specs.Prelude.{Option, Some}
-use Rattle.station.specs.Station.{Image, Lines, Since}
-use Rattle.station.proofs.Moments.{entails}
+use Rattle.outside.specs.station.Station.{Image, Lines, Since}
+use Rattle.outside.proofs.on_station.Moments.{entails}
 use Rattle.command_words.specs.Line.{Command, Table, Demo, Column}
 use Rattle.site_config.specs.declared.config.Config.{Config}
 use Rattle.status.specs.declared.status.Status.{Status}
 use Rattle.status.specs.declared.status.Status.TheVariants.{Usage, OutOfMemory}
-use Rattle.fault_lines.specs.FaultLine.{fault_line}
-use Rattle.fault_lines.specs.Telling.{InFault, EndsIn}
+use Rattle.status.specs.fault_lines.FaultLine.{fault_line}
+use Rattle.status.specs.fault_lines.Telling.{InFault, EndsIn}
 use Rattle.init_command.specs.Init.{InMaking}
 use Rattle.report_command.specs.Printing.{PrintsKept}
 use Rattle.report_command.proofs.HeldFigures.{kept_unprinted}
 use Rattle.outside.specs.Fault.{CountRose}
 use Rattle.outside.specs.Site.{AsksNothing}
-use Rattle.recorded.specs.Asked.{names_in}
-use Rattle.recorded.proofs.Asking.{none_is_first}
+use Rattle.site_config.specs.recorded.Asked.{names_in}
+use Rattle.site_config.proofs.on_recorded.Asking.{none_is_first}
 use Rattle.site_config.specs.Configuration.{config_of_bytes}
 use Rattle.monitor.specs.Line.{IsToldOf}
-use Rattle.file_tasks.specs.Run.{Outside, Runs, no_memory_task}
+use Rattle.file_commands.specs.file_tasks.Run.{Outside, Runs, no_memory_task}
 use Rattle.monitor.specs.Shown.{Shown, Tells, Ends}
 use Rattle.monitor.specs.InitRun.{InitRuns}
 use Rattle.monitor.specs.ReportRun.{ReportRuns}

@@ -1,6 +1,6 @@
 -- The figures of a body, one piece after the other, and what the body is at its end.
 use Rattle.std.proofs.Common.{◌≡◌, ℕ, ℤ, ◌+◌, ◌<◌, ◌≤◌, List, ◌++◌, length, take, sym, ◌∙◌, ap, subst, length-append, arith}
-use Rattle.recording.specs.declared.TheConstants.{MAX_SAMPLES}
+use Rattle.calibration.specs.declared.limits.TheConstants.{MAX_SAMPLES}
 use Rattle.recording.specs.Samples.{samples}
 use Rattle.recording.specs.Filling.{SameFirst, Takes}
 use Rattle.recording.specs.declared.ends.FillEnd.{FillEnd}
@@ -8,10 +8,10 @@ use Rattle.recording.specs.declared.ends.FillEnd.TheVariants.{More, Ended, Torn}
 use Rattle.recording.proofs.Reading.{Splits, splits_next, last_ended, last_torn, read_at_most}
 use Rattle.calibration.specs.Gain.{GainValue}
 use Rattle.calibration.specs.Grid.{GridValue}
-use Rattle.file_tasks.specs.FileState.{Sound, TornEnd, TooManySamples, body_state}
+use Rattle.file_commands.specs.file_tasks.FileState.{Sound, TornEnd, TooManySamples, body_state}
 use Rattle.monitor.specs.Figures.{AreFigures}
 use Rattle.recount.specs.declared.running.RunningCount.{RunningCount}
-use Rattle.file_tasks.proofs.BodyState.{sound_body, torn_body, long_body}
+use Rattle.file_commands.proofs.on_file_tasks.BodyState.{sound_body, torn_body, long_body}
 
 -- by the gain and the grid of a classifier
 pub by_classifier : (grid table_grid : GridValue) (gain table_gain : GainValue) (old new : RunningCount (List ℕ)) (raws : List ℤ)

@@ -3,7 +3,7 @@ use Rattle.std.proofs.Common.{◌≡◌, inr, [], refl, sym, subst}
 use Rattle.outside.specs.Site.{AsksNothing}
 use Rattle.status.specs.declared.status.Status.{Status}
 use Rattle.status.specs.declared.status.Status.TheVariants.{OutOfMemory}
-use Rattle.fault_lines.specs.FaultLine.{fault_line}
+use Rattle.status.specs.fault_lines.FaultLine.{fault_line}
 use Rattle.monitor.specs.Shown.{Shown, Tells, Ends}
 use Rattle.monitor.specs.RepeatRun.{RepeatRuns}
 

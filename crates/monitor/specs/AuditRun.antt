@@ -1,15 +1,14 @@
 -- What a run of `audit` did.
 use Rattle.std.specs.Prelude.{◌≡◌, ◌≢◌, ◌⊎◌, ℕ, ℤ, List, Ok}
 use Rattle.outside.specs.Fault.{CountRose}
-use Rattle.segment_store.specs.Holds.{Holds}
+use Rattle.segment_store.specs.Holds.{Holds, held_of}
 use Rattle.site_config.specs.Configuration.{config_of_bytes}
 use Rattle.site_config.specs.declared.config.Config.{Config}
-use Rattle.recorded.specs.Recorded.{recordings}
-use Rattle.recorded.specs.Asked.{AsksFirst, names_in}
+use Rattle.site_config.specs.recorded.Recorded.{recordings}
+use Rattle.site_config.specs.recorded.Asked.{AsksFirst, names_in}
 use Rattle.status.specs.declared.status.Status.{Status}
 use Rattle.status.specs.declared.status.Status.TheVariants.{Done, Usage, ReadFault, WriteFault, DiskFault, OutOfMemory}
 use Rattle.status.specs.Printing.{IsPrinting}
-use Rattle.report_command.specs.Printing.{held_of}
 use Rattle.audit_command.specs.Answers.{AuditAnswers, IsSound}
 use Rattle.audit_command.specs.Audited.{FindsDifference, IsStanding}
 use Rattle.audit_command.specs.Printing.{Prints}

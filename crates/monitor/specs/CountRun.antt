@@ -1,22 +1,22 @@
 -- What a run of `count` did.
 use Rattle.std.specs.Prelude.{◌≡◌, ◌≢◌, ◌⊎◌, ℕ, List, length, Ok}
 use Rattle.outside.specs.Fault.{CountRose}
-use Rattle.station.specs.Station.{Image, Lines}
+use Rattle.outside.specs.station.Station.{Image, Lines}
 use Rattle.segment_store.specs.Holds.{Holds}
 use Rattle.site_config.specs.Configuration.{config_of_bytes}
 use Rattle.site_config.specs.declared.config.Config.{Config}
-use Rattle.recorded.specs.Recorded.{recordings}
-use Rattle.recorded.specs.Asked.{AsksFirst, names_in}
-use Rattle.held_samples.specs.Going.{AllHold, KeepsTold}
-use Rattle.held_samples.specs.Told.{Acknowledges}
-use Rattle.count_command.specs.Answers.{HeadsFit, AllSound}
+use Rattle.site_config.specs.recorded.Recorded.{recordings}
+use Rattle.site_config.specs.recorded.Asked.{AsksFirst, names_in}
+use Rattle.count_command.specs.held_samples.Going.{AllHold, KeepsTold}
+use Rattle.count_command.specs.held_samples.Told.{Acknowledges}
+use Rattle.site_lanes.specs.Answers.{HeadsFit, AllSound}
 use Rattle.status.specs.declared.status.Status.{Status}
 use Rattle.status.specs.declared.status.Status.TheVariants.{Done, Usage, ReadFault, WriteFault, DiskFault, OutOfMemory}
 use Rattle.status.specs.Printing.{IsPrinting}
 use Rattle.count_command.specs.Holding.{HeldAt, HeldCut, LeavesStore}
 use Rattle.count_command.specs.Answer.{CountAnswers}
 use Rattle.count_command.specs.Printed.{Prints}
-use Rattle.fault_lines.specs.FaultLine.{fault_line}
+use Rattle.status.specs.fault_lines.FaultLine.{fault_line}
 use Rattle.monitor.specs.Shown.{Shown, Tells, Ends}
 use Rattle.monitor.specs.InitRun.{line_for}
 

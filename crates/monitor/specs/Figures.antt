@@ -2,7 +2,7 @@
 use Rattle.std.specs.Prelude.{◌≡◌, ◌<◌, ◌-◌, ◌^◌, ℕ, ℤ, List, length, slice_index, sum}
 use Rattle.calibration.specs.Gain.{GainValue}
 use Rattle.calibration.specs.Grid.{GridValue}
-use Rattle.three_point.specs.Run.{CountedRange, half_units_at_range}
+use Rattle.turning_points.specs.three_point.Run.{CountedRange, half_units_at_range}
 use Rattle.recount.specs.Counted.{HasCountedSamples}
 use Rattle.recount.specs.declared.running.RunningCount.{RunningCount}
 

@@ -3,13 +3,13 @@
 --   InitRuns   that a run did it
 use Rattle.std.specs.Prelude.{◌≡◌, ◌≢◌, ◌<◌, ◌⊎◌, ℕ, List, [], ◌∷◌, ◌++◌, length, Ok}
 use Rattle.outside.specs.Fault.{CountRose}
-use Rattle.station.specs.Station.{Image, Since}
+use Rattle.outside.specs.station.Station.{Image, Since}
 use Rattle.site_config.specs.Configuration.{config_of_bytes}
 use Rattle.site_config.specs.declared.config.Config.{Config}
-use Rattle.recorded.specs.Asked.{AsksFirst, names_in}
+use Rattle.site_config.specs.recorded.Asked.{AsksFirst, names_in}
 use Rattle.status.specs.declared.status.Status.{Status}
 use Rattle.status.specs.declared.status.Status.TheVariants.{Done, ReadFault, DiskFault, OutOfMemory}
-use Rattle.fault_lines.specs.FaultLine.{fault_line, name_by}
+use Rattle.status.specs.fault_lines.FaultLine.{fault_line, name_by}
 use Rattle.init_command.specs.Heads.{AreSound}
 use Rattle.init_command.specs.Init.{init_line, InMaking, IsMade, InitAnswers, IsInit, IsUnmade}
 use Rattle.monitor.specs.Shown.{Shown, Tells, Ends}

@@ -10,4 +10,3 @@ pub mod SheetRun
 pub mod CountRun
 pub mod AuditRun
 pub mod DemoRun
-pub use Rattle.outside.specs.Fault

@@ -7,9 +7,9 @@ use Rattle.recording.specs.Samples.{samples}
 use Rattle.calibration.specs.Gain.{GainValue}
 use Rattle.calibration.specs.Grid.{GridValue}
 use Rattle.calibration.specs.History.{history}
-use Rattle.three_point.specs.Run.{half_units}
+use Rattle.turning_points.specs.three_point.Run.{half_units}
 use Rattle.monitor.specs.declared.grid.TheConstants.{CLASSES, REFERENCE, WIDTH, KPA}
-use Rattle.report.specs.Counts.{kinds_of}
+use Rattle.segment.specs.Counts.{kinds_of}
 use Rattle.report.specs.Texts.{table_text}
 use Rattle.recording.specs.declared.head.TheConstants.{HEAD_LENGTH}
 

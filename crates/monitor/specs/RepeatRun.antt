@@ -2,16 +2,15 @@
 use Rattle.std.specs.Prelude.{◌≡◌, ◌≢◌, ◌⊎◌, ℕ, ℤ, List, [], Ok}
 use Rattle.outside.specs.Fault.{CountRose}
 use Rattle.outside.specs.Site.{AsksNothing}
-use Rattle.segment_store.specs.Holds.{Holds}
+use Rattle.segment_store.specs.Holds.{Holds, held_of}
 use Rattle.site_config.specs.Configuration.{config_of_bytes}
 use Rattle.site_config.specs.declared.config.Config.{Config}
-use Rattle.fault_lines.specs.FaultLine.{fault_line}
+use Rattle.status.specs.fault_lines.FaultLine.{fault_line}
 use Rattle.status.specs.declared.status.Status.{Status}
 use Rattle.status.specs.declared.status.Status.TheVariants.{Done, ReadFault, WriteFault, DiskFault, OutOfMemory}
-use Rattle.status.specs.Printing.{IsPrinting}
-use Rattle.report_command.specs.Printing.{held_of}
-use Rattle.report_command.specs.Answers.{IsSound, ReportAnswers, IsReporting}
-use Rattle.repeat_command.specs.Printing.{Prints}
+use Rattle.status.specs.Printing.{IsPrinting, IsReporting}
+use Rattle.report_command.specs.Answers.{IsSound, ReportAnswers}
+use Rattle.report_command.specs.repeat_command.Printing.{Prints}
 use Rattle.monitor.specs.Shown.{Shown, Tells, Ends}
 
 pub record RepeatRuns (before after : Shown) (answer : Status) : Type 0 where

@@ -2,19 +2,19 @@
 use Rattle.std.specs.Prelude.{◌≡◌, ◌≢◌, ◌⊎◌, ℕ, ℤ, List, [], Ok}
 use Rattle.outside.specs.Fault.{CountRose}
 use Rattle.outside.specs.Site.{AsksNothing}
-use Rattle.segment_rules.specs.Parts.{PartsValue}
-use Rattle.store_head.specs.Head.{HeadValue}
-use Rattle.segment_store.specs.Holds.{Holds}
+use Rattle.segment.specs.segment_rules.Parts.{PartsValue}
+use Rattle.store_bytes.specs.store_head.Head.{HeadValue}
+use Rattle.segment_store.specs.Holds.{Holds, held_of}
 use Rattle.segment_store.specs.Image.{Reads}
 use Rattle.site_config.specs.Configuration.{config_of_bytes}
 use Rattle.site_config.specs.declared.config.Config.{Config}
-use Rattle.fault_lines.specs.FaultLine.{fault_line}
+use Rattle.status.specs.fault_lines.FaultLine.{fault_line}
 use Rattle.status.specs.declared.status.Status.{Status}
 use Rattle.status.specs.declared.status.Status.TheVariants.{Done, ReadFault, WriteFault, DiskFault, OutOfMemory}
-use Rattle.status.specs.Printing.{IsPrinting}
-use Rattle.report_command.specs.Report.{figures_by}
-use Rattle.report_command.specs.Printing.{Prints, PrintsKept, held_of}
-use Rattle.report_command.specs.Answers.{IsSound, ReportAnswers, IsReporting}
+use Rattle.status.specs.Printing.{IsPrinting, IsReporting}
+use Rattle.report_command.specs.site_report.Report.{figures_by}
+use Rattle.report_command.specs.Printing.{Prints, PrintsKept}
+use Rattle.report_command.specs.Answers.{IsSound, ReportAnswers}
 use Rattle.monitor.specs.Shown.{Shown, Tells, Ends}
 
 pub record ReportRuns (before after : Shown) (answer : Status) : Type 0 where

@@ -3,10 +3,10 @@ use Rattle.std.specs.Prelude.{◌≡◌, ◌≢◌, ◌⊎◌, Ok}
 use Rattle.outside.specs.Fault.{CountRose}
 use Rattle.site_config.specs.Configuration.{config_of_bytes}
 use Rattle.site_config.specs.declared.config.Config.{Config}
-use Rattle.recorded.specs.Asked.{AsksFirst, names_in}
+use Rattle.site_config.specs.recorded.Asked.{AsksFirst, names_in}
 use Rattle.status.specs.declared.status.Status.{Status}
 use Rattle.status.specs.declared.status.Status.TheVariants.{Done, Usage, ReadFault, WriteFault, OutOfMemory}
-use Rattle.sheet_command.specs.Sheet.{sheet_of, sheet_answer, MayAnswer, Prints}
+use Rattle.file_commands.specs.sheet_command.Sheet.{sheet_of, sheet_answer, MayAnswer, Prints}
 use Rattle.monitor.specs.InitRun.{line_for}
 use Rattle.monitor.specs.Shown.{Shown, Tells, Ends}
 

@@ -9,9 +9,9 @@ use Rattle.outside.specs.Site.{Files, Asked}
 use Rattle.outside.specs.declared.source.Source as source
 use Rattle.outside.specs.declared.site.Site as site
 use Rattle.outside.specs.declared.sink.Sink as sink
-use Rattle.station.specs.Station.{Image, Lines, MomentsSince}
-use Rattle.station.specs.declared.station.Station as station
-use Rattle.fault_lines.specs.Telling.{TellsAtMost, EndsIn}
+use Rattle.outside.specs.station.Station.{Image, Lines, MomentsSince}
+use Rattle.outside.specs.declared.station.station.Station as station
+use Rattle.status.specs.fault_lines.Telling.{TellsAtMost, EndsIn}
 
 pub record Shown : Type 1 where
   -- whether each of the four tells its content

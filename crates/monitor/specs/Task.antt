@@ -1,9 +1,9 @@
 -- What `table` has to do.
 use Rattle.std.specs.Prelude.{ℕ, List, [], ◌∷◌, option_map}
 use Rattle.outside.specs.Site.{Files}
-use Rattle.file_tasks.specs.Answer.{MayAnswer, IsAnswer}
-use Rattle.file_tasks.specs.FileState.{file_state}
-use Rattle.file_tasks.specs.Run.{Task}
+use Rattle.file_commands.specs.file_tasks.Answer.{MayAnswer, IsAnswer}
+use Rattle.file_commands.specs.file_tasks.FileState.{file_state}
+use Rattle.file_commands.specs.file_tasks.Run.{Task}
 use Rattle.monitor.specs.Printed.{text_of}
 
 -- of the file of this name; the gauge of a single file is 0

@@ -1,17 +1,17 @@
 ghost use Rattle.std.specs.Prelude.{◌≡◌, ◌≢◌, ◌⊎◌};
 ghost use Rattle.outside.specs.Fault.{CountRose};
-ghost use Rattle.fault_lines.specs.FaultLine.{fault_line};
-ghost use Rattle.fault_lines.specs.Telling.{TellsAtMost, EndsIn};
-ghost use Rattle.file_tasks.specs.Run.{Runs, no_memory_task, outside};
-ghost use Rattle.column_command.specs.Task.{column_task};
+ghost use Rattle.status.specs.fault_lines.FaultLine.{fault_line};
+ghost use Rattle.status.specs.fault_lines.Telling.{TellsAtMost, EndsIn};
+ghost use Rattle.file_commands.specs.file_tasks.Run.{Runs, no_memory_task, outside};
+ghost use Rattle.file_commands.specs.column_command.Task.{column_task};
 
 use crate::refused::no_memory;
-use column_command::column_command;
-use fault_lines::{FaultLine, tell_fault};
+use file_commands::column_command::column_command;
+use outside::station::Station;
 use outside::{Sink, Site};
 use recording::Head;
-use station::Station;
 use status::Status;
+use status::fault_lines::{FaultLine, tell_fault};
 use std::alloc::Global;
 
 /// Writes a column of a CSV file as a recording, and tells whatever else is answered, with the

@@ -1,12 +1,12 @@
 ghost use Rattle.std.specs.Prelude.{◌≡◌, ◌≢◌, ◌≤◌, ◌++◌, ℤ, List};
 ghost use Rattle.outside.specs.Fault.{CountRose};
 ghost use Rattle.outside.specs.Sink.{AppendsPrefix};
-ghost use Rattle.recording.specs.declared.TheConstants.{MAX_SAMPLES};
+ghost use Rattle.calibration.specs.declared.limits.TheConstants.{MAX_SAMPLES};
 ghost use Rattle.monitor.specs.Figures.{AreFigures};
 ghost use Rattle.monitor.specs.Printed.{table_grid, table_gain, text_of_samples};
-ghost use Rattle.file_tasks.specs.Run.{Runs, outside};
+ghost use Rattle.file_commands.specs.file_tasks.Run.{Runs, outside};
 ghost use Rattle.monitor.specs.Task.{table_task};
-ghost use Rattle.file_tasks.specs.Answer.{IsPrintingOrNoMemory};
+ghost use Rattle.file_commands.specs.file_tasks.Answer.{IsPrintingOrNoMemory};
 
 use crate::counting::table_page;
 use crate::read::read_recording;
@@ -14,7 +14,7 @@ use outside::{Sink, Site};
 use recount::RunningCount;
 use status::Status;
 use std::alloc::Global;
-use three_point::HalfUnits;
+use turning_points::three_point::HalfUnits;
 
 /// Prints the rainflow table of a recording (ASTM E1049-85, 5.4.4).
 ///

@@ -1,5 +1,5 @@
 ghost use Rattle.std.specs.Prelude.{◌≡◌, ◌≤◌, ℤ, List, [], IfOk};
-ghost use Rattle.recording.specs.declared.TheConstants.{MAX_SAMPLES};
+ghost use Rattle.calibration.specs.declared.limits.TheConstants.{MAX_SAMPLES};
 ghost use Rattle.monitor.specs.Figures.{AreFigures};
 ghost use Rattle.monitor.specs.Printed.{table_grid, table_gain, text_of_samples};
 
@@ -7,7 +7,7 @@ use crate::grid::{CLASSES, grid_of_table};
 use recount::RunningCount;
 use report::{Page, table_text};
 use std::alloc::{AllocError, Global};
-use three_point::HalfUnits;
+use turning_points::three_point::HalfUnits;
 
 /// What a table tells of no samples: how many there are of each kind, and the half units at each
 /// range. It takes memory once, 10 bytes for each class.

@@ -1,6 +1,6 @@
 ghost use Rattle.std.specs.Prelude.{◌≡◌, ◌≢◌, ◌≤◌, ◌⊎◌, []};
-ghost use Rattle.fault_lines.specs.FaultLine.{fault_line};
-ghost use Rattle.fault_lines.specs.Telling.{TellsAtMost, EndsIn};
+ghost use Rattle.status.specs.fault_lines.FaultLine.{fault_line};
+ghost use Rattle.status.specs.fault_lines.Telling.{TellsAtMost, EndsIn};
 ghost use Rattle.outside.specs.Fault.{CountRose};
 ghost use Rattle.demo_command.specs.declared.TheConstants.{MAX_SEED, MAX_DEMO_SAMPLES};
 ghost use Rattle.calibration.specs.declared.limits.TheConstants.{MAX_WORKERS};
@@ -8,10 +8,10 @@ ghost use Rattle.monitor.specs.DemoRun.{DemoRuns};
 
 use crate::refused::no_memory;
 use demo_command::demo_command;
-use fault_lines::{FaultLine, tell_fault};
+use outside::station::Station;
 use outside::{Gate, Sink};
-use station::Station;
 use status::Status;
+use status::fault_lines::{FaultLine, tell_fault};
 use std::sync::Wait;
 use std::thread::Threads;
 

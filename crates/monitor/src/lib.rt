@@ -3,12 +3,13 @@
 //! `monitor` reads the words of the command line, and calls the command that they name. Its
 //! contract is the theorem of the program, a clause for each command: what a run did, by what is
 //! shown before it and after it (`specs/Shown.antt`), as in `specs/CountRun.antt`. `table` and
-//! `column` are tasks over one file, of which `crates/file_tasks/specs/Run.antt` speaks.
+//! `column` are tasks over one file, of which `crates/file_commands/specs/file_tasks/Run.antt` speaks.
 //!
 //! What `table` prints of a file is `specs/Printed.antt`: the text of the three-point count of ASTM
 //! E1049-85, 5.4.4, over its whole level history. Each answer has its cause in what the file is
-//! (`crates/file_tasks/specs/FileState.antt` and `crates/file_tasks/specs/Answer.antt`), the named
-//! file alone is asked for, and all sources are back at the site.
+//! (`crates/file_commands/specs/file_tasks/FileState.antt` and
+//! `crates/file_commands/specs/file_tasks/Answer.antt`), the named file alone is asked for, and all
+//! sources are back at the site.
 //!
 //! A recording is read in pieces of 64 KiB, into a `recount::RunningCount` by range. The levels of
 //! a piece are put into a buffer, its points are found in their place and read by the run, which
@@ -28,7 +29,6 @@ mod table;
 mod top;
 
 pub use command::table_command;
-pub use fault_lines::tell_no_memory;
 pub use top::monitor;
 
 #[cfg(test)]

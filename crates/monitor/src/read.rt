@@ -1,22 +1,23 @@
 ghost use Rattle.std.specs.Prelude.{◌≡◌, ◌≤◌, ◌<◌, ℤ, List, IfOk, Err, drop};
 ghost use Rattle.outside.specs.Fault.{CountRose};
 ghost use Rattle.recording.specs.Samples.{samples};
-ghost use Rattle.file_tasks.specs.FileState.{state_of};
-ghost use Rattle.file_tasks.specs.Answer.{MayGive};
+ghost use Rattle.file_commands.specs.file_tasks.FileState.{state_of};
+ghost use Rattle.file_commands.specs.file_tasks.Answer.{MayGive};
 ghost use Rattle.monitor.specs.Printed.{table_grid, table_gain};
-ghost use Rattle.recording.specs.declared.TheConstants.{MAX_SAMPLES};
+ghost use Rattle.calibration.specs.declared.limits.TheConstants.{MAX_SAMPLES};
 ghost use Rattle.monitor.specs.Figures.{AreFigures};
-ghost use Rattle.file_tasks.specs.declared.refusal.Refusal.TheVariants.{ReadFault};
+ghost use Rattle.file_commands.specs.declared.file_tasks.refusal.Refusal.TheVariants.{ReadFault};
 ghost use Rattle.recording.specs.declared.head.TheConstants.{HEAD_LENGTH};
 
 use crate::counting::no_samples;
 use crate::grid::table_classifier;
-use file_tasks::Refusal;
+use calibration::MAX_SAMPLES;
+use file_commands::file_tasks::Refusal;
 use outside::Source;
-use recording::{FillEnd, MAX_SAMPLES, fill, read_head};
+use recording::{FillEnd, fill, read_head};
 use recount::{Piece, RunningCount};
 use std::alloc::Global;
-use three_point::HalfUnits;
+use turning_points::three_point::HalfUnits;
 
 /// Reads a recording to its end, piece by piece, and counts its samples in the classes of `table`.
 pub fn read_recording<S: Source>(

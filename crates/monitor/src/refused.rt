@@ -1,11 +1,11 @@
 ghost use Rattle.std.specs.Prelude.{◌≡◌, ◌⊎◌, []};
 ghost use Rattle.outside.specs.Fault.{CountRose};
-ghost use Rattle.fault_lines.specs.FaultLine.{fault_line};
-ghost use Rattle.fault_lines.specs.Telling.{TellsAtMost, EndsIn};
+ghost use Rattle.status.specs.fault_lines.FaultLine.{fault_line};
+ghost use Rattle.status.specs.fault_lines.Telling.{TellsAtMost, EndsIn};
 
-use fault_lines::{FaultLine, tell_fault, tell_no_memory};
-use station::Station;
+use outside::station::Station;
 use status::Status;
+use status::fault_lines::{FaultLine, tell_fault, tell_no_memory};
 use std::alloc::Global;
 
 /// Tells that the words are no command.

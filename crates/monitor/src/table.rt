@@ -1,16 +1,16 @@
 ghost use Rattle.std.specs.Prelude.{◌≡◌, ◌≢◌, ◌⊎◌};
 ghost use Rattle.outside.specs.Fault.{CountRose};
-ghost use Rattle.fault_lines.specs.FaultLine.{fault_line};
-ghost use Rattle.fault_lines.specs.Telling.{TellsAtMost, EndsIn};
-ghost use Rattle.file_tasks.specs.Run.{Runs, no_memory_task, outside};
+ghost use Rattle.status.specs.fault_lines.FaultLine.{fault_line};
+ghost use Rattle.status.specs.fault_lines.Telling.{TellsAtMost, EndsIn};
+ghost use Rattle.file_commands.specs.file_tasks.Run.{Runs, no_memory_task, outside};
 ghost use Rattle.monitor.specs.Task.{table_task};
 
 use crate::command::table_command;
 use crate::refused::no_memory;
-use fault_lines::{FaultLine, tell_fault};
+use outside::station::Station;
 use outside::{Sink, Site};
-use station::Station;
 use status::Status;
+use status::fault_lines::{FaultLine, tell_fault};
 use std::alloc::Global;
 
 /// Prints the rainflow table of a recording, and tells whatever else is answered, with the file's

@@ -1,8 +1,8 @@
 ghost use Rattle.std.specs.Prelude.{◌≡◌, IfOk};
 
 use super::*;
+use outside::station::MomentStation;
 use outside::{MapSite, OpenGate, SteadySource, VecSink};
-use station::MomentStation;
 use status::{RecordingFault, Status, StoreFault};
 use std::alloc::{AllocError, Global};
 use std::collections::BTreeMap;

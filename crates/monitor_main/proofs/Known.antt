@@ -1,9 +1,8 @@
 -- What std says of known bytes, said of the bytes.
 use Rattle.std.proofs.Common.{◌≡◌, ◌++◌, ℕ, List, [], length, refl, sym, ap, subst, ◌∙◌, arith, append-nil}
 use Rattle.std.proofs.Math.Seq.{take-append_seam}
-use Rattle.std.specs.Prelude.{Option, Some, None, IsSome, take}
+use Rattle.std.specs.Prelude.{Option, Some, None, IsSome, take, Result, Ok}
 use Rattle.std.specs.Io.KnownBytes.{Consumes, Keeps, Appends, IsAtEnd, WriteAppends}
-use Rattle.std.specs.Prelude.{Result, Ok}
 use Rattle.monitor_main.specs.Known.{bytes_of}
 use Rattle.outside.specs.Sink.{AppendsPrefix}
 

@@ -17,11 +17,12 @@ ghost use Rattle.std.specs.Process.{exit_status};
 ghost use Rattle.status.specs.Status.{code_of};
 
 use adapters::{FolderSite, OutputSink};
-use monitor::{monitor, tell_no_memory};
+use monitor::monitor;
 use named_file::NamedFile;
 use outside::OpenGate;
-use station::Station;
+use outside::station::Station;
 use status::Status;
+use status::fault_lines::tell_no_memory;
 use std::io;
 use std::process::ExitCode;
 use std::sync::Wait;

@@ -5,7 +5,7 @@ ghost use Rattle.outside.specs.Fault.{HasCause};
 mod tests;
 
 use outside::Failed;
-use station::Station;
+use outside::station::Station;
 use std::fs::File;
 use std::io;
 use std::io::{ErrorKind, Write};

@@ -26,6 +26,7 @@ mod map_site;
 mod sink;
 mod site;
 mod source;
+pub mod station;
 mod steady_source;
 #[cfg(test)]
 mod tests;

@@ -13,6 +13,7 @@
 mod ends;
 mod filling;
 mod head;
+pub mod lane_ends;
 mod skipping;
 mod synth;
 mod taking;
@@ -26,9 +27,6 @@ pub use head::{HEAD_LENGTH, Head, HeadFault, read_head, write_head};
 pub use skipping::skip;
 pub use synth::Synth;
 pub use writing::write_samples;
-
-/// The most samples of a recording.
-pub const MAX_SAMPLES: u64 = (1 << 40) - 1;
 
 /// The samples that a recording is read by, where it is read to its end: 64 KiB. Larger pieces
 /// read no faster.

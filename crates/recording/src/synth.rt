@@ -5,8 +5,8 @@ ghost use Rattle.outside.specs.Source.{TakesFrom, EndsAtZero};
 ghost use Rattle.recording.specs.Samples.{sample_bytes};
 ghost use Rattle.recording.specs.Synth.{next_state, made_sample, made_samples, state_after};
 
-use crate::MAX_SAMPLES;
 use byteorder::{ByteOrder, LittleEndian};
+use calibration::MAX_SAMPLES;
 use outside::{Failed, Source};
 use std::marker::Model;
 

@@ -3,12 +3,12 @@ use Rattle.std.specs.Prelude.{MatchOption}
 use Rattle.std.proofs.Common.{◌≡◌, ◌≢◌, ℕ, ℤ, List, Option, Some, None, refl, sym, ◌∙◌, ap, subst}
 use Rattle.calibration.specs.Gain.{GainValue}
 use Rattle.calibration.specs.History.{history}
-use Rattle.three_point.specs.Run.{three_point}
+use Rattle.turning_points.specs.three_point.Run.{three_point}
 use Rattle.tally.specs.Counts.{Counts, count_of}
-use Rattle.report.specs.Counts.{kinds_of}
-use Rattle.report.specs.declared.counts.SampleCounts.{SampleCounts}
-use Rattle.report.specs.Segment.{SegmentValue}
-use Rattle.report.specs.Figures.{halves_of}
+use Rattle.segment.specs.Counts.{kinds_of}
+use Rattle.segment.specs.declared.counts.SampleCounts.{SampleCounts}
+use Rattle.segment.specs.Segment.{SegmentValue}
+use Rattle.segment.specs.Figures.{halves_of}
 use Rattle.recount.specs.Counted.{IsRecount}
 use Rattle.recount.specs.Compared.{AreSame, Compares, IsCellOther, IsFirstOther, used_differ, missing_differ, refused_differ, cell_differs, all_same}
 use Rattle.recount.specs.declared.compare.Difference.{Difference}

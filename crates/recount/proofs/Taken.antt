@@ -18,11 +18,11 @@ use Rattle.turning_points.specs.Turned.{HasGiven}
 use Rattle.turning_points.specs.declared.turner.Recent.{Recent}
 use Rattle.turning_points.proofs.Given.{All-next_given}
 use Rattle.turning_points.proofs.Levels.{All-points}
-use Rattle.three_point.specs.Live.{HasCounted}
-use Rattle.three_point.specs.Run.{CountedRange, run}
-use Rattle.report.specs.Counts.{kinds_of, kinds_sum}
-use Rattle.report.specs.declared.counts.SampleCounts.{SampleCounts}
-use Rattle.report.proofs.Counted.{counts, kinds_of-append, kinds_are}
+use Rattle.turning_points.specs.three_point.Live.{HasCounted}
+use Rattle.turning_points.specs.three_point.Run.{CountedRange, run}
+use Rattle.segment.specs.Counts.{kinds_of, kinds_sum}
+use Rattle.segment.specs.declared.counts.SampleCounts.{SampleCounts}
+use Rattle.segment.proofs.Counted.{counts, kinds_of-append, kinds_are}
 use Rattle.recount.specs.Counted.{HasCountedPairs, HasCountedSamples, HoldsPairs, IsRecount}
 use Rattle.tally.specs.Counts.{Counts}
 use Rattle.recount.specs.declared.running.RunningCount.{RunningCount}

@@ -4,9 +4,9 @@
 --   Compares       the first difference, or none
 use Rattle.std.specs.Prelude.{◌≡◌, ◌≢◌, ◌<◌, ℕ, Option, Some, None}
 use Rattle.tally.specs.Counts.{Before}
-use Rattle.report.specs.declared.counts.SampleCounts.{SampleCounts}
-use Rattle.report.specs.Segment.{SegmentValue}
-use Rattle.report.specs.Figures.{halves_of}
+use Rattle.segment.specs.declared.counts.SampleCounts.{SampleCounts}
+use Rattle.segment.specs.Segment.{SegmentValue}
+use Rattle.segment.specs.Figures.{halves_of}
 use Rattle.recount.specs.declared.compare.Difference.{Difference}
 use Rattle.recount.specs.declared.compare.What.TheVariants.{Used, Missing, Refused, Cell}
 

@@ -6,11 +6,11 @@ use Rattle.calibration.specs.Gain.{GainValue}
 use Rattle.calibration.specs.Grid.{GridValue}
 use Rattle.calibration.specs.History.{history}
 use Rattle.turning_points.specs.Turned.{HasGiven}
-use Rattle.three_point.specs.Run.{CountedRange, half_units_of_pair, three_point}
-use Rattle.three_point.specs.Live.{HasCounted}
+use Rattle.turning_points.specs.three_point.Run.{CountedRange, half_units_of_pair, three_point}
+use Rattle.turning_points.specs.three_point.Live.{HasCounted}
 use Rattle.tally.specs.Counts.{Counts, count_of, total_of}
 use Rattle.tally.specs.declared.cells.TheConstants.{MAX_TOTAL}
-use Rattle.report.specs.Counts.{kinds_of}
+use Rattle.segment.specs.Counts.{kinds_of}
 use Rattle.recount.specs.declared.running.RunningCount.{RunningCount}
 use Rattle.recount.specs.declared.count.Recount.{Recount}
 

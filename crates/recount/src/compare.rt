@@ -2,16 +2,16 @@ ghost use Rattle.std.specs.Prelude.{◌≡◌, ◌≢◌, ◌<◌, ◌+◌, ℤ,
 ghost use Rattle.calibration.specs.Gain.{GainValue};
 ghost use Rattle.calibration.specs.History.{history};
 ghost use Rattle.calibration.specs.declared.grid.TheConstants.{MAX_CLASSES};
-ghost use Rattle.three_point.specs.Run.{three_point};
+ghost use Rattle.turning_points.specs.three_point.Run.{three_point};
 ghost use Rattle.tally.specs.Counts.{count_of};
-ghost use Rattle.report.specs.Counts.{kinds_of};
-ghost use Rattle.report.specs.Figures.{halves_of};
+ghost use Rattle.segment.specs.Counts.{kinds_of};
+ghost use Rattle.segment.specs.Figures.{halves_of};
 ghost use Rattle.recount.specs.Counted.{IsRecount};
 ghost use Rattle.recount.specs.Compared.{AreSame, AreSameFrom, Compares, IsCellOther};
 
 use crate::count::Recount;
 use calibration::MAX_CLASSES;
-use report::Segment;
+use segment::Segment;
 use tally::Tally;
 
 /// What a segment and a recount differ in: the number of samples that were used, are missing or

@@ -1,17 +1,18 @@
 ghost use Rattle.std.specs.Prelude.{◌≡◌, ◌≢◌, ◌≤◌, ◌<◌, ℕ, ℤ, List, [], Some, IfOk, OnOk, Err, length, take};
 ghost use Rattle.outside.specs.Fault.{CountRose};
 ghost use Rattle.recording.specs.Samples.{samples as samples_of};
-ghost use Rattle.recording.specs.declared.TheConstants.{MAX_SAMPLES, PIECE};
+ghost use Rattle.calibration.specs.declared.limits.TheConstants.{MAX_SAMPLES};
+ghost use Rattle.recording.specs.declared.TheConstants.{PIECE};
 ghost use Rattle.recount.specs.Counted.{IsRecount, HasCountedPairs};
 ghost use Rattle.recount.specs.declared.count.RecountFault.TheVariants.{Fewer, OutOfMemory, ReadFault};
 
 use crate::piece::Piece;
 use crate::running::RunningCount;
 use calibration::{Classifier, Gain, Grid};
+use four_point::residue_join::PairCounter;
 use outside::Source;
 use recording::{FillEnd, PIECE, fill};
-use report::SampleCounts;
-use residue_join::PairCounter;
+use segment::SampleCounts;
 use std::alloc::{AllocError, Global};
 use std::error::Error;
 use std::fmt;

@@ -3,15 +3,15 @@ ghost use Rattle.calibration.specs.Gain.{GainValue};
 ghost use Rattle.calibration.specs.Grid.{GridValue};
 ghost use Rattle.calibration.specs.History.{history};
 ghost use Rattle.turning_points.specs.Points.{points};
-ghost use Rattle.three_point.specs.Run.{run};
-ghost use Rattle.recording.specs.declared.TheConstants.{MAX_SAMPLES};
+ghost use Rattle.turning_points.specs.three_point.Run.{run};
+ghost use Rattle.calibration.specs.declared.limits.TheConstants.{MAX_SAMPLES};
 ghost use Rattle.tally.specs.declared.cells.TheConstants.{MAX_TOTAL};
 
 use calibration::Classifier;
-use report::SampleCounts;
+use segment::SampleCounts;
 use std::alloc::{AllocError, Global};
-use three_point::{RangeCounter, Run};
 use turning_points::Turner;
+use turning_points::three_point::{RangeCounter, Run};
 
 /// The most samples that a count takes at once.
 pub const MAX_AT_ONCE: usize = 1 << 20;

@@ -1,7 +1,7 @@
 use super::*;
 use calibration::{Classifier, Gain, Grid};
 use outside::BytesSource;
-use report::Segment;
+use segment::Segment;
 use std::alloc::{AllocError, Global};
 use std::process::Abort;
 use std::test::Fail;

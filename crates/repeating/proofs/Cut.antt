@@ -8,19 +8,19 @@ use Rattle.std.specs.Prelude.{All}
 use Rattle.std.proofs.lemmas.List.Elements.{All-head, All-tail}
 use Rattle.turning_points.specs.Pairs.{Pair, pair, range}
 use Rattle.turning_points.proofs.Zigzag.{IsZigzag, two, inner, zig_tail}
-use Rattle.three_point.specs.Run.{live_after, run, half_units_of_pair}
-use Rattle.three_point.proofs.Steps.{live_after_half, live_after_cycle}
-use Rattle.three_point.proofs.Bounds.{All-live_after}
+use Rattle.turning_points.specs.three_point.Run.{live_after, run, half_units_of_pair}
+use Rattle.turning_points.proofs.on_three_point.Steps.{live_after_half, live_after_cycle}
+use Rattle.turning_points.proofs.on_three_point.Bounds.{All-live_after}
 use Rattle.four_point.proofs.Drops.{here, past}
 use Rattle.four_point.proofs.Chain.{Chain, done, more}
 use Rattle.four_point.proofs.Unique.{ordered, zig_drops}
 use Rattle.four_point.proofs.HasNoCycle.{IsNoCycle, HasNoCycle, three_points, inner_stay, HasNoCycle-tail}
 use Rattle.four_point.proofs.Reach.{reach, chain_past, zig_chain, no_cycle_or_cycle}
-use Rattle.residue_join.specs.HalfUnits.{neighbours}
-use Rattle.residue_join.proofs.Live.{Live, no_point, live_tail, Onto, turns, onto_deeper, strict}
-use Rattle.residue_join.proofs.OneDeletion.{Fits, onto_nothing, onto_one, onto_more, read, run_step, one_deletion, onto_of, one_of_pair, pair_swap}
-use Rattle.residue_join.proofs.Neighbours.{residue_counts}
-use Rattle.residue_join.proofs.HalfUnits.{all_deletions}
+use Rattle.four_point.specs.residue_join.HalfUnits.{neighbours}
+use Rattle.four_point.proofs.on_residue_join.Live.{Live, no_point, live_tail, Onto, turns, onto_deeper, strict}
+use Rattle.four_point.proofs.on_residue_join.OneDeletion.{Fits, onto_nothing, onto_one, onto_more, read, run_step, one_deletion, onto_of, one_of_pair, pair_swap}
+use Rattle.four_point.proofs.on_residue_join.Neighbours.{residue_counts}
+use Rattle.four_point.proofs.on_residue_join.HalfUnits.{all_deletions}
 use Rattle.repeating.proofs.Below.{All-chain}
 
 -- the first level stays

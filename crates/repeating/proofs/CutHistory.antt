@@ -8,9 +8,9 @@ use Rattle.turning_points.proofs.Zigzag.{add, add_equal, IsZigzag, one, two, inn
 use Rattle.turning_points.proofs.Over.{over, over_points, zig_over}
 use Rattle.turning_points.proofs.Joining.{Side, at, away, before, add_away, add_before, add_two}
 use Rattle.turning_points.proofs.Levels.{All-points}
-use Rattle.three_point.specs.Run.{run, half_units_of_pair, three_point}
-use Rattle.residue_join.proofs.Live.{no_point}
-use Rattle.residue_join.proofs.OneDeletion.{onto_nothing}
+use Rattle.turning_points.specs.three_point.Run.{run, half_units_of_pair, three_point}
+use Rattle.four_point.proofs.on_residue_join.Live.{no_point}
+use Rattle.four_point.proofs.on_residue_join.OneDeletion.{onto_nothing}
 use Rattle.repeating.proofs.Cut.{cut}
 use Rattle.four_point.proofs.Inside.{side}
 

@@ -6,14 +6,14 @@ use Rattle.std.proofs.Common.{◌≡◌, ℕ, List, [], ◌++◌, refl, ap, arit
 use Rattle.turning_points.specs.Points.{points}
 use Rattle.turning_points.proofs.Zigzag.{zig_points}
 use Rattle.turning_points.proofs.Over.{zig_own}
-use Rattle.three_point.specs.Run.{three_point}
+use Rattle.turning_points.specs.three_point.Run.{three_point}
 use Rattle.four_point.specs.Reduction.{IsFourPointResult, IsIrreducible, count_in}
 use Rattle.four_point.specs.Residue.{AddsCycles}
 use Rattle.four_point.proofs.Chain.{one}
 use Rattle.four_point.proofs.Unique.{chain_of, stays_of}
 use Rattle.four_point.proofs.HasNoCycle.{HasNoCycle-from_irreducible}
 use Rattle.four_point.proofs.Reach.{zig_chain}
-use Rattle.residue_join.proofs.HalfUnits.{takes_half_units}
+use Rattle.four_point.proofs.on_residue_join.HalfUnits.{takes_half_units}
 use Rattle.repeating.specs.Repeating.{ClosesFromResult, repeating_cycles}
 use Rattle.repeating.proofs.Turned.{adds_its_cycles}
 use Rattle.repeating.proofs.Again.{again}

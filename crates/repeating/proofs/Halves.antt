@@ -6,13 +6,13 @@ use Rattle.std.specs.Prelude.{All}
 use Rattle.std.proofs.lemmas.List.Elements.{All-nil, All-cons, All-head, All-tail}
 use Rattle.turning_points.specs.Pairs.{pair, range}
 use Rattle.turning_points.proofs.Zigzag.{IsZigzag, zig_tail}
-use Rattle.three_point.specs.Run.{live_after, ranges_left, run, half_units_of_pair}
-use Rattle.three_point.proofs.Steps.{live_after_half, ranges_counted_half, live_after_less, ranges_counted_less, live_after_cycle, ranges_counted_cycle}
-use Rattle.three_point.proofs.Bounds.{All-live_after}
+use Rattle.turning_points.specs.three_point.Run.{live_after, ranges_left, run, half_units_of_pair}
+use Rattle.turning_points.proofs.on_three_point.Steps.{live_after_half, ranges_counted_half, live_after_less, ranges_counted_less, live_after_cycle, ranges_counted_cycle}
+use Rattle.turning_points.proofs.on_three_point.Bounds.{All-live_after}
 use Rattle.four_point.specs.Reduction.{count_in}
 use Rattle.four_point.proofs.Histories.{count_in-append}
-use Rattle.residue_join.proofs.Live.{Live, lone, live_tail, half_units_counted, Onto, alone, turns, onto_deeper}
-use Rattle.residue_join.proofs.OneDeletion.{Fits, onto_one, read, run_step, onto_of, one_of_pair, cycle_counted, pair_swap}
+use Rattle.four_point.proofs.on_residue_join.Live.{Live, lone, live_tail, half_units_counted, Onto, alone, turns, onto_deeper}
+use Rattle.four_point.proofs.on_residue_join.OneDeletion.{Fits, onto_one, read, run_step, onto_of, one_of_pair, cycle_counted, pair_swap}
 use Rattle.repeating.specs.Repeating.{live_after_cycles, cycles_closed, cycle_run}
 use Rattle.repeating.proofs.Ending.{EndsIn, ends_here, ends_on}
 use Rattle.repeating.proofs.Cut.{before_greatest, zig_from_fits, tail_is}

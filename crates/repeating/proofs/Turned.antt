@@ -7,7 +7,7 @@ use Rattle.std.proofs.lemmas.List.Elements.{All-nil, All-cons, All-tail, All-app
 use Rattle.turning_points.specs.Points.{points, turns as turns_of, changes}
 use Rattle.turning_points.proofs.Zigzag.{zig_points}
 use Rattle.turning_points.proofs.Levels.{All-points}
-use Rattle.three_point.specs.Run.{three_point}
+use Rattle.turning_points.specs.three_point.Run.{three_point}
 use Rattle.four_point.specs.Reduction.{count_in}
 use Rattle.repeating.specs.Repeating.{greatest_level, from_first, before_first, cycle_run, repeating_cycles, AddsItsCycles}
 use Rattle.repeating.proofs.Ending.{EndsIn, ends_points, ends_behind}

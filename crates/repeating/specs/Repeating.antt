@@ -16,7 +16,7 @@
 use Rattle.std.specs.Prelude.{◌≡◌, ℕ, ◌+◌, ◌*◌, nat_le, ◌==◌, if◌then◌else◌, max, List, [], ◌∷◌, ◌++◌}
 use Rattle.turning_points.specs.Points.{points}
 use Rattle.turning_points.specs.Pairs.{Pair, pair, range}
-use Rattle.three_point.specs.Run.{three_point}
+use Rattle.turning_points.specs.three_point.Run.{three_point}
 use Rattle.four_point.specs.Reduction.{IsFourPointResult, count_in}
 
 abbrev pub greatest_level : List ℕ → ℕ

@@ -3,7 +3,7 @@
 --   no_cycles        none over a grid, with room for each pair
 --   IsRepeating      there is room for each pair, and there are no more half units than a recording has samples
 use Rattle.std.specs.Prelude.{◌≡◌, ◌≤◌, ◌*◌, []}
-use Rattle.recording.specs.declared.TheConstants.{MAX_SAMPLES}
+use Rattle.calibration.specs.declared.limits.TheConstants.{MAX_SAMPLES}
 use Rattle.calibration.specs.Grid.{GridValue, IsGrid}
 use Rattle.tally.specs.Counts.{Counts, IsCounts, HasGreatestRoom, most_cells, total_of}
 

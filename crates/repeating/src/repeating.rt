@@ -11,7 +11,7 @@ ghost use Rattle.repeating.specs.Value.{IsRepeating, no_cycles};
 use crate::copying::copy_cycles;
 use calibration::Grid;
 use four_point::Reducer;
-use residue_join::join_residue;
+use four_point::residue_join::join_residue;
 use segment::Segment;
 use std::alloc::{AllocError, Global};
 use std::marker::Model;

@@ -1,6 +1,5 @@
 use super::*;
-use calibration::{Gain, Grid};
-use recording::MAX_SAMPLES;
+use calibration::{Gain, Grid, MAX_SAMPLES};
 use segment::Segment;
 use std::alloc::{AllocError, Global};
 use std::process::Abort;

@@ -9,7 +9,6 @@
 //! the text of a history that repeats.
 #![tactic(auto)]
 
-mod counts;
 mod detail;
 mod gauge;
 mod lines;
@@ -17,12 +16,10 @@ mod page;
 mod repeat;
 mod table;
 
-pub use counts::SampleCounts;
 pub use detail::detail_text;
 pub use gauge::gauge_text;
 pub use page::Page;
 pub use repeat::repeat_text;
-pub use segment::Segment;
 pub use table::table_text;
 
 #[cfg(test)]

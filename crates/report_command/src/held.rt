@@ -2,16 +2,16 @@ ghost use Rattle.std.specs.Prelude.{◌≡◌, ℕ, length};
 ghost use Rattle.outside.specs.Fault.{CountRose};
 ghost use Rattle.report.specs.Figures.{Figures};
 ghost use Rattle.site_config.specs.Valid.{IsConfig};
-ghost use Rattle.site_report.specs.Report.{Agrees};
-ghost use Rattle.site_report.specs.Room.{HasRoom};
+ghost use Rattle.report_command.specs.site_report.Report.{Agrees};
+ghost use Rattle.report_command.specs.site_report.Room.{HasRoom};
 ghost use Rattle.status.specs.declared.status.Status.TheVariants.{WriteFault};
 ghost use Rattle.status.specs.Printing.{IsPrinting};
 ghost use Rattle.report_command.specs.Printing.{Prints};
 
+use crate::site_report::Report;
 use outside::Sink;
 use segment_store::Store;
 use site_config::Config;
-use site_report::Report;
 use status::Status;
 
 /// Prints the report of what is held.

@@ -4,8 +4,8 @@ use Rattle.lemmas.proofs.Lists.{get_or-zeros}
 use Rattle.calibration.specs.Gain.{GainValue}
 use Rattle.calibration.specs.Grid.{GridValue}
 use Rattle.four_point.specs.Reduction.{IsIrreducible}
-use Rattle.level_crossing.specs.Crossings.{no_crossings}
-use Rattle.level_crossing.proofs.PushJoin.{none_counted}
+use Rattle.simple_counts.specs.level_crossing.Crossings.{no_crossings}
+use Rattle.simple_counts.proofs.on_level_crossing.PushJoin.{none_counted}
 use Rattle.segment.specs.Segment.{Stands, empty_at}
 
 -- no four points stand in a list of none

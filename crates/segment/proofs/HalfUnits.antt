@@ -1,8 +1,8 @@
 -- Half units of a pair, and of all pairs that lie so far apart.
 use Rattle.std.proofs.Common.{◌≡◌, ℕ, ℤ, ◌+◌, ◌-◌, ◌*◌, ◌^◌, ◌<◌, ◌≤◌, Bool, true, false, if◌then◌else◌, List, [], ◌∷◌, sym, ◌∙◌, subst, arith}
 use Rattle.std.proofs.lemmas.List.Sums.{sum_by-cons}
-use Rattle.three_point.specs.Run.{half_units, half_units_at_range, three_point, half_units_of_pair}
-use Rattle.three_point.proofs.Sums.{has_range_sums, sum_at_range-added, sum_is, sum_at_range-same}
+use Rattle.turning_points.specs.three_point.Run.{half_units, half_units_at_range, three_point, half_units_of_pair}
+use Rattle.turning_points.proofs.on_three_point.Sums.{has_range_sums, sum_at_range-added, sum_is, sum_at_range-same}
 use Rattle.calibration.specs.Gain.{GainValue}
 use Rattle.calibration.specs.History.{history}
 use Rattle.calibration.proofs.HistoryBelow.{history_below}
@@ -10,9 +10,9 @@ use Rattle.std.specs.Prelude.{All}
 use Rattle.tally.specs.declared.cells.Cell.{Cell}
 use Rattle.tally.specs.Counts.{count_of, pair_of, total_of}
 use Rattle.turning_points.specs.Pairs.{is_pair}
-use Rattle.three_point.specs.Sums.{sum_at_range}
-use Rattle.residue_join.specs.HalfUnits.{neighbours}
-use Rattle.residue_join.proofs.HalfUnits.{counts_its_result}
+use Rattle.turning_points.specs.three_point.Sums.{sum_at_range}
+use Rattle.four_point.specs.residue_join.HalfUnits.{neighbours}
+use Rattle.four_point.proofs.on_residue_join.HalfUnits.{counts_its_result}
 use Rattle.segment.specs.Segment.{SegmentValue, StandsFor}
 use Rattle.segment.specs.Figures.{doubled_cycles, halves_of}
 use Rattle.segment.proofs.SideBySide.{neighbours_within}

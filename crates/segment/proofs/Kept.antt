@@ -3,11 +3,11 @@ use Rattle.std.proofs.Common.{◌≡◌, ℕ, ◌+◌, ◌*◌, List, [], ◌∷
 use Rattle.std.specs.Prelude.{sum_by}
 use Rattle.std.proofs.lemmas.List.Sums.{sum_by-cons}
 use Rattle.turning_points.specs.Points.{points}
-use Rattle.three_point.specs.Run.{three_point}
+use Rattle.turning_points.specs.three_point.Run.{three_point}
 use Rattle.tally.specs.Counts.{count_of}
 use Rattle.four_point.specs.Reduction.{count_in}
 use Rattle.four_point.specs.Residue.{AddsCycles, IsResidue}
-use Rattle.residue_join.proofs.HalfUnits.{takes_half_units}
+use Rattle.four_point.proofs.on_residue_join.HalfUnits.{takes_half_units}
 use Rattle.segment.specs.Segment.{SegmentValue}
 use Rattle.segment.specs.Figures.{SameKept, residues, last_end}
 

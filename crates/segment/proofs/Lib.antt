@@ -1,3 +1,4 @@
+pub mod Counted
 pub mod Alikeness
 pub mod Deleted
 pub mod Residues
@@ -17,5 +18,4 @@ pub mod Ready
 pub mod Made
 pub mod PartsStanding
 pub mod Empty
-pub use Rattle.four_point.proofs.Index
-pub use Rattle.simple_counts.proofs.Readers
+pub mod on_segment_rules

@@ -3,8 +3,8 @@ use Rattle.std.proofs.Common.{◌≡◌, ◌≢◌, ℕ, zero, suc, ◌+◌, ◌
 use Rattle.std.proofs.lemmas.Bool.{cases_eq}
 use Rattle.std.proofs.lemmas.Bool.Decides.{nat_tests}
 use Rattle.tally.specs.declared.cells.Bin.{Bin}
-use Rattle.tables.specs.Bins.{AreBinsFrom, count_at}
-use Rattle.tables.proofs.Filled.{count_below}
+use Rattle.tally.specs.tables.Bins.{AreBinsFrom, count_at}
+use Rattle.tally.proofs.on_tables.Filled.{count_below}
 use Rattle.segment.specs.Parts.{bins_from}
 use Rattle.segment.proofs.TableSums.{none, some}
 

@@ -6,18 +6,17 @@ use Rattle.tally.specs.declared.cells.Cell.{Cell}
 use Rattle.tally.specs.declared.cells.Bin.{Bin}
 use Rattle.tally.specs.Counts.{Counts, total_of}
 use Rattle.tally.specs.Room.{room_for}
-use Rattle.tables.specs.Bins.{count_at}
+use Rattle.tally.specs.tables.Bins.{count_at}
 use Rattle.turning_points.specs.EndPoints.{EndPoints, ends_of}
 use Rattle.turning_points.specs.Points.{IsTurn, OnSide}
 use Rattle.turning_points.proofs.EndPlaces.{last_place, before_place}
 use Rattle.four_point.specs.Residue.{IsResidue, ReducerValue}
 use Rattle.calibration.specs.Grid.{GridValue, IsGrid}
-use Rattle.level_crossing.specs.Crossings.{CrossingsValue, crossing_count}
-use Rattle.level_crossing.specs.Loading.{HasEnds}
+use Rattle.simple_counts.specs.level_crossing.Crossings.{CrossingsValue, crossing_count}
+use Rattle.simple_counts.specs.level_crossing.Loading.{HasEnds}
 use Rattle.simple_counts.specs.Simple.{SimpleValue, IsSimple, peak_count, range_count, valley_count}
-use Rattle.segment_rules.specs.Parts.{PartsValue}
-use Rattle.segment_rules.specs.Rules.{EndsAgree}
-use Rattle.segment_rules.specs.Rules.{AreSegmentParts}
+use Rattle.segment.specs.segment_rules.Parts.{PartsValue}
+use Rattle.segment.specs.segment_rules.Rules.{EndsAgree, AreSegmentParts}
 use Rattle.segment.specs.Alike.{Alike}
 use Rattle.segment.specs.Segment.{SegmentValue, IsSegment}
 use Rattle.segment.specs.Parts.{parts_of}

@@ -1,7 +1,7 @@
 -- A segment with the counts of a list of points.
 use Rattle.std.proofs.Common.{◌≡◌, ℕ, ℤ, ◌+◌, ◌*◌, ◌<◌, ◌≤◌, List, [], ◌∷◌, length, refl, sym, ap, ◌∙◌, subst, arith}
 use Rattle.std.specs.Prelude.{All}
-use Rattle.recording.specs.declared.TheConstants.{MAX_SAMPLES}
+use Rattle.calibration.specs.declared.limits.TheConstants.{MAX_SAMPLES}
 use Rattle.calibration.specs.Gain.{GainValue}
 use Rattle.calibration.specs.Grid.{GridValue}
 use Rattle.calibration.specs.History.{history}
@@ -15,8 +15,8 @@ use Rattle.four_point.specs.Residue.{AddsCycles, IsResidue, ReducerValue}
 use Rattle.four_point.proofs.Unique.{chain_of}
 use Rattle.calibration.proofs.HistoryBelow.{history_below}
 use Rattle.turning_points.proofs.Levels.{All-points}
-use Rattle.level_crossing.specs.Crossings.{CrossingsValue, crossing_count, crossings, start_level, has_level}
-use Rattle.level_crossing.proofs.OfPoints.{crossings_few}
+use Rattle.simple_counts.specs.level_crossing.Crossings.{CrossingsValue, crossing_count, crossings, start_level, has_level}
+use Rattle.simple_counts.proofs.on_level_crossing.OfPoints.{crossings_few}
 use Rattle.simple_counts.specs.Simple.{SimpleValue, IsSimple}
 use Rattle.simple_counts.proofs.OfPoints.{level_below}
 use Rattle.segment.specs.Alike.{Alike}

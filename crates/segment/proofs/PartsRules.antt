@@ -9,13 +9,12 @@ use Rattle.turning_points.specs.Points.{IsTurn, OnSide}
 use Rattle.turning_points.proofs.EndPlaces.{last_place, before_place}
 use Rattle.turning_points.proofs.PushEnds.{five_same}
 use Rattle.tally.specs.Counts.{IsCell, IsCounts}
-use Rattle.tables.specs.Bins.{count_at, sum_of}
-use Rattle.tables.specs.Tables.{is_at}
-use Rattle.level_crossing.specs.Crossings.{crossing_count}
+use Rattle.tally.specs.tables.Bins.{count_at, sum_of}
+use Rattle.tally.specs.tables.Tables.{is_at}
+use Rattle.simple_counts.specs.level_crossing.Crossings.{crossing_count}
 use Rattle.simple_counts.specs.Simple.{SimpleValue, IsSimple, open_at, peak_count, range_count, valley_count}
 use Rattle.simple_counts.specs.Loading.{CountsEnds, first_range, last_range}
-use Rattle.segment_rules.specs.Rules.{AreCells, HasEndsBeside, EndsAgree, IsOrdered, SumsAgree}
-use Rattle.segment_rules.specs.Rules.{AreSegmentParts}
+use Rattle.segment.specs.segment_rules.Rules.{AreCells, HasEndsBeside, EndsAgree, IsOrdered, SumsAgree, AreSegmentParts}
 use Rattle.segment.specs.Alike.{Alike}
 use Rattle.segment.specs.Segment.{SegmentValue, IsSegment}
 use Rattle.segment.specs.Parts.{bins_from, parts_of}

@@ -10,12 +10,12 @@ use Rattle.calibration.specs.History.{history}
 use Rattle.turning_points.specs.Points.{points}
 use Rattle.turning_points.specs.Pairs.{range}
 use Rattle.turning_points.specs.EndPoints.{EndPoints}
-use Rattle.tables.specs.Bins.{count_at}
-use Rattle.tables.specs.Tables.{is_at}
-use Rattle.tables.proofs.Filled.{count_above, count_below}
-use Rattle.level_crossing.specs.Crossings.{Crosses, crossing_count, crossings, start_level, has_level}
-use Rattle.level_crossing.proofs.OfPoints.{crosses_points, crossings_points}
-use Rattle.level_crossing.specs.Extremes.{extremes_at}
+use Rattle.tally.specs.tables.Bins.{count_at}
+use Rattle.tally.specs.tables.Tables.{is_at}
+use Rattle.tally.proofs.on_tables.Filled.{count_above, count_below}
+use Rattle.simple_counts.specs.level_crossing.Crossings.{Crosses, crossing_count, crossings, start_level, has_level}
+use Rattle.simple_counts.proofs.on_level_crossing.OfPoints.{crosses_points, crossings_points}
+use Rattle.simple_counts.specs.level_crossing.Extremes.{extremes_at}
 use Rattle.simple_counts.specs.Simple.{CountsHistory, open_at, peak_count, range_count, peaks_at, valleys_at, valley_count}
 use Rattle.simple_counts.proofs.Readers.{peak_counts, range_counts, valley_counts}
 use Rattle.simple_counts.proofs.Triples.{peaks_are, ranges_are, valleys_are}

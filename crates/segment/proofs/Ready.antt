@@ -12,8 +12,8 @@ use Rattle.turning_points.proofs.Over.{zig_own}
 use Rattle.four_point.specs.Residue.{IsResidue, ReducerValue}
 use Rattle.calibration.specs.Grid.{GridValue, IsGrid}
 use Rattle.simple_counts.specs.Loading.{CanLoad}
-use Rattle.segment_rules.specs.Parts.{PartsValue}
-use Rattle.segment_rules.specs.Rules.{EndsAgree, AreSegmentParts}
+use Rattle.segment.specs.segment_rules.Parts.{PartsValue}
+use Rattle.segment.specs.segment_rules.Rules.{EndsAgree, AreSegmentParts}
 use Rattle.lemmas.proofs.Naturals.{few_cases}
 
 apart : (x y z : ℕ) → IsTurn y x z → x ≢ y

@@ -3,7 +3,7 @@
 --   taken_rules    where a level is taken
 --   joined_rules   where two parts are joined
 use Rattle.std.proofs.Common.{◌≡◌, ℕ, zero, suc, ◌+◌, ◌-◌, ◌*◌, ◌<◌, ◌≤◌, Bool, true, false, ◌&&◌, ◌||◌, if◌then◌else◌, [], ◌∷◌, ◌++◌, length, get_or, refl, sym, ap, ◌∙◌, subst, arith}
-use Rattle.recording.specs.declared.TheConstants.{MAX_SAMPLES}
+use Rattle.calibration.specs.declared.limits.TheConstants.{MAX_SAMPLES}
 use Rattle.calibration.specs.Grid.{GridValue, IsGrid}
 use Rattle.turning_points.specs.Points.{points}
 use Rattle.turning_points.specs.EndPoints.{IsEnds, ends_of, ends_push, ends_of_both, only_point}
@@ -14,9 +14,9 @@ use Rattle.tally.specs.Counts.{Counts, count_of, total_of}
 use Rattle.tally.specs.Room.{room_for}
 use Rattle.four_point.specs.Residue.{AddsCycles, IsResidue, ReducerValue}
 use Rattle.four_point.proofs.Index.{residue_none}
-use Rattle.level_crossing.specs.Crossings.{CrossingsValue, joint_crossings, crossing_count, no_crossings}
-use Rattle.level_crossing.proofs.PushJoin.{none_counted}
-use Rattle.level_crossing.proofs.OfPoints.{few_added}
+use Rattle.simple_counts.specs.level_crossing.Crossings.{CrossingsValue, joint_crossings, crossing_count, no_crossings}
+use Rattle.simple_counts.proofs.on_level_crossing.PushJoin.{none_counted}
+use Rattle.simple_counts.proofs.on_level_crossing.OfPoints.{few_added}
 use Rattle.simple_counts.specs.Simple.{SimpleValue, IsSimple, nothing}
 use Rattle.segment.specs.Alike.{Alike}
 use Rattle.segment.specs.Segment.{SegmentValue, IsSegment, empty_at}

@@ -11,8 +11,8 @@ use Rattle.turning_points.proofs.Put.{PutCase, at_none, at_equal, at_second, at_
 use Rattle.turning_points.proofs.PutEnds.{case_of, put_ends}
 use Rattle.turning_points.proofs.MeetEnds.{Left, left_zero, left_one, left_two, left_long, left_of, ends_of_both_long, ends_of_both_one, ends_of_both_two, ends_of_both_zero, twice}
 use Rattle.turning_points.proofs.PushEnds.{push_is_meets}
-use Rattle.level_crossing.specs.Crossings.{CrossingsValue, start_level, has_level}
-use Rattle.level_crossing.specs.Loading.{HasEnds}
+use Rattle.simple_counts.specs.level_crossing.Crossings.{CrossingsValue, start_level, has_level}
+use Rattle.simple_counts.specs.level_crossing.Loading.{HasEnds}
 
 -- a level that is put before ends leaves the last one
 put_last_by : (x : ℕ) (e : EndPoints) → PutCase x e → (e.points ≡ 1 → e.last ≡ e.first) → 1 ≤ e.points → (ends_prepend x e).last ≡ e.last

@@ -10,12 +10,12 @@ use Rattle.std.proofs.lemmas.List.{drop_more}
 use Rattle.std.proofs.lemmas.List.Elements.{All-cons, All-nil, All-head, All-tail}
 use Rattle.turning_points.specs.Pairs.{range}
 use Rattle.turning_points.proofs.Zigzag.{IsZigzag, zig_tail, ends_differ}
-use Rattle.three_point.specs.Bounds.{IsWithin}
-use Rattle.three_point.specs.Run.{counted_range, half_units_at_range, half_units_of_pair}
-use Rattle.residue_join.specs.HalfUnits.{neighbours}
-use Rattle.tables.specs.Tables.{is_at, raise}
-use Rattle.tables.proofs.Counting.{raise_at}
-use Rattle.level_crossing.proofs.Steps.{at_few}
+use Rattle.turning_points.specs.three_point.Bounds.{IsWithin}
+use Rattle.turning_points.specs.three_point.Run.{counted_range, half_units_at_range, half_units_of_pair}
+use Rattle.four_point.specs.residue_join.HalfUnits.{neighbours}
+use Rattle.tally.specs.tables.Tables.{is_at, raise}
+use Rattle.tally.proofs.on_tables.Counting.{raise_at}
+use Rattle.simple_counts.proofs.on_level_crossing.Steps.{at_few}
 
 neighbours_more : (l : List ℕ) (j : ℕ) → j + 1 < length l →
     neighbours (drop j l) ≡ counted_range (get_or l j 0) (get_or l (j + 1) 0) 1 ∷ neighbours (drop (j + 1) l)

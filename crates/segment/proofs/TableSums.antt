@@ -7,8 +7,8 @@ use Rattle.std.proofs.lemmas.Bool.Decides.{nat_tests}
 use Rattle.std.proofs.lemmas.List.Elements.{All-nil, All-cons}
 use Rattle.std.proofs.lemmas.List.Sums.{sum_by-cons}
 use Rattle.tally.specs.declared.cells.Bin.{Bin}
-use Rattle.tables.specs.Bins.{sum_of}
-use Rattle.tables.specs.Tables.{is_at}
+use Rattle.tally.specs.tables.Bins.{sum_of}
+use Rattle.tally.specs.tables.Tables.{is_at}
 use Rattle.segment.specs.Parts.{bins_from}
 
 abbrev pub sum_from : (ℕ → ℕ) → ℕ → ℕ → ℕ

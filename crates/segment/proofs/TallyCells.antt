@@ -10,10 +10,10 @@ use Rattle.tally.specs.Room.{room_for}
 use Rattle.tally.proofs.Ascending.{cells_fit, put_first}
 use Rattle.tally.proofs.Equal.{ascending_head, ascending_tail, one_value}
 use Rattle.tally.proofs.Places.{places_is}
-use Rattle.tally.proofs.Tables.{one_of}
+use Rattle.tally.proofs.RowTables.{one_of}
 use Rattle.tally.proofs.Walk.{behind_differs}
 use Rattle.lemmas.proofs.Naturals.{same_or_not}
-use Rattle.segment_rules.specs.Rules.{AreCells}
+use Rattle.segment.specs.segment_rules.Rules.{AreCells}
 
 ascending_drop : (i : ℕ) (cs : List Cell) → IsAscending cs → IsAscending (drop i cs)
 ascending_drop zero cs a = a

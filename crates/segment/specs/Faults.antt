@@ -3,8 +3,8 @@
 --   load_text      of parts that are no segment's
 use Rattle.std.specs.Prelude.{ℕ, List, ◌++◌, codes}
 use Rattle.std.specs.Fmt.{decimal}
-use Rattle.segment_rules.specs.RuleText.{rule_text}
-use Rattle.segment_rules.specs.declared.rule.BrokenRule.TheVariants as rules
+use Rattle.segment.specs.segment_rules.RuleText.{rule_text}
+use Rattle.segment.specs.declared.segment_rules.rule.BrokenRule.TheVariants as rules
 use Rattle.segment.specs.declared.segment.join.JoinRefusal.{JoinRefusal}
 use Rattle.segment.specs.declared.segment.join.JoinRefusal.TheVariants.{OtherGauge, NotNext}
 use Rattle.segment.specs.declared.fault.LoadFault.{LoadFault}

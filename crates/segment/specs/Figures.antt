@@ -3,9 +3,9 @@
 --   SameKept    two lists of segments hold the same: the last end, the sums, and for each pair twice the cycles and the
 --               three-point count of the residues, one after the other
 use Rattle.std.specs.Prelude.{◌≡◌, ℕ, ◌+◌, ◌*◌, List, [], ◌∷◌, ◌++◌, sum_by}
-use Rattle.three_point.specs.Run.{three_point, half_units_of_pair}
+use Rattle.turning_points.specs.three_point.Run.{three_point, half_units_of_pair}
 use Rattle.tally.specs.Counts.{count_of}
-use Rattle.residue_join.specs.HalfUnits.{neighbours}
+use Rattle.four_point.specs.residue_join.HalfUnits.{neighbours}
 use Rattle.segment.specs.Segment.{SegmentValue}
 
 -- those of its full cycles

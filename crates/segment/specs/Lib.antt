@@ -1,3 +1,4 @@
+pub mod Counts
 pub mod Alike
 pub mod Segment
 pub mod Name
@@ -8,12 +9,4 @@ pub mod Joining
 pub mod Faults
 pub mod Readings
 pub mod Figures
-pub use Rattle.turning_points.specs.Points
-pub use Rattle.turning_points.specs.Pairs
-pub use Rattle.three_point.specs.Run
-pub use Rattle.four_point.specs.Reduction
-pub use Rattle.level_crossing.specs.Crossings
-pub use Rattle.simple_counts.specs.Simple
-pub use Rattle.calibration.specs.Level
-pub use Rattle.calibration.specs.History
-pub use Rattle.residue_join.specs.HalfUnits
+pub mod segment_rules

@@ -4,11 +4,11 @@
 --   Loads        the segment over this grid with these parts, which keep all rules, or the first rule that they break
 use Rattle.std.specs.Prelude.{◌≡◌, ◌-◌, ℕ, max, Option, Some, None, Result, Ok, Err}
 use Rattle.calibration.specs.Grid.{GridValue}
-use Rattle.segment_rules.specs.declared.name.Name.{Name}
-use Rattle.segment_rules.specs.declared.rule.BrokenRule.{BrokenRule}
-use Rattle.segment_rules.specs.declared.rule.BrokenRule.TheVariants as rules
-use Rattle.segment_rules.specs.Parts.{PartsValue}
-use Rattle.segment_rules.specs.Tests.{first_broken}
+use Rattle.segment.specs.declared.segment_rules.name.Name.{Name}
+use Rattle.segment.specs.declared.segment_rules.rule.BrokenRule.{BrokenRule}
+use Rattle.segment.specs.declared.segment_rules.rule.BrokenRule.TheVariants as rules
+use Rattle.segment.specs.segment_rules.Parts.{PartsValue}
+use Rattle.segment.specs.segment_rules.Tests.{first_broken}
 use Rattle.segment.specs.declared.fault.LoadFault.{LoadFault}
 use Rattle.segment.specs.declared.fault.LoadFault.TheVariants.{Order, Sum, Residue, OutOfMemory}
 use Rattle.segment.specs.Segment.{SegmentValue}

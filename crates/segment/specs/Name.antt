@@ -1,5 +1,5 @@
 -- The name of a segment: its gauge, and the samples that it is of.
-pub use Rattle.segment_rules.specs.declared.name.Name.{Name}
+use Rattle.segment.specs.declared.segment_rules.name.Name.{Name}
 use Rattle.segment.specs.Segment.{SegmentValue}
 
 abbrev pub name_of : SegmentValue → Name

@@ -3,9 +3,9 @@
 --   parts_of    the parts of a segment
 use Rattle.std.specs.Prelude.{◌+◌, ◌-◌, ◌==◌, ℕ, zero, suc, if◌then◌else◌, List, [], ◌∷◌}
 use Rattle.tally.specs.declared.cells.Bin.{Bin}
-use Rattle.level_crossing.specs.Crossings.{crossing_count}
+use Rattle.simple_counts.specs.level_crossing.Crossings.{crossing_count}
 use Rattle.simple_counts.specs.Simple.{peak_count, range_count, valley_count}
-use Rattle.segment_rules.specs.Parts.{PartsValue}
+use Rattle.segment.specs.segment_rules.Parts.{PartsValue}
 use Rattle.segment.specs.Segment.{SegmentValue}
 
 abbrev pub bins_from : (ℕ → ℕ) → ℕ → ℕ → List Bin

@@ -7,7 +7,7 @@
 --   SameStart      two segments of one gauge, from one place on, over one grid, that may come to as many samples
 --   AddsReadings   a segment has the readings of two
 use Rattle.std.specs.Prelude.{◌≡◌, ℕ, ℤ, ◌+◌, ◌-◌, ◌*◌, ◌≤◌, List, [], length}
-use Rattle.recording.specs.declared.TheConstants.{MAX_SAMPLES}
+use Rattle.calibration.specs.declared.limits.TheConstants.{MAX_SAMPLES}
 use Rattle.calibration.specs.Gain.{GainValue}
 use Rattle.calibration.specs.Grid.{GridValue, IsGrid}
 use Rattle.calibration.specs.History.{history, missing_count, refused_count}
@@ -17,8 +17,8 @@ use Rattle.tally.specs.Counts.{Counts, count_of, total_of}
 use Rattle.tally.specs.Room.{room_for}
 use Rattle.four_point.specs.Reduction.{IsFourPointResult}
 use Rattle.four_point.specs.Residue.{IsResidue, ReducerValue}
-use Rattle.level_crossing.specs.Crossings.{CrossingsValue, Crosses, crossing_count, no_crossings}
-use Rattle.level_crossing.specs.Loading.{HasEnds}
+use Rattle.simple_counts.specs.level_crossing.Crossings.{CrossingsValue, Crosses, crossing_count, no_crossings}
+use Rattle.simple_counts.specs.level_crossing.Loading.{HasEnds}
 use Rattle.simple_counts.specs.Simple.{SimpleValue, CountsHistory, IsSimple, nothing}
 use Rattle.segment.specs.Alike.{Alike}
 

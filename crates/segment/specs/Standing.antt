@@ -8,11 +8,11 @@ use Rattle.calibration.specs.History.{history, missing_count, refused_count}
 use Rattle.turning_points.specs.Points.{points}
 use Rattle.turning_points.specs.EndPoints.{ends_of}
 use Rattle.tally.specs.Counts.{count_of}
-use Rattle.tables.specs.Bins.{count_at}
+use Rattle.tally.specs.tables.Bins.{count_at}
 use Rattle.four_point.specs.Reduction.{IsFourPointResult}
-use Rattle.level_crossing.specs.Crossings.{crossings}
+use Rattle.simple_counts.specs.level_crossing.Crossings.{crossings}
 use Rattle.simple_counts.specs.Simple.{peaks_at, ranges_at, valleys_at}
-use Rattle.segment_rules.specs.Parts.{PartsValue}
+use Rattle.segment.specs.segment_rules.Parts.{PartsValue}
 
 pub record PartsStand (grid : GridValue) (gain : GainValue) (p : PartsValue) (samples : List ℤ) : Type 0 where
   pub span : p.name.to ≡ p.name.from + length samples

@@ -3,12 +3,12 @@ ghost use Rattle.segment.specs.Faults.{load_text};
 ghost use Rattle.segment.specs.Loading.{fault_of};
 ghost use Rattle.segment.specs.declared.fault.LoadFault.TheVariants.{OutOfMemory};
 
-use segment_rules::BrokenRule;
+use crate::segment_rules::BrokenRule;
 use std::alloc::AllocError;
 use std::error::Error;
 use std::fmt;
 
-/// The first rule that parts break, as in [`segment_rules::BrokenRule`], or want of memory.
+/// The first rule that parts break, as in [`crate::segment_rules::BrokenRule`], or want of memory.
 #[derive(Clone, Copy, Debug, PartialEq, Eq)]
 pub enum LoadFault {
     Order { list: u8, index: u32 },

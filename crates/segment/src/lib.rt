@@ -16,14 +16,16 @@
 
 mod block;
 mod classes;
+mod counts;
 mod fault;
 mod neighbours;
 mod segment;
+pub mod segment_rules;
 
+pub use counts::SampleCounts;
 pub use fault::LoadFault;
 
 #[cfg(test)]
 mod tests;
 
 pub use segment::{JoinRefusal, Segment};
-pub use segment_rules::Name;

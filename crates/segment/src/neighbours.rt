@@ -1,8 +1,8 @@
 ghost use Rattle.std.specs.Prelude.{◌≡◌, ◌≤◌, ◌<◌, ◌+◌, ◌^◌, ℕ, All, length, slice_index};
-ghost use Rattle.three_point.specs.Run.{half_units_at_range, half_units_of_pair};
-ghost use Rattle.residue_join.specs.HalfUnits.{neighbours};
+ghost use Rattle.turning_points.specs.three_point.Run.{half_units_at_range, half_units_of_pair};
+ghost use Rattle.four_point.specs.residue_join.HalfUnits.{neighbours};
 
-use tables::{add_if, raise};
+use tally::tables::{add_if, raise};
 
 /// How many neighbours in a residue are this pair of levels.
 pub fn neighbours(residue: &[u16], lo: u16, hi: u16) -> u64

@@ -1,5 +1,5 @@
 ghost use Rattle.std.specs.Prelude.{◌≡◌, ◌≤◌, IfOk};
-ghost use Rattle.recording.specs.declared.TheConstants.{MAX_SAMPLES};
+ghost use Rattle.calibration.specs.declared.limits.TheConstants.{MAX_SAMPLES};
 ghost use Rattle.segment.specs.Segment.{IsSegment, empty_at};
 
 mod counts;
@@ -11,12 +11,11 @@ mod rows;
 mod take;
 
 use crate::classes::Classes;
-use calibration::Grid;
+use calibration::{Grid, MAX_SAMPLES};
 use four_point::Reducer;
 pub use join::JoinRefusal;
-use level_crossing::Crossings;
-use recording::MAX_SAMPLES;
 use simple_counts::Simple;
+use simple_counts::level_crossing::Crossings;
 use std::alloc::{AllocError, Global};
 use std::marker::Model;
 use tally::{Tally, room_for};

@@ -1,7 +1,6 @@
 use super::*;
-use calibration::{Classifier, Gain, Grid};
-use recording::MAX_SAMPLES;
-use segment_rules::{Bins, Cells, Levels, Parts};
+use crate::segment_rules::{Bins, Cells, Levels, Name, Parts};
+use calibration::{Classifier, Gain, Grid, MAX_SAMPLES};
 use std::alloc::{AllocError, Global};
 use std::process::Abort;
 use std::test::Fail;

@@ -4,22 +4,22 @@ use Rattle.std.specs.Prelude.{IfOk, OnOk}
 use Rattle.std.specs.Option.{option_or}
 use Rattle.std.proofs.lemmas.List.{length-take}
 use Rattle.outside.specs.Fault.{CountRose}
-use Rattle.station.specs.Station.{Image, Only}
+use Rattle.outside.specs.station.Station.{Image, Only}
 use Rattle.calibration.specs.Gain.{GainValue}
-use Rattle.segment_rules.specs.Parts.{PartsValue}
+use Rattle.segment.specs.segment_rules.Parts.{PartsValue}
 use Rattle.segment_store.specs.declared.damage.Stop.{Stop}
 use Rattle.segment_store.specs.declared.damage.Stop.TheVariants as stops
 use Rattle.segment_store.specs.declared.damage.Damage.{Damage}
-use Rattle.store_head.specs.declared.fault.HeadFault.{HeadFault}
+use Rattle.store_bytes.specs.declared.store_head.fault.HeadFault.{HeadFault}
 use Rattle.segment_store.specs.declared.fault.PutFault.{PutFault}
 use Rattle.segment_store.specs.declared.fault.ResumeFault.{ResumeFault}
 use Rattle.segment_store.specs.declared.fault.ResumeFault.TheVariants.{NotAStore, Version, Differs, Damaged, DiskFault, OutOfMemory}
 use Rattle.calibration.specs.declared.setup.Setup.{Setup}
-use Rattle.segment_bytes.specs.declared.layout.Layout.{Layout}
-use Rattle.segment_bytes.specs.Sizes.{max_body}
-use Rattle.store_head.specs.Head.{HeadValue, IsHead, head_of, start_of}
+use Rattle.store_bytes.specs.declared.segment_bytes.layout.Layout.{Layout}
+use Rattle.store_bytes.specs.segment_bytes.Sizes.{max_body}
+use Rattle.store_bytes.specs.store_head.Head.{HeadValue, IsHead, head_of, start_of}
 use Rattle.segment_store.specs.Image.{open_bodies, IsNext, Reads, nothing_held}
-use Rattle.store_head.specs.HeadFaults.{gauge_fault, gauge_at, gauges_fault, head_fault, layout_in}
+use Rattle.store_bytes.specs.store_head.HeadFaults.{gauge_fault, gauge_at, gauges_fault, head_fault, layout_in}
 use Rattle.segment_store.specs.Held.{AreHeld, ends_of}
 use Rattle.segment_store.specs.Moments.{StoreValue, IsAt, IsOn}
 use Rattle.segment_store.specs.Resuming.{Walks, EndsWalkAs}

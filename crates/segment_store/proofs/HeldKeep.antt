@@ -8,12 +8,12 @@ use Rattle.std.proofs.lemmas.Grind.{flat_map-append}
 use Rattle.std.proofs.lemmas.List.Elements.{filter-append}
 use Rattle.std.proofs.lemmas.List.Sums.{sum_by_push}
 use Rattle.std.proofs.lemmas.Bool.{eq-eqb, ne_eqb}
-use Rattle.station.specs.Station.{Image}
+use Rattle.outside.specs.station.Station.{Image}
 use Rattle.calibration.specs.Grid.{GridValue}
-use Rattle.three_point.specs.Run.{three_point}
+use Rattle.turning_points.specs.three_point.Run.{three_point}
 use Rattle.tally.specs.Counts.{count_of}
-use Rattle.residue_join.proofs.HalfUnits.{counts_its_result}
-use Rattle.segment_rules.specs.Parts.{PartsValue}
+use Rattle.four_point.proofs.on_residue_join.HalfUnits.{counts_its_result}
+use Rattle.segment.specs.segment_rules.Parts.{PartsValue}
 use Rattle.segment.specs.Segment.{SegmentValue, IsSegment}
 use Rattle.segment.specs.Parts.{parts_of}
 use Rattle.segment.specs.Figures.{halves_of}

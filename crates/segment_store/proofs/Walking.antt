@@ -3,10 +3,10 @@ use Rattle.std.proofs.Common.{◌≡◌, ℕ, ◌+◌, ◌-◌, ◌<◌, false, 
 use Rattle.std.specs.Prelude.{Result, Ok, Err, OnOk}
 use Rattle.std.specs.Result.{is_err}
 use Rattle.std.proofs.lemmas.List.{drop_more}
-use Rattle.station.specs.Station.{Image}
+use Rattle.outside.specs.station.Station.{Image}
 use Rattle.calibration.specs.declared.setup.Setup.{Setup}
-use Rattle.segment_bytes.specs.declared.layout.Layout.{Layout}
-use Rattle.segment_rules.specs.Parts.{PartsValue}
+use Rattle.store_bytes.specs.declared.segment_bytes.layout.Layout.{Layout}
+use Rattle.segment.specs.segment_rules.Parts.{PartsValue}
 use Rattle.segment.specs.Segment.{SegmentValue}
 use Rattle.segment.specs.Parts.{parts_of}
 use Rattle.segment_store.specs.declared.damage.Damage.{Damage}

@@ -7,10 +7,9 @@ use Rattle.std.specs.Prelude.{ℕ, List, ◌++◌, codes}
 use Rattle.std.specs.Fmt.{decimal}
 use Rattle.segment.specs.Faults.{refusal_text}
 use Rattle.segment.specs.declared.segment.join.JoinRefusal.TheVariants as joints
-use Rattle.segment_bytes.specs.Faults.{bytes_text}
-use Rattle.store_head.specs.FaultText.{head_text}
-pub use Rattle.store_head.specs.FaultText.{field_text}
-use Rattle.store_head.specs.declared.fault.HeadFault.TheVariants as heads
+use Rattle.store_bytes.specs.segment_bytes.Faults.{bytes_text}
+use Rattle.store_bytes.specs.store_head.FaultText.{head_text}
+use Rattle.store_bytes.specs.declared.store_head.fault.HeadFault.TheVariants as heads
 use Rattle.segment_store.specs.declared.damage.Damage.{Damage}
 use Rattle.segment_store.specs.declared.damage.Damage.TheVariants.{Cut, Length, Digest, Bytes, Gauge, Empty, Join}
 use Rattle.segment_store.specs.declared.fault.ResumeFault.{ResumeFault}

@@ -3,15 +3,15 @@
 --   IsKept      the place is near and not before the number of bodies, the buffer has room for a body, each gauge is
 --               held, and version 1 has at most 128 classes
 use Rattle.std.specs.Prelude.{◌≡◌, ◌≤◌, ◌+◌, List, length, vec_len}
-use Rattle.segment_rules.specs.Parts.{PartsValue}
-use Rattle.segment_bytes.specs.Sizes.{max_body}
-use Rattle.segment_bytes.specs.declared.layout.Layout.TheVariants.{One}
+use Rattle.segment.specs.segment_rules.Parts.{PartsValue}
+use Rattle.store_bytes.specs.segment_bytes.Sizes.{max_body}
+use Rattle.store_bytes.specs.declared.segment_bytes.layout.Layout.TheVariants.{One}
 use Rattle.segment_store.specs.declared.putting.State.{State}
-use Rattle.store_head.specs.Head.{see_head}
+use Rattle.store_bytes.specs.store_head.Head.{see_head}
 use Rattle.segment_store.specs.Held.{AreHeld, ends_of}
 use Rattle.segment_store.specs.Moments.{StoreValue}
 use Rattle.segment_store.specs.Places.{IsNear}
-use Rattle.segment_bytes.specs.declared.layout.TheConstants.{MAX_CLASSES_ONE}
+use Rattle.store_bytes.specs.declared.segment_bytes.layout.TheConstants.{MAX_CLASSES_ONE}
 use Rattle.segment_store.specs.declared.filling.TheConstants.{FRAME_LENGTH}
 
 abbrev pub see_state : State → StoreValue

@@ -12,5 +12,3 @@ pub mod Putting
 pub mod Quiet
 pub mod Reading
 pub mod Resuming
-pub use Rattle.store_head.specs.Head
-pub use Rattle.store_head.specs.declared.fault.Field

@@ -3,14 +3,14 @@
 --   IsFound      up to a closed gate
 --   NoDamage     no damaged body
 use Rattle.std.specs.Prelude.{◌≡◌, ◌≢◌, ◌≤◌, ℕ, List, ◌∷◌, ◌++◌, length, Result, Ok, Err, ◌+◌, drop}
-use Rattle.station.specs.Station.{Image}
+use Rattle.outside.specs.station.Station.{Image}
 use Rattle.calibration.specs.declared.setup.Setup.{Setup}
-use Rattle.segment_rules.specs.Parts.{PartsValue}
-use Rattle.segment_bytes.specs.declared.layout.Layout.{Layout}
-use Rattle.segment_bytes.specs.Grammar.{body_of}
+use Rattle.segment.specs.segment_rules.Parts.{PartsValue}
+use Rattle.store_bytes.specs.declared.segment_bytes.layout.Layout.{Layout}
+use Rattle.store_bytes.specs.segment_bytes.Grammar.{body_of}
 use Rattle.segment_store.specs.declared.damage.Stop.{Stop}
 use Rattle.segment_store.specs.declared.damage.Stop.TheVariants as stops
-use Rattle.store_head.specs.Head.{IsSetup}
+use Rattle.store_bytes.specs.store_head.Head.{IsSetup}
 use Rattle.segment_store.specs.Image.{open_bodies, Tiles, IsBody}
 
 pub record StartsAt (l : Layout) (setup : Setup) (limit : ℕ) (image : Image) (at : ℕ) (ends : List ℕ)

@@ -1,20 +1,20 @@
 ghost use Rattle.std.specs.Prelude.{◌≡◌, ◌↔◌, ◌<◌, ◌≤◌, ◌+◌, ◌++◌, IsTrue, length, slice_index, IfOk, IfErr};
 ghost use Rattle.sha2.specs.Sha256.{sha256};
 ghost use Rattle.segment.specs.Parts.{parts_of};
-ghost use Rattle.segment_bytes.specs.Decoding.{IsBodyOf};
-ghost use Rattle.segment_bytes.specs.declared.layout.Layout.TheVariants.{One};
+ghost use Rattle.store_bytes.specs.segment_bytes.Decoding.{IsBodyOf};
+ghost use Rattle.store_bytes.specs.declared.segment_bytes.layout.Layout.TheVariants.{One};
 ghost use Rattle.calibration.specs.Grid.{IsGrid};
 ghost use Rattle.segment_store.specs.Held.{ends_of};
 ghost use Rattle.segment_store.specs.Resuming.{Checks, TellsAs, StopsAs, IsNotDisk};
-ghost use Rattle.segment_bytes.specs.declared.layout.TheConstants.{MAX_CLASSES_ONE};
+ghost use Rattle.store_bytes.specs.declared.segment_bytes.layout.TheConstants.{MAX_CLASSES_ONE};
 
 use crate::damage::{Damage, Stop};
 use crate::held::Held;
 use calibration::Setup;
 use segment::{JoinRefusal, Segment};
-use segment_bytes::{BytesFault, Layout, decode};
 use sha2::{Digest, Sha256};
 use std::alloc::Global;
+use store_bytes::segment_bytes::{BytesFault, Layout, decode};
 
 pub(crate) fn digest_of(field: &[u8], body: &[u8]) -> [u8; 32]
     ensures { result ≡ sha256 (field.now ++ body.now) }

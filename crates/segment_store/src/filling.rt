@@ -2,16 +2,16 @@ ghost use Rattle.std.specs.Prelude.{◌≡◌, ◌+◌, ◌-◌, ◌<◌, ◌≤
 ghost use Rattle.std.specs.Int.{to_be_bytes};
 ghost use Rattle.sha2.specs.Sha256.{sha256};
 ghost use Rattle.segment.specs.Parts.{parts_of};
-ghost use Rattle.segment_bytes.specs.Grammar.{body_of};
-ghost use Rattle.segment_bytes.specs.Sizes.{max_body, max_body_of};
-ghost use Rattle.segment_bytes.specs.declared.layout.Layout.TheVariants.{One};
+ghost use Rattle.store_bytes.specs.segment_bytes.Grammar.{body_of};
+ghost use Rattle.store_bytes.specs.segment_bytes.Sizes.{max_body, max_body_of};
+ghost use Rattle.store_bytes.specs.declared.segment_bytes.layout.Layout.TheVariants.{One};
 ghost use Rattle.segment_store.specs.Image.{with_length, with_digest};
-ghost use Rattle.segment_bytes.specs.declared.layout.TheConstants.{MAX_CLASSES_ONE};
+ghost use Rattle.store_bytes.specs.declared.segment_bytes.layout.TheConstants.{MAX_CLASSES_ONE};
 ghost use Rattle.segment_store.specs.declared.filling.TheConstants.{FRAME_LENGTH};
 
 use segment::Segment;
-use segment_bytes::{Layout, encode};
 use sha2::{Digest, Sha256};
+use store_bytes::segment_bytes::{Layout, encode};
 
 /// The bytes around a body of a store: its gate, its length and its SHA-256.
 pub const FRAME_LENGTH: usize = 37;

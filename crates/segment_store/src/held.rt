@@ -1,12 +1,11 @@
 ghost use Rattle.std.specs.Prelude.{◌≡◌, ◌<◌, ◌++◌, [], ◌∷◌, List, length, replicate, slice_index, slice_index_or, IfOk};
-ghost use Rattle.segment_rules.specs.Parts.{PartsValue};
+ghost use Rattle.segment.specs.segment_rules.Parts.{PartsValue};
 ghost use Rattle.segment.specs.Parts.{parts_of};
 ghost use Rattle.segment.specs.Segment.{SegmentValue};
 ghost use Rattle.segment_store.specs.Held.{AreHeld, ends_of};
 ghost use Rattle.segment_store.specs.Image.{ends_after};
 
-use calibration::Grid;
-use recording::MAX_SAMPLES;
+use calibration::{Grid, MAX_SAMPLES};
 use segment::Segment;
 use std::alloc::{AllocError, AllocFailed, Global};
 use std::marker::Model;

@@ -29,4 +29,3 @@ pub use beginning::init;
 pub use damage::Damage;
 pub use fault::{InitFault, PutFault, ResumeFault};
 pub use store::Store;
-pub use store_head::{Field, Heads, StoreHead};

@@ -1,10 +1,10 @@
 ghost use Rattle.std.specs.Prelude.{◌≡◌, ◌<◌, ◌≤◌, ◌+◌, ◌*◌, ℕ, List, length, take, false, Err, IfOk};
 ghost use Rattle.outside.specs.Fault.{CountRose};
-ghost use Rattle.segment_rules.specs.Parts.{PartsValue};
-ghost use Rattle.segment_bytes.specs.Sizes.{max_body as longest_body};
-ghost use Rattle.segment_bytes.specs.declared.layout.Layout.TheVariants.{One};
-ghost use Rattle.store_head.specs.Head.{HeadValue, IsHead, see_head, head_of, start_of};
-ghost use Rattle.store_head.specs.HeadFaults.{head_fault, layout_in};
+ghost use Rattle.segment.specs.segment_rules.Parts.{PartsValue};
+ghost use Rattle.store_bytes.specs.segment_bytes.Sizes.{max_body as longest_body};
+ghost use Rattle.store_bytes.specs.declared.segment_bytes.layout.Layout.TheVariants.{One};
+ghost use Rattle.store_bytes.specs.store_head.Head.{HeadValue, IsHead, see_head, head_of, start_of};
+ghost use Rattle.store_bytes.specs.store_head.HeadFaults.{head_fault, layout_in};
 ghost use Rattle.segment_store.specs.Held.{AreHeld, ends_of};
 ghost use Rattle.segment_store.specs.Image.{Reads, nothing_held};
 ghost use Rattle.segment_store.specs.Keeping.{IsKept, see_state};
@@ -21,7 +21,7 @@ ghost use Rattle.segment_store.specs.Reading.{StartsAt, IsFound};
 ghost use Rattle.segment_store.specs.declared.fault.ResumeFault.TheVariants.{DiskFault};
 ghost use Rattle.segment_store.specs.declared.putting.State.{State as StateIs};
 ghost use Rattle.calibration.specs.declared.limits.TheConstants.{MAX_GAUGES};
-ghost use Rattle.segment_bytes.specs.declared.layout.TheConstants.{MAX_CLASSES_ONE};
+ghost use Rattle.store_bytes.specs.declared.segment_bytes.layout.TheConstants.{MAX_CLASSES_ONE};
 
 use crate::damage::Stop;
 use crate::fault::ResumeFault;
@@ -32,10 +32,10 @@ use crate::putting::State;
 use crate::resuming::walk;
 use calibration::Setup;
 use outside::Failed;
-use segment_bytes::{Layout, max_body};
-use station::Station;
+use outside::station::Station;
 use std::alloc::Global;
-use store_head::{FRONT_LENGTH, GAUGE_LENGTH, StoreHead};
+use store_bytes::segment_bytes::{Layout, max_body};
+use store_bytes::store_head::{FRONT_LENGTH, GAUGE_LENGTH, StoreHead};
 
 fn fault_of(index: u64, stop: Stop) -> ResumeFault
     ensures fault { result ≡ fault_is index stop }

@@ -1,8 +1,8 @@
 ghost use Rattle.std.specs.Prelude.{◌≡◌, ◌<◌, ◌≤◌, ◌+◌, ◌^◌, [], List, ℕ, length, slice_index, Err, IfOk, IfErr};
-ghost use Rattle.segment_rules.specs.Parts.{PartsValue};
+ghost use Rattle.segment.specs.segment_rules.Parts.{PartsValue};
 ghost use Rattle.segment.specs.Parts.{parts_of};
 ghost use Rattle.outside.specs.Fault.{CountRose};
-ghost use Rattle.segment_bytes.specs.declared.layout.Layout.TheVariants.{One};
+ghost use Rattle.store_bytes.specs.declared.segment_bytes.layout.Layout.TheVariants.{One};
 ghost use Rattle.segment_store.specs.Held.{AreHeld, ends_of};
 ghost use Rattle.segment_store.specs.Quiet.{IsQuiet};
 ghost use Rattle.segment_store.specs.Resuming.{Finds, TellsAs, Walks, EndsWalkAs, length_at};
@@ -10,7 +10,7 @@ ghost use Rattle.segment_store.specs.Reading.{StartsAt, NoDamage, IsFound};
 ghost use Rattle.segment_store.specs.Places.{IsStep, IsNear};
 ghost use Rattle.segment_store.specs.declared.damage.Stop.TheVariants.{Disk};
 ghost use Rattle.std.specs.Int.{w32, to_be_bytes, from_be_bytes};
-ghost use Rattle.segment_bytes.specs.declared.layout.TheConstants.{MAX_CLASSES_ONE};
+ghost use Rattle.store_bytes.specs.declared.segment_bytes.layout.TheConstants.{MAX_CLASSES_ONE};
 ghost use Rattle.segment_store.specs.declared.filling.TheConstants.{FRAME_LENGTH};
 
 use crate::checking::{check, digest_of};
@@ -19,10 +19,10 @@ use crate::filling::FRAME_LENGTH;
 use crate::held::Held;
 use calibration::Setup;
 use outside::Failed;
+use outside::station::Station;
 use segment::Segment;
-use segment_bytes::Layout;
-use station::Station;
 use std::alloc::Global;
+use store_bytes::segment_bytes::Layout;
 
 // The number in a field of length.
 fn length_of(field: &[u8]) -> u32

@@ -1,10 +1,10 @@
 ghost use Rattle.std.specs.Prelude.{◌≡◌, ◌<◌, ◌≤◌, ◌⊎◌, ◌++◌, [], ◌∷◌, ℕ, List, length, slice_index, slice_index_or, true, false, IfOk, OnOk, OnErr, Err};
 ghost use Rattle.outside.specs.Fault.{CountRose};
-ghost use Rattle.station.specs.Station.{Since};
-ghost use Rattle.segment_rules.specs.Parts.{PartsValue};
+ghost use Rattle.outside.specs.station.Station.{Since};
+ghost use Rattle.segment.specs.segment_rules.Parts.{PartsValue};
 ghost use Rattle.segment.specs.Parts.{parts_of};
 ghost use Rattle.segment.specs.Segment.{SegmentValue};
-ghost use Rattle.store_head.specs.Head.{HeadValue, see_head};
+ghost use Rattle.store_bytes.specs.store_head.Head.{HeadValue, see_head};
 ghost use Rattle.segment_store.specs.Held.{ends_of};
 ghost use Rattle.segment_store.specs.Image.{Reads, ends_after, IsNext};
 ghost use Rattle.segment_store.specs.Moments.{StoreValue, IsOn, IsThere, InPut};
@@ -19,12 +19,12 @@ use crate::fault::{PutFault, ResumeFault};
 use crate::opening::open;
 use crate::putting::State;
 use calibration::Setup;
+use outside::station::Station;
 use segment::Segment;
-use segment_bytes::Layout;
-use station::Station;
 use std::alloc::Global;
 use std::marker::Model;
-use store_head::StoreHead;
+use store_bytes::segment_bytes::Layout;
+use store_bytes::store_head::StoreHead;
 
 /// A store that was resumed.
 #[derive(Drop)]

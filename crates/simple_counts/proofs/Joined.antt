@@ -4,10 +4,10 @@ use Rattle.turning_points.specs.Points.{points}
 use Rattle.turning_points.specs.EndPoints.{EndPoints, ends_of, last_point, last_but_one, IsEnds, ends_prepend}
 use Rattle.turning_points.proofs.Zigzag.{IsZigzag, zig_points}
 use Rattle.turning_points.proofs.Over.{over, over_points, over_of_points}
-use Rattle.tables.specs.Tables.{sum_of_tables as both}
+use Rattle.tally.specs.tables.Tables.{sum_of_tables as both}
 use Rattle.simple_counts.specs.Simple.{decide, decided_at, SimpleValue, CountsHistory, IsSimple, decide_join, mark_join, join_of}
-use Rattle.level_crossing.specs.Extremes.{extremes_at}
-use Rattle.tables.proofs.Counting.{added_at, length_added}
+use Rattle.simple_counts.specs.level_crossing.Extremes.{extremes_at}
+use Rattle.tally.proofs.on_tables.Counting.{added_at, length_added}
 use Rattle.simple_counts.proofs.PutLists.{At}
 use Rattle.simple_counts.proofs.MeetsLists.{at_zero, at_one, at_many}
 use Rattle.turning_points.proofs.MeetEnds.{Left, left_zero, left_one, left_two, left_long, left_of, ends_of_both_ends, ends_of_both_few, ends_of_both_histories}

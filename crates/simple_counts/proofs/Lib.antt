@@ -10,3 +10,4 @@ pub mod Stage
 pub mod OfPoints
 pub mod Loaded
 pub mod ZeroRange
+pub mod on_level_crossing

@@ -2,13 +2,13 @@
 use Rattle.std.proofs.Common.{◌≡◌, ◌≢◌, ℕ, ◌+◌, ◌-◌, ◌<◌, ◌≤◌, ◌⊎◌, inl, inr, Bool, true, false, cond, leb, List, length, get_or, replicate, sum, refl, sym, ap, subst, ◌∙◌, arith, length-set}
 use Rattle.std.proofs.lemmas.Bool.Decides.{nat_tests}
 use Rattle.std.proofs.lemmas.Bool.{cases_eq, leb-true, leb-false}
-use Rattle.tables.specs.Bin.{Bin}
+use Rattle.tally.specs.declared.cells.Bin.{Bin}
 use Rattle.calibration.specs.declared.grid.TheConstants.{MIN_CLASSES, MAX_CLASSES}
 use Rattle.turning_points.specs.EndPoints.{EndPoints}
-use Rattle.tables.specs.Tables.{lower, table_with_bins, is_at}
-use Rattle.tables.specs.Bins.{count_at, sum_of}
-use Rattle.tables.proofs.Counting.{lower_at, sum_lower}
-use Rattle.tables.proofs.Filled.{filled_at, filled_sum, filled_long, table_at, table_sum, table_long, placed_counts, count_below, count_above}
+use Rattle.tally.specs.tables.Tables.{lower, table_with_bins, is_at}
+use Rattle.tally.specs.tables.Bins.{count_at, sum_of}
+use Rattle.tally.proofs.on_tables.Counting.{lower_at, sum_lower}
+use Rattle.tally.proofs.on_tables.Filled.{filled_at, filled_sum, filled_long, table_at, table_sum, table_long, placed_counts, count_below, count_above}
 use Rattle.simple_counts.specs.Simple.{IsSimple, open_at, range_count, peak_count, valley_count}
 use Rattle.simple_counts.specs.Loading.{CountsEnds, CanLoad, first_range, last_range, decided_of, loaded_of}
 use Rattle.simple_counts.proofs.PutLists.{range_below}

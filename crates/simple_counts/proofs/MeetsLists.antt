@@ -5,7 +5,7 @@ use Rattle.turning_points.proofs.Zigzag.{add, is_added, IsZigzag, zig_added}
 use Rattle.turning_points.proofs.Over.{over}
 use Rattle.turning_points.proofs.Joining.{met_points, met, tail, put_is, last_behind, before_behind}
 use Rattle.simple_counts.specs.Simple.{decide, mark, decided_at}
-use Rattle.level_crossing.specs.Extremes.{extremes_at}
+use Rattle.simple_counts.specs.level_crossing.Extremes.{extremes_at}
 use Rattle.simple_counts.proofs.Triples.{triples_join, range_side, extreme_side}
 use Rattle.turning_points.proofs.Put.{put_same}
 use Rattle.turning_points.proofs.PutEnds.{put_ends}

@@ -13,10 +13,10 @@ use Rattle.turning_points.proofs.Zigzag.{IsZigzag, none, one, two, inner, ends_d
 use Rattle.turning_points.proofs.Over.{own}
 use Rattle.turning_points.proofs.PushEnds.{list_ends}
 use Rattle.turning_points.proofs.EndPlaces.{last_place, before_place}
-use Rattle.tables.specs.Tables.{raise}
+use Rattle.tally.specs.tables.Tables.{raise}
 use Rattle.simple_counts.specs.Simple.{AreExtremes, HasRanges, SimpleValue, CountsHistory, OfFront, IsSimple, decided_at, push_of, value_of}
-use Rattle.level_crossing.specs.Extremes.{extremes_at, is_extreme}
-use Rattle.level_crossing.proofs.Extremes.{none_of_two}
+use Rattle.simple_counts.specs.level_crossing.Extremes.{extremes_at, is_extreme}
+use Rattle.simple_counts.proofs.on_level_crossing.Extremes.{none_of_two}
 use Rattle.simple_counts.proofs.Pushed.{pushed_counted, pushed_counts}
 use Rattle.simple_counts.proofs.Stage.{value_same}
 use Rattle.turning_points.specs.declared.ends.TheConstants.{MAX_POINTS}

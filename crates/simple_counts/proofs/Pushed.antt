@@ -9,10 +9,10 @@ use Rattle.turning_points.proofs.Zigzag.{IsZigzag, zig_points}
 use Rattle.turning_points.proofs.Over.{points_inside}
 use Rattle.turning_points.proofs.Joining.{tail, last_behind, before_behind}
 use Rattle.turning_points.proofs.Push.{two_levels, same_level, push_turn, push_between, push_equal, end_differs}
-use Rattle.tables.specs.Tables.{raise, is_at}
+use Rattle.tally.specs.tables.Tables.{raise, is_at}
 use Rattle.simple_counts.specs.Simple.{decided_at, SimpleValue, CountsHistory, IsSimple, push_of}
-use Rattle.level_crossing.specs.Extremes.{extremes_at, is_extreme}
-use Rattle.tables.proofs.Counting.{raise_at, sum_raise}
+use Rattle.simple_counts.specs.level_crossing.Extremes.{extremes_at, is_extreme}
+use Rattle.tally.proofs.on_tables.Counting.{raise_at, sum_raise}
 use Rattle.simple_counts.proofs.Triples.{triples_join, range_side, extreme_side}
 use Rattle.simple_counts.proofs.PutLists.{range_below}
 use Rattle.turning_points.specs.declared.ends.TheConstants.{MAX_POINTS}

@@ -6,10 +6,10 @@ use Rattle.turning_points.specs.Points.{IsBetween, IsTurn}
 use Rattle.turning_points.specs.Pairs.{range}
 use Rattle.turning_points.specs.EndPoints.{EndPoints, ends_of, IsEnds, ends_prepend}
 use Rattle.turning_points.proofs.Zigzag.{Added, first, equal, second, turn, between}
-use Rattle.tables.specs.Tables.{raise, lower, is_at}
+use Rattle.tally.specs.tables.Tables.{raise, lower, is_at}
 use Rattle.simple_counts.specs.Simple.{Agrees, decide, mark, decided_at}
-use Rattle.level_crossing.specs.Extremes.{extremes_at, is_extreme}
-use Rattle.tables.proofs.Counting.{raise_at, lower_at, sum_raise, sum_lower}
+use Rattle.simple_counts.specs.level_crossing.Extremes.{extremes_at, is_extreme}
+use Rattle.tally.proofs.on_tables.Counting.{raise_at, lower_at, sum_raise, sum_lower}
 use Rattle.turning_points.proofs.PutEnds.{case_of}
 use Rattle.turning_points.proofs.Put.{PutCase, at_none, at_equal, at_second, at_turn, at_passed, put_none, put_equal, put_second, put_turn, put_two, put_passed}
 use Rattle.simple_counts.proofs.PutTables.{decide_short, decide_equal, decide_turn, decide_two, decide_passed, mark_short, mark_equal, mark_turn, mark_passed}

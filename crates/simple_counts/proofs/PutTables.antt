@@ -4,9 +4,9 @@ use Rattle.std.proofs.lemmas.Bool.Decides.{nat_tests}
 use Rattle.turning_points.specs.Points.{IsBetween, IsTurn}
 use Rattle.turning_points.specs.Pairs.{range}
 use Rattle.turning_points.specs.EndPoints.{EndPoints}
-use Rattle.tables.specs.Tables.{raise, lower}
+use Rattle.tally.specs.tables.Tables.{raise, lower}
 use Rattle.simple_counts.specs.Simple.{decide, mark}
-use Rattle.level_crossing.specs.Extremes.{is_extreme}
+use Rattle.simple_counts.specs.level_crossing.Extremes.{is_extreme}
 
 pub decide_short : (x : ℕ) (e : EndPoints) (t : List ℕ) → e.points < 2 → decide x e t ≡ t
 decide_short x e t h = grind (arith, nat_tests)

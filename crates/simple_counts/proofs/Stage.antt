@@ -2,13 +2,13 @@
 use Rattle.std.proofs.Common.{◌≡◌, ℕ, ◌+◌, ◌-◌, ◌^◌, ◌<◌, ◌≤◌, cond, leb, ◌&&◌, List, length, get_or, sum, refl, sym, ap, ◌∙◌, subst, arith}
 use Rattle.turning_points.specs.Pairs.{range}
 use Rattle.turning_points.specs.EndPoints.{EndPoints, IsEnds, ends_prepend, ends_of_both, ends_push}
-use Rattle.tables.specs.Tables.{sum_of_tables as both, raise}
+use Rattle.tally.specs.tables.Tables.{sum_of_tables as both, raise}
 use Rattle.simple_counts.proofs.Joined.{joined_counted}
 use Rattle.simple_counts.proofs.Pushed.{pushed_counted}
 use Rattle.simple_counts.specs.Simple.{SimpleValue, IsSimple, Agrees, none_at, decide, mark, decide_join, mark_join, turns_at}
-use Rattle.level_crossing.specs.Extremes.{is_extreme}
+use Rattle.simple_counts.specs.level_crossing.Extremes.{is_extreme}
 use Rattle.lemmas.proofs.Sums.{get_or-le-sum}
-use Rattle.tables.proofs.Counting.{added_at, sum_added, length_added}
+use Rattle.tally.proofs.on_tables.Counting.{added_at, sum_added, length_added}
 use Rattle.turning_points.proofs.Put.{put_first}
 use Rattle.simple_counts.proofs.PutLists.{put_agrees, decide_length, mark_length}
 use Rattle.turning_points.proofs.PutEnds.{case_of, put_ends}

@@ -6,7 +6,7 @@ use Rattle.turning_points.specs.EndPoints.{EndPoints, IsEnds, ends_prepend}
 use Rattle.turning_points.proofs.Put.{PutCase, at_none, at_equal, at_second, at_turn, at_passed}
 use Rattle.turning_points.proofs.PutEnds.{case_of, put_ends, turn_differs, between_differs}
 use Rattle.turning_points.proofs.MeetEnds.{Left, left_zero, left_one, left_two, left_long, left_of}
-use Rattle.tables.specs.Tables.{lower}
+use Rattle.tally.specs.tables.Tables.{lower}
 use Rattle.simple_counts.specs.Simple.{decide, decide_join}
 use Rattle.simple_counts.proofs.PutTables.{decide_short, decide_equal, decide_turn, decide_two, decide_passed}
 use Rattle.simple_counts.proofs.Meets.{decide_join_zero, decide_join_one, decide_join_more}

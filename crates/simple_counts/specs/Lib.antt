@@ -1,3 +1,3 @@
 pub mod Simple
 pub mod Loading
-pub use Rattle.tables.specs.Bins
+pub mod level_crossing

@@ -4,11 +4,11 @@
 --   CanLoad       ends, peaks, valleys and ranges that it can take over
 --   loaded_of     the value with them
 use Rattle.std.specs.Prelude.{◌≡◌, ◌≤◌, ℕ, ◌+◌, ◌-◌, nat_le, if◌then◌else◌, List, replicate}
-use Rattle.tables.specs.Bin.{Bin}
+use Rattle.tally.specs.declared.cells.Bin.{Bin}
 use Rattle.turning_points.specs.Pairs.{range}
 use Rattle.turning_points.specs.EndPoints.{EndPoints, IsEnds}
-use Rattle.tables.specs.Tables.{table_with_bins, lower}
-use Rattle.tables.specs.Bins.{AreBinsFrom, count_at, sum_of}
+use Rattle.tally.specs.tables.Tables.{table_with_bins, lower}
+use Rattle.tally.specs.tables.Bins.{AreBinsFrom, count_at, sum_of}
 use Rattle.simple_counts.specs.Simple.{SimpleValue}
 use Rattle.turning_points.specs.declared.ends.TheConstants.{MAX_POINTS}
 

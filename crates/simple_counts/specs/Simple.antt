@@ -12,8 +12,8 @@ use Rattle.std.specs.Prelude.{◌≡◌, ℕ, ◌+◌, ◌-◌, ◌<◌, ◌≤�
 use Rattle.turning_points.specs.Points.{is_turn, points}
 use Rattle.turning_points.specs.Pairs.{range}
 use Rattle.turning_points.specs.EndPoints.{EndPoints, IsEnds, ends_of, ends_push, ends_of_both, no_ends, ends_prepend}
-use Rattle.level_crossing.specs.Extremes.{extremes_at, is_extreme, triples}
-use Rattle.tables.specs.Tables.{sum_of_tables, is_at, lower, raise}
+use Rattle.simple_counts.specs.level_crossing.Extremes.{extremes_at, is_extreme, triples}
+use Rattle.tally.specs.tables.Tables.{sum_of_tables, is_at, lower, raise}
 use Rattle.calibration.specs.declared.grid.TheConstants.{MIN_CLASSES, MAX_CLASSES}
 use Rattle.turning_points.specs.declared.ends.TheConstants.{MAX_POINTS}
 

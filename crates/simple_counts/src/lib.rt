@@ -9,6 +9,7 @@
 
 /// Laws over the definitions alone.
 pub mod laws;
+pub mod level_crossing;
 mod points;
 mod simple;
 #[cfg(test)]

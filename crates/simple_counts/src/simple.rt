@@ -3,20 +3,21 @@ ghost use Rattle.turning_points.specs.Points.{is_turn, points};
 ghost use Rattle.turning_points.specs.Pairs.{range};
 ghost use Rattle.turning_points.specs.EndPoints.{IsEnds, ends_of, ends_push, ends_of_both, no_ends};
 ghost use Rattle.turning_points.specs.Ends.{end_points};
-ghost use Rattle.level_crossing.specs.Crossings.{Crosses, CrossesPoints, IsCrossings, no_crossings};
-ghost use Rattle.tables.specs.Tables.{table_with_bins, raise};
-ghost use Rattle.tables.specs.Bins.{count_at};
+ghost use Rattle.simple_counts.specs.level_crossing.Crossings.{Crosses, CrossesPoints, IsCrossings, no_crossings};
+ghost use Rattle.tally.specs.tables.Tables.{table_with_bins, raise};
+ghost use Rattle.tally.specs.tables.Bins.{count_at};
 ghost use Rattle.simple_counts.specs.Loading.{CanLoad, decided_of, last_range, loaded_of};
 ghost use Rattle.simple_counts.specs.Simple.{SimpleValue, CountsHistory, IsSimple, decide, decide_join, join_of, mark, mark_join, nothing, peak_count, peaks_at, push_of, range_count, ranges_at, turns_at, valley_count, valleys_at};
-ghost use Rattle.level_crossing.specs.Extremes.{is_extreme};
+ghost use Rattle.simple_counts.specs.level_crossing.Extremes.{is_extreme};
 ghost use Rattle.turning_points.specs.declared.ends.TheConstants.{MAX_POINTS};
 
+use crate::level_crossing::Crossings;
 use crate::points::fill;
 use calibration::Grid;
-use level_crossing::Crossings;
 use std::alloc::{AllocError, Global};
 use std::marker::Model;
-use tables::{Bin, add_to, empty, fill as fill_bins, lower, raise, raise_if};
+use tally::Bin;
+use tally::tables::{add_to, empty, fill as fill_bins, lower, raise, raise_if};
 use turning_points::{Ends, ends_of, join_ends, no_ends, put_before, put_behind};
 
 /// Counts of simple ranges, peaks and valleys of a history. The last range is not in the table

@@ -1,12 +1,12 @@
 ghost use Rattle.std.specs.Prelude.{◌≡◌, IfOk};
 
 use super::*;
+use crate::level_crossing::Crossings;
 use calibration::Grid;
-use level_crossing::Crossings;
 use std::alloc::{AllocError, Global};
 use std::process::Abort;
 use std::test::Fail;
-use tables::Bin;
+use tally::Bin;
 use turning_points::ends_of;
 
 // The standard's own example, on 16 classes of 1 N/mm² from -8 N/mm², with the reference at 0.

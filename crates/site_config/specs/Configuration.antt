@@ -11,9 +11,9 @@ use Rattle.toml.specs.Data.{Data, as_table, Members, get_member}
 use Rattle.toml.specs.Parse.{parse_document}
 use Rattle.calibration.specs.Gain.{GainValue}
 use Rattle.calibration.specs.Grid.{GridValue}
-use Rattle.sn_curve.specs.Detail.{DetailValue, categories, is_among, partial_factors}
-use Rattle.sn_curve.specs.declared.detail.Kind.{Kind}
-use Rattle.sn_curve.specs.declared.detail.Kind.TheVariants.{Normal, Shear}
+use Rattle.damage.specs.sn_curve.Detail.{DetailValue, categories, is_among, partial_factors}
+use Rattle.damage.specs.declared.sn_curve.detail.Kind.{Kind}
+use Rattle.damage.specs.declared.sn_curve.detail.Kind.TheVariants.{Normal, Shear}
 use Rattle.calibration.specs.declared.grid.TheConstants.{MIN_CLASSES, MAX_CLASSES, MAX_SPAN, MAX_LOW_KPA}
 use Rattle.calibration.specs.declared.gain.TheConstants.{MAX_NUM, MAX_DEN, MAX_OFFSET}
 use Rattle.site_config.specs.declared.limits.TheConstants.{MAX_BYTES, MAX_GAUGES, MAX_DETAILS, MAX_BLOCK, DEFAULT_BLOCK, MAX_WORKERS, DEFAULT_WORKERS}

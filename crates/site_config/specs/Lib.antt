@@ -3,3 +3,4 @@ pub mod FaultText
 pub mod Fields
 pub mod Configuration
 pub mod Valid
+pub mod recorded

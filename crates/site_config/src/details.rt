@@ -1,7 +1,7 @@
 ghost use Rattle.std.specs.Prelude.{◌≡◌, ◌≤◌, ◌<◌, [], length, map};
 ghost use Rattle.toml.specs.Data.{as_table};
 ghost use Rattle.toml.specs.View.{view, table_view};
-ghost use Rattle.sn_curve.specs.Detail.{categories, is_among};
+ghost use Rattle.damage.specs.sn_curve.Detail.{categories, is_among};
 ghost use Rattle.site_config.specs.declared.limits.TheConstants.{MAX_DETAILS, MAX_GAUGES};
 ghost use Rattle.site_config.specs.Keys.{detail_key};
 ghost use Rattle.site_config.specs.Fields.{Gives, unless_taken_before, place_of};
@@ -10,7 +10,7 @@ ghost use Rattle.site_config.specs.Configuration.{detail_in, details_after, deta
 use crate::fields::{name_at, natural_at, text_at};
 use crate::gauges::{place_of_gauge, text_of};
 use crate::{ConfigFault, Gauge, Key, KeyName, NamedDetail, Part};
-use sn_curve::{Detail, DetailFault, Kind};
+use damage::sn_curve::{Detail, DetailFault, Kind};
 use std::alloc::Global;
 use toml::{Table, Value};
 

@@ -19,6 +19,7 @@ mod gauges;
 mod limits;
 mod names;
 mod reading;
+pub mod recorded;
 mod sections;
 mod text;
 

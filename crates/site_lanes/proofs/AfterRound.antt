@@ -8,18 +8,18 @@ use Rattle.std.proofs.lemmas.Bool.Decides.{nat_tests}
 use Rattle.std.proofs.lemmas.List.{length-drop, drop-drop}
 use Rattle.outside.specs.Fault.{CountRose}
 use Rattle.recording.specs.Samples.{samples, torn_bytes}
-use Rattle.recording.specs.declared.TheConstants.{MAX_SAMPLES}
+use Rattle.calibration.specs.declared.limits.TheConstants.{MAX_SAMPLES}
 use Rattle.recording.proofs.SampleLists.{length-samples, samples-drop, torn_bytes-drop}
-use Rattle.lane_ends.specs.declared.end.End.{End}
-use Rattle.lane_ends.specs.declared.end.End.TheVariants.{More, Ended, Torn, ReadFault, TooLong}
-use Rattle.lane_ends.specs.Ends.{IsRead}
-use Rattle.lane_ends.proofs.Giving.{more_or_not}
-use Rattle.count_workers.specs.Lane.{Lane}
-use Rattle.count_workers.specs.Round.{LaneDone}
-use Rattle.recorded.specs.Recorded.{Recorded}
+use Rattle.recording.specs.declared.lane_ends.end.End.{End}
+use Rattle.recording.specs.declared.lane_ends.end.End.TheVariants.{More, Ended, Torn, ReadFault, TooLong}
+use Rattle.recording.specs.lane_ends.Ends.{IsRead}
+use Rattle.recording.proofs.on_lane_ends.Giving.{more_or_not}
+use Rattle.count_workers.specs.declared.lane_loans.lane.Lane.{Lane}
+use Rattle.count_workers.specs.round_making.Round.{LaneDone}
+use Rattle.site_config.specs.recorded.Recorded.{Recorded}
 use Rattle.site_lanes.specs.Lanes.{SourceStands, IsLane, IsFaulty}
 use Rattle.lemmas.proofs.Outcomes.{same_some}
-use Rattle.flow.specs.declared.TheConstants.{BLOCKS_PER_WINDOW}
+use Rattle.board.specs.declared.flow.TheConstants.{BLOCKS_PER_WINDOW}
 
 -- the rule of how a lane ends, over plain numbers
 abbrev end_by : ℕ → ℕ → ℕ → ℕ → End

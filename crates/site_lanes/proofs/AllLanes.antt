@@ -2,15 +2,15 @@
 use Rattle.std.proofs.Common.{◌≡◌, ◌≤◌, ◌<◌, ℕ, ◌+◌, ◌*◌, min, List, length, sym, ◌∙◌, arith}
 use Rattle.std.specs.Prelude.{slice_index_or}
 use Rattle.std.specs.List.{All}
-use Rattle.recording.specs.declared.TheConstants.{MAX_SAMPLES}
-use Rattle.lane_ends.specs.declared.end.End.TheVariants.{More, ReadFault, TooLong}
-use Rattle.count_workers.specs.Lane.{Lane}
-use Rattle.count_workers.specs.Resting.{PreparedValue}
-use Rattle.count_workers.specs.Round.{LaneDone, RoundDone}
-use Rattle.recorded.specs.Recorded.{Recorded}
+use Rattle.calibration.specs.declared.limits.TheConstants.{MAX_SAMPLES}
+use Rattle.recording.specs.declared.lane_ends.end.End.TheVariants.{More, ReadFault, TooLong}
+use Rattle.count_workers.specs.declared.lane_loans.lane.Lane.{Lane}
+use Rattle.count_workers.specs.round_making.Resting.{PreparedValue}
+use Rattle.count_workers.specs.round_making.Round.{LaneDone, RoundDone}
+use Rattle.site_config.specs.recorded.Recorded.{Recorded}
 use Rattle.site_lanes.specs.Lanes.{AreReady, AreLanes, HasSource, IsFaulty, IsWhole}
 use Rattle.site_lanes.proofs.AfterRound.{lane_after, faulty_after, reached}
-use Rattle.flow.specs.declared.TheConstants.{BLOCKS_PER_WINDOW}
+use Rattle.board.specs.declared.flow.TheConstants.{BLOCKS_PER_WINDOW}
 
 module _ {C : Type 0} {tells : Type 0} {left : C → List ℕ} {faults : C → ℕ} {old new : PreparedValue} {lanes lanes2 : List (Lane C)}
     (done : RoundDone tells left faults old new lanes lanes2) (count : length lanes ≡ old.gauges) (ready : AreReady lanes) where

@@ -11,11 +11,11 @@ use Rattle.std.specs.Prelude.{◌≡◌, ◌<◌, ℕ, nat_lt, ◌==◌, if◌th
 use Rattle.outside.specs.Site.{Files}
 use Rattle.recording.specs.Samples.{samples, torn_bytes}
 use Rattle.recording.specs.Head.{recording_head}
-use Rattle.recording.specs.declared.TheConstants.{MAX_SAMPLES}
+use Rattle.calibration.specs.declared.limits.TheConstants.{MAX_SAMPLES}
 use Rattle.recording.specs.declared.head.Head.{Head}
 use Rattle.site_config.specs.declared.config.Config.{Config}
 use Rattle.site_config.specs.Valid.{file_of}
-use Rattle.recorded.specs.Recorded.{body_in}
+use Rattle.site_config.specs.recorded.Recorded.{body_in}
 use Rattle.status.specs.declared.status.RecordingFault.{RecordingFault}
 use Rattle.status.specs.declared.status.Status.{Status}
 use Rattle.status.specs.declared.status.Status.TheVariants.{Recording, Torn, ReadFault, TooLong}

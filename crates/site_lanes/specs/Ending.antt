@@ -2,9 +2,9 @@
 --   lane_fault     that of a lane that has not ended soundly
 --   FirstFault     that of the lowest such lane
 use Rattle.std.specs.Prelude.{◌≡◌, ◌<◌, ℕ, List, length, Option, Some, None, slice_index_or}
-use Rattle.lane_ends.specs.declared.end.End.{End}
-use Rattle.lane_ends.specs.declared.end.End.TheVariants as end
-use Rattle.count_workers.specs.Lane.{Lane}
+use Rattle.recording.specs.declared.lane_ends.end.End.{End}
+use Rattle.recording.specs.declared.lane_ends.end.End.TheVariants as end
+use Rattle.count_workers.specs.declared.lane_loans.lane.Lane.{Lane}
 use Rattle.status.specs.declared.status.Status.{Status}
 use Rattle.status.specs.declared.status.Status.TheVariants.{Torn, ReadFault, TooLong}
 

@@ -6,13 +6,13 @@
 --   IsFaulty      a read fault has raised its source's count
 use Rattle.std.specs.Prelude.{◌≡◌, ◌≢◌, ◌<◌, ◌≤◌, ℕ, ℤ, List, length, drop, Some, slice_index, slice_index_or}
 use Rattle.recording.specs.Samples.{samples, torn_bytes}
-use Rattle.recording.specs.declared.TheConstants.{MAX_SAMPLES}
+use Rattle.calibration.specs.declared.limits.TheConstants.{MAX_SAMPLES}
 use Rattle.calibration.specs.Gain.{GainValue}
-use Rattle.lane_ends.specs.declared.end.End.{End}
-use Rattle.lane_ends.specs.declared.end.End.TheVariants.{More, Ended, Torn, ReadFault, TooLong}
-use Rattle.count_workers.specs.Lane.{Lane}
-use Rattle.count_workers.specs.Lent.{CanRound}
-use Rattle.recorded.specs.Recorded.{Recorded}
+use Rattle.recording.specs.declared.lane_ends.end.End.{End}
+use Rattle.recording.specs.declared.lane_ends.end.End.TheVariants.{More, Ended, Torn, ReadFault, TooLong}
+use Rattle.count_workers.specs.declared.lane_loans.lane.Lane.{Lane}
+use Rattle.count_workers.specs.lane_loans.Lent.{CanRound}
+use Rattle.site_config.specs.recorded.Recorded.{Recorded}
 
 -- of these samples, and so many bytes behind them, `at` samples were read, and the source has `left`
 abbrev pub SourceStands : List ℤ → ℕ → List ℕ → ℕ → End → Type 0

@@ -3,7 +3,3 @@ pub mod Answers
 pub mod Lanes
 pub mod Ending
 pub mod FaultText
-pub use Rattle.count_workers.specs.Round
-pub use Rattle.count_workers.specs.Resting
-pub use Rattle.count_workers.specs.Lane
-pub use Rattle.count_workers.specs.Lent

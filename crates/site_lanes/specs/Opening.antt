@@ -10,7 +10,7 @@ use Rattle.recording.specs.Samples.{samples, torn_bytes}
 use Rattle.recording.specs.Head.{recording_head}
 use Rattle.recording.specs.declared.head.Head.{Head}
 use Rattle.recording.specs.declared.head.HeadFault.{HeadFault}
-use Rattle.recorded.specs.Recorded.{body_in}
+use Rattle.site_config.specs.recorded.Recorded.{body_in}
 use Rattle.status.specs.RecordingFaults.{recording_fault_of}
 use Rattle.status.specs.declared.status.RecordingFault.{RecordingFault}
 use Rattle.status.specs.declared.status.RecordingFault.TheVariants.{Id, Period, Fewer}

@@ -13,12 +13,13 @@ ghost use Rattle.std.specs.Prelude.{
 ghost use Rattle.std.specs.List.{All};
 ghost use Rattle.outside.specs.Fault.{CountRose};
 ghost use Rattle.outside.specs.Site.{AsksNothing};
-ghost use Rattle.lane_ends.specs.declared.end.End.TheVariants.{ReadFault};
+ghost use Rattle.recording.specs.declared.lane_ends.end.End.TheVariants.{ReadFault};
 ghost use Rattle.site_lanes.specs.Lanes.{HasSource, HasEnded, IsFaulty, HasNotFailed};
 ghost use Rattle.site_lanes.specs.Ending.{FirstFault};
 
-use count_workers::{End, Lane};
+use count_workers::lane_loans::Lane;
 use outside::{Site, Source};
+use recording::lane_ends::End;
 use status::Status;
 
 /// Whether no lane goes on.

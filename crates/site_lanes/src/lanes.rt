@@ -18,11 +18,11 @@ ghost use Rattle.std.specs.Prelude.{
 ghost use Rattle.std.specs.List.{All};
 ghost use Rattle.outside.specs.Fault.{CountRose};
 ghost use Rattle.outside.specs.Site.{Asks};
-ghost use Rattle.count_workers.specs.Lent.{CanRound};
+ghost use Rattle.count_workers.specs.lane_loans.Lent.{CanRound};
 ghost use Rattle.segment_store.specs.Held.{ends_of};
 ghost use Rattle.site_config.specs.Valid.{IsConfig, file_of};
-ghost use Rattle.recorded.specs.Recorded.{recordings};
-ghost use Rattle.recorded.specs.Asked.{AsksFirst, file_names};
+ghost use Rattle.site_config.specs.recorded.Recorded.{recordings};
+ghost use Rattle.site_config.specs.recorded.Asked.{AsksFirst, file_names};
 ghost use Rattle.site_lanes.specs.Lanes.{IsLane, AreLanes, AreHeldTo, HasSource, IsNew};
 ghost use Rattle.site_lanes.specs.Answers.{IsOpening, GaugeAnswers, OpenAnswers};
 ghost use Rattle.site_lanes.specs.Opening.{opened_status};
@@ -30,8 +30,9 @@ ghost use Rattle.status.specs.declared.status.Status.TheVariants.{ReadFault};
 ghost use Rattle.outside.specs.declared.site.TheConstants.{MAX_SOURCES_OUT};
 
 use crate::opening::{OpenFault, open_recording};
-use count_workers::{End, Lane};
+use count_workers::lane_loans::Lane;
 use outside::Site;
+use recording::lane_ends::End;
 use segment_store::Store;
 use site_config::Config;
 use status::Status;

@@ -15,7 +15,6 @@ mod ending;
 mod lanes;
 mod opening;
 
-pub use count_workers::{End, Lane, OutOfMemory, Plan, Prepared};
 pub use ending::{first_fault, give_back, have_ended};
 pub use lanes::{open_lanes, opened_status};
 pub use opening::{OpenFault, open_recording};

@@ -1,6 +1,6 @@
 ghost use Rattle.std.specs.Prelude.{◌≡◌, ◌≤◌, Some, Err, OnOk};
 ghost use Rattle.outside.specs.Fault.{CountRose};
-ghost use Rattle.recorded.specs.Recorded.{body_in};
+ghost use Rattle.site_config.specs.recorded.Recorded.{body_in};
 ghost use Rattle.site_lanes.specs.Opening.{fault_of, open_fault, IsOpeningAnswer, IsBehind};
 ghost use Rattle.site_lanes.specs.declared.opening.OpenFault.TheVariants.{ReadFault};
 

@@ -3,7 +3,7 @@
 --   store_fault_text       of a store; a damaged body is told by its number
 use Rattle.std.specs.Prelude.{ℕ, List, ◌++◌, codes}
 use Rattle.std.specs.Fmt.{decimal, signed_decimal}
-pub use Rattle.segment_store.specs.FaultText.{field_text}
+use Rattle.store_bytes.specs.store_head.FaultText.{field_text}
 use Rattle.status.specs.declared.status.RecordingFault.{RecordingFault}
 use Rattle.status.specs.declared.status.RecordingFault.TheVariants as recording
 use Rattle.status.specs.declared.status.StoreFault.{StoreFault}

@@ -3,7 +3,6 @@ pub mod Refused
 pub mod Printing
 pub mod RecordingFaults
 pub mod FaultText
-pub use Rattle.segment_store.specs.declared.damage.Damage
-pub use Rattle.segment_store.specs.Quiet
-pub use Rattle.segment_store.specs.Field
-pub use Rattle.recount.specs.declared.compare.What
+pub mod line_room
+pub mod config_reading
+pub mod fault_lines

@@ -3,7 +3,7 @@
 --   IsRefused      what a store is refused for, by its image
 --   IsRefusedAs    the same, by what is told of it
 use Rattle.std.specs.Prelude.{◌≡◌, ℕ, List, Err}
-use Rattle.station.specs.Station.{Image}
+use Rattle.outside.specs.station.Station.{Image}
 use Rattle.calibration.specs.declared.setup.Setup.{Setup}
 use Rattle.segment_store.specs.Opening.{Resumes}
 use Rattle.segment_store.specs.declared.fault.ResumeFault.{ResumeFault}

@@ -5,12 +5,13 @@
 //! and what is wrong with a recording whose head has a fault that of `specs/RecordingFaults.antt`.
 #![tactic(auto)]
 
+pub mod config_reading;
+pub mod fault_lines;
+pub mod line_room;
 mod recording_faults;
 mod refused;
 mod status;
 
 pub use recording_faults::recording_fault_of;
-pub use recount::What;
 pub use refused::status_of;
-pub use segment_store::{Damage, Field};
 pub use status::{RecordingFault, Status, StoreFault};

@@ -2,10 +2,11 @@ ghost use Rattle.std.specs.Prelude.{◌≡◌, Some};
 ghost use Rattle.status.specs.Status.{code_of};
 
 use recount::What;
-use segment_store::{Damage, Field};
+use segment_store::Damage;
 use site_config::ConfigFault;
 use std::error::Error;
 use std::fmt;
+use store_bytes::store_head::Field;
 
 /// What is wrong with a recording.
 #[derive(Clone, Copy, Debug, PartialEq, Eq)]

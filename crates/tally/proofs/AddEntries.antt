@@ -10,7 +10,7 @@ use Rattle.tally.specs.declared.cells.Cell.{Cell}
 use Rattle.tally.specs.Counts.{Counts, IsCounts, IsCell, IsAscending, Before, HasGreatestRoom, HasPlace, most_cells, count_of, total_of, is_from}
 use Rattle.tally.specs.Log.{with_cell, cells_of, amount, IsLog}
 use Rattle.tally.proofs.Places.{UpTo, places_is}
-use Rattle.tally.proofs.Tables.{one_of}
+use Rattle.tally.proofs.RowTables.{one_of}
 use Rattle.tally.proofs.Ascending.{Stands, find_at, find_end, cells_fit}
 use Rattle.tally.proofs.LogCells.{amount_in, each-cells_of, ascending-cells_of, cells_of-same, cells_of-ascending, count_of-cells_of, total_of-cells_of, with_cell-from_counts, length_absent, length_parts, length_part}
 

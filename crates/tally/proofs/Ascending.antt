@@ -8,7 +8,7 @@ use Rattle.tally.specs.Counts.{is_from, count_of, Before, IsAscending, IsCell, I
 use Rattle.tally.specs.Layout.{row_start, place_of}
 use Rattle.tally.proofs.Places.{UpTo, Order, same, before, behind, order, place_within, places_ascend, places_is}
 use Rattle.tally.proofs.Walk.{count_here, count_other, from_here, from_later}
-use Rattle.tally.proofs.Tables.{one_of, one_same, one_other}
+use Rattle.tally.proofs.RowTables.{one_of, one_same, one_other}
 use Rattle.tally.proofs.Equal.{ascending_head, ascending_tail, cell_of}
 
 -- the cell is not that of the pair

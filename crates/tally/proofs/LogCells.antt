@@ -17,7 +17,7 @@ use Rattle.tally.proofs.Places.{UpTo, Order, same, before, behind, order}
 use Rattle.tally.proofs.Walk.{count_here, count_other, before_differs, behind_differs, from_here, from_later}
 use Rattle.lemmas.proofs.Naturals.{same_or_not}
 use Rattle.lemmas.proofs.Outcomes.{same_some}
-use Rattle.tally.proofs.Tables.{one_of}
+use Rattle.tally.proofs.RowTables.{one_of}
 use Rattle.tally.proofs.Equal.{ascending_head, ascending_tail, before_all, count_before, same_cells}
 use Rattle.tally.proofs.Ascending.{Differs, put_first, put_later, raise_first}
 

@@ -14,7 +14,7 @@ use Rattle.tally.specs.Counts.{Before, IsAscending, IsCell, count_of}
 use Rattle.tally.specs.Layout.{row_start, place_of, cells_from, IsListing, IsLayout}
 use Rattle.tally.proofs.Places.{Order, same, before, behind, order, places_ascend, rows_ascend}
 use Rattle.tally.proofs.Walk.{count_here, count_other, count_is, count_outside, behind_differs, ascending}
-use Rattle.tally.proofs.Tables.{At, inside, outside, at, each_of, get_outside}
+use Rattle.tally.proofs.RowTables.{At, inside, outside, at, each_of, get_outside}
 use Rattle.tally.proofs.Equal.{ascending_head, ascending_tail, same_cells, cell_of}
 use Rattle.tally.proofs.Ascending.{count_none}
 

@@ -14,3 +14,4 @@ pub mod PutEnds
 pub mod MeetEnds
 pub mod PushEnds
 pub mod EndPlaces
+pub mod on_three_point

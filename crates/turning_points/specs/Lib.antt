@@ -4,3 +4,4 @@ pub mod Turned
 pub mod Pieces
 pub mod EndPoints
 pub mod Ends
+pub mod three_point

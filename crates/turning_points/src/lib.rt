@@ -26,6 +26,7 @@ mod ends;
 mod in_place;
 #[cfg(test)]
 mod tests;
+pub mod three_point;
 mod turner;
 
 pub use direction::is_between;

@@ -1,6 +1,6 @@
 use super::FileStation;
 use outside::Failed;
-use station::Station;
+use outside::station::Station;
 use std::fs;
 use std::test::Fail;
 

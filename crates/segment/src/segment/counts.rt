@@ -4,7 +4,7 @@ ghost use Rattle.calibration.specs.History.{history};
 ghost use Rattle.turning_points.specs.Points.{points};
 ghost use Rattle.tally.specs.Counts.{IsCounts, count_of, is_from};
 ghost use Rattle.tally.specs.Room.{room_for};
-ghost use Rattle.level_crossing.specs.Crossings.{crossing_count, crossings};
+ghost use Rattle.simple_counts.specs.level_crossing.Crossings.{crossing_count, crossings};
 ghost use Rattle.simple_counts.specs.Simple.{peak_count, peaks_at, range_count, ranges_at, valley_count, valleys_at};
 ghost use Rattle.segment.specs.Segment.{IsSegment, Stands};
 

@@ -1,8 +1,8 @@
 ghost use Rattle.std.specs.Prelude.{◌≡◌, ◌≤◌, ◌<◌, ◌-◌, ◌^◌, ℕ, ℤ, List, length, slice_index};
 ghost use Rattle.calibration.specs.Gain.{GainValue};
 ghost use Rattle.calibration.specs.History.{history};
-ghost use Rattle.three_point.specs.Run.{half_units, three_point};
-ghost use Rattle.three_point.specs.Sums.{sum_at_range};
+ghost use Rattle.turning_points.specs.three_point.Run.{half_units, three_point};
+ghost use Rattle.turning_points.specs.three_point.Sums.{sum_at_range};
 ghost use Rattle.segment.specs.Segment.{Stands};
 ghost use Rattle.segment.specs.Figures.{doubled_cycles, halves_of};
 

@@ -5,7 +5,7 @@ ghost use Rattle.segment.specs.Joining.{IsJoinAnswer};
 ghost use Rattle.segment.specs.Figures.{SameKept};
 
 use super::Segment;
-use residue_join::join_residue;
+use four_point::residue_join::join_residue;
 use std::error::Error;
 use std::fmt;
 

@@ -1,27 +1,27 @@
 ghost use Rattle.std.specs.Prelude.{◌≡◌, ◌*◌, ◌≤◌, ℕ, IfOk, length};
 ghost use Rattle.calibration.specs.Grid.{IsGrid};
 ghost use Rattle.turning_points.specs.Ends.{end_points};
-ghost use Rattle.tables.specs.Bins.{count_at};
-ghost use Rattle.level_crossing.specs.Crossings.{crossing_count};
-ghost use Rattle.level_crossing.specs.Loading.{CanLoadCrossings, HasEnds};
+ghost use Rattle.tally.specs.tables.Bins.{count_at};
+ghost use Rattle.simple_counts.specs.level_crossing.Crossings.{crossing_count};
+ghost use Rattle.simple_counts.specs.level_crossing.Loading.{CanLoadCrossings, HasEnds};
 ghost use Rattle.simple_counts.specs.Loading.{CanLoad};
 ghost use Rattle.simple_counts.specs.Simple.{IsSimple, peak_count, range_count, valley_count};
 ghost use Rattle.tally.specs.Counts.{total_of};
 ghost use Rattle.tally.specs.Room.{room_for};
 ghost use Rattle.tally.specs.declared.cells.TheConstants.{MAX_TOTAL};
-ghost use Rattle.segment_rules.specs.Parts.{parts_value};
-ghost use Rattle.segment_rules.specs.Rules.{AreCells, AreSegmentParts};
+ghost use Rattle.segment.specs.segment_rules.Parts.{parts_value};
+ghost use Rattle.segment.specs.segment_rules.Rules.{AreCells, AreSegmentParts};
 ghost use Rattle.segment.specs.Loading.{Loads, longest_of};
 ghost use Rattle.segment.specs.Parts.{parts_of};
 
 use super::Segment;
 use crate::classes::Classes;
 use crate::fault::{LoadFault, fault_of};
+use crate::segment_rules::{Name, Parts, first_broken};
 use calibration::Grid;
 use four_point::Reducer;
-use level_crossing::Crossings;
-use segment_rules::{Name, Parts, first_broken};
 use simple_counts::Simple;
+use simple_counts::level_crossing::Crossings;
 use std::alloc::{AllocError, Global};
 use tally::{Cell, Tally, room_for};
 

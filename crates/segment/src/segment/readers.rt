@@ -1,12 +1,12 @@
 ghost use Rattle.std.specs.Prelude.{◌≡◌};
 ghost use Rattle.turning_points.specs.Ends.{end_points};
-ghost use Rattle.segment_rules.specs.Rules.{AreSegmentParts};
+ghost use Rattle.segment.specs.segment_rules.Rules.{AreSegmentParts};
 ghost use Rattle.segment.specs.Parts.{parts_of};
 ghost use Rattle.segment.specs.Segment.{IsSegment};
 
 use super::Segment;
+use crate::segment_rules::Name;
 use calibration::Grid;
-use segment_rules::Name;
 use turning_points::Ends;
 
 impl Segment {

@@ -1,5 +1,5 @@
 ghost use Rattle.std.specs.Prelude.{◌≡◌, ℕ, ℤ, List, [], ◌∷◌, ◌++◌, ◌+◌, ◌-◌, ◌<◌, ◌≤◌, All, length};
-ghost use Rattle.recording.specs.declared.TheConstants.{MAX_SAMPLES};
+ghost use Rattle.calibration.specs.declared.limits.TheConstants.{MAX_SAMPLES};
 ghost use Rattle.calibration.specs.Level.{reading_of};
 ghost use Rattle.turning_points.specs.Points.{points};
 ghost use Rattle.segment.specs.Segment.{SameStart, Stands, StandsFor, empty_at};

@@ -1,8 +1,8 @@
 use Rattle.std.proofs.Common.{List, sym, subst, slice_index}
 use Rattle.recount.specs.declared.count.Recount.{Recount}
 use Rattle.segment_store.specs.Held.{ends_of}
-use Rattle.recorded.specs.Recorded.{recordings}
-use Rattle.report_command.specs.Printing.{held_of}
+use Rattle.site_config.specs.recorded.Recorded.{recordings}
+use Rattle.segment_store.specs.Holds.{held_of}
 use Rattle.audit_command.specs.Audited.{IsItem}
 use Rattle.audit_command.specs.Recounted.{AreOf, AreOver}
 use Rattle.audit_command.proofs.Ended.{recounting_answers, recounting_unprinted, recounting_kind, recounting_no_write, other_answers, other_unprinted, other_kind, other_no_fault}

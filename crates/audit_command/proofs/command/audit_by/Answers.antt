@@ -1,14 +1,14 @@
 use Rattle.std.proofs.Common.{◌≡◌, ◌⊎◌, ℕ, List, sym, ◌∙◌, subst, arith, length}
 use Rattle.segment_store.specs.Held.{ends_of}
 use Rattle.segment_store.specs.Moments.{StoreValue}
-use Rattle.store_head.specs.Head.{HeadValue}
-use Rattle.recorded.specs.Recorded.{recordings}
-use Rattle.recorded.specs.Asked.{file_names}
-use Rattle.recorded.proofs.Asking.{none_is_first}
+use Rattle.store_bytes.specs.store_head.Head.{HeadValue}
+use Rattle.site_config.specs.recorded.Recorded.{recordings}
+use Rattle.site_config.specs.recorded.Asked.{file_names}
+use Rattle.site_config.proofs.on_recorded.Asking.{none_is_first}
 use Rattle.status.specs.declared.status.Status.{Status}
 use Rattle.status.specs.declared.status.Status.TheVariants.{Done, OutOfMemory}
-use Rattle.report_command.specs.Printing.{held_of}
-use Rattle.report_command.proofs.Ended.{refused_complete}
+use Rattle.segment_store.specs.Holds.{held_of}
+use Rattle.status.proofs.Refusals.{refused_complete}
 use Rattle.audit_command.specs.Answers.{HeldAnswers}
 use Rattle.audit_command.specs.Audited.{FindsDifference, HasKept, IsItem, IsStanding}
 use Rattle.audit_command.proofs.Audits.{finds_by}

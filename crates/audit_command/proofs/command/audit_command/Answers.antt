@@ -2,21 +2,20 @@ use Rattle.std.proofs.Common.{◌≡◌, ◌⊎◌, inl, ℕ, List, [], ◌∷�
 use Rattle.std.specs.Prelude.{Result, Err}
 use Rattle.outside.specs.Fault.{CountRose}
 use Rattle.outside.proofs.Faults.{rose_more}
-use Rattle.segment_store.specs.Holds.{Holds}
+use Rattle.segment_store.specs.Holds.{Holds, held_of}
 use Rattle.site_config.specs.Configuration.{config_of_bytes}
 use Rattle.site_config.specs.declared.config.Config.{Config}
 use Rattle.site_config.specs.declared.fault.ConfigFault.{ConfigFault}
-use Rattle.recorded.specs.Recorded.{recordings}
-use Rattle.recorded.specs.Asked.{names_in}
-use Rattle.recorded.proofs.Asking.{first_read, none_is_first}
-use Rattle.fault_lines.specs.FaultLine.{fault_line, name_by}
-use Rattle.fault_lines.specs.Room.{FaultLineValue}
-use Rattle.fault_lines.specs.Telling.{TellsAtMost}
-use Rattle.fault_lines.proofs.Refused.{line_same}
-use Rattle.fault_lines.proofs.Telling.{quiet_tells}
-use Rattle.report_command.specs.Printing.{held_of}
-use Rattle.report_command.proofs.Ended.{unread_other}
-use Rattle.report_command.proofs.Told.{last_after}
+use Rattle.site_config.specs.recorded.Recorded.{recordings}
+use Rattle.site_config.specs.recorded.Asked.{names_in}
+use Rattle.site_config.proofs.on_recorded.Asking.{first_read, none_is_first}
+use Rattle.status.specs.fault_lines.FaultLine.{fault_line, name_by}
+use Rattle.status.specs.fault_lines.Room.{FaultLineValue}
+use Rattle.status.specs.fault_lines.Telling.{TellsAtMost}
+use Rattle.status.proofs.on_fault_lines.Refused.{line_same}
+use Rattle.status.proofs.on_fault_lines.Telling.{quiet_tells}
+use Rattle.status.proofs.on_config_reading.Refusing.{unread_other}
+use Rattle.outside.proofs.on_station.Told.{last_after}
 use Rattle.audit_command.specs.Answers.{IsAudited}
 use Rattle.audit_command.specs.Audited.{FindsDifference, IsStanding}
 use Rattle.audit_command.specs.Printing.{Prints}

@@ -3,8 +3,8 @@ use Rattle.std.specs.Prelude.{Err, None}
 use Rattle.outside.specs.Site.{Files}
 use Rattle.recount.specs.declared.count.Recount.{Recount}
 use Rattle.segment_store.specs.Held.{ends_of}
-use Rattle.recorded.specs.Recorded.{recordings}
-use Rattle.recorded.proofs.Asking.{asks_more, stops_behind, first_names}
+use Rattle.site_config.specs.recorded.Recorded.{recordings}
+use Rattle.site_config.proofs.on_recorded.Asking.{asks_more, stops_behind, first_names}
 use Rattle.site_lanes.specs.Answers.{GaugeAnswers, FaultOf}
 use Rattle.site_lanes.proofs.Opened.{open_refused, all_more_opened}
 use Rattle.audit_command.proofs.Recounts.{recounts_more, first_again}

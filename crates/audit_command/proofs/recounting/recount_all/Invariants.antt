@@ -2,8 +2,8 @@ use Rattle.std.proofs.Common.{◌≡◌, ◌≤◌, vec_len, vec_capacity}
 use Rattle.std.specs.Prelude.{slice_index, take}
 use Rattle.outside.specs.Site.{Asks}
 use Rattle.segment_store.specs.Held.{ends_of}
-use Rattle.recorded.specs.Recorded.{recordings}
-use Rattle.recorded.specs.Asked.{file_names}
+use Rattle.site_config.specs.recorded.Recorded.{recordings}
+use Rattle.site_config.specs.recorded.Asked.{file_names}
 use Rattle.site_lanes.specs.Answers.{AllOpened}
 use Rattle.audit_command.specs.Recounted.{AreRecounts}
 use Rattle.audit_command.proofs.recounting.recount_all.Given as goal

@@ -1,12 +1,12 @@
 use Rattle.std.proofs.Common.{ℕ, List, [], ◌∷◌, sym, ◌∙◌, ap, arith, slice_index}
 use Rattle.std.specs.Prelude.{Option, Some}
 use Rattle.recording.specs.Samples.{samples}
-use Rattle.segment_rules.specs.declared.name.Name.{Name}
+use Rattle.segment.specs.declared.segment_rules.name.Name.{Name}
 use Rattle.segment_store.specs.Held.{ends_of}
 use Rattle.site_config.specs.Valid.{file_of}
-use Rattle.store_head.specs.Head.{HeadValue}
-use Rattle.recorded.specs.Recorded.{body_in, recordings}
-use Rattle.recorded.proofs.Asking.{asks_file, file_is}
+use Rattle.store_bytes.specs.store_head.Head.{HeadValue}
+use Rattle.site_config.specs.recorded.Recorded.{body_in, recordings}
+use Rattle.site_config.proofs.on_recorded.Asking.{asks_file, file_is}
 use Rattle.audit_command.proofs.Opened.{gauge_answers}
 use Rattle.audit_command.proofs.Recounts.{gain_is, recounted_first}
 use Rattle.audit_command.proofs.recounting.recount_gauge.Goals as goal

@@ -1,8 +1,8 @@
 use Rattle.std.proofs.Common.{◌<◌, ◌++◌, ℕ, List, length, ◌∙◌, sym, ap, subst, arith}
 use Rattle.outside.specs.Sink.{AppendsPrefix}
 use Rattle.lemmas.proofs.Outcomes.{on_err}
-use Rattle.line_room.specs.Room.{RoomValue}
-use Rattle.report_command.proofs.Printed.{lines_more, lines_front}
+use Rattle.status.specs.line_room.Room.{RoomValue}
+use Rattle.report.proofs.Printed.{lines_more, lines_front}
 use Rattle.audit_command.specs.Printing.{line_of_gauge, same_line, same_lines}
 use Rattle.audit_command.proofs.same_lines.print_same.Goals as goal
 use Rattle.site_config.proofs.Named.{name_is}

@@ -1,6 +1,6 @@
 use Rattle.std.proofs.Common.{◌≡◌, ◌≤◌, ◌-◌, length}
 use Rattle.report.specs.Lines.{lines_from}
-use Rattle.report_command.specs.Report.{IsPrinted}
+use Rattle.report.specs.Printed.{IsPrinted}
 use Rattle.audit_command.specs.Printing.{line_of_gauge, same_lines}
 use Rattle.audit_command.specs.declared.same_lines.TheConstants.{MAX_LINE_BYTES}
 use Rattle.audit_command.proofs.same_lines.print_same.Given as goal

@@ -1,7 +1,7 @@
 use Rattle.std.proofs.Common.{◌≡◌, [], sym, subst, ap, ◌∙◌}
-use Rattle.segment_rules.specs.declared.name.Name.{Name}
+use Rattle.segment.specs.declared.segment_rules.name.Name.{Name}
 use Rattle.segment.specs.Segment.{SegmentValue, SameStart, Stands}
-use Rattle.flow.specs.Flow.{name_of_samples}
+use Rattle.board.specs.flow.Flow.{name_of_samples}
 use Rattle.segment.proofs.Empty.{empty_stands}
 use Rattle.board.proofs.Slots.{from_ok, joined, join_name}
 use Rattle.board.proofs.rows.copy.Goals as goal

@@ -1,5 +1,5 @@
 use Rattle.std.proofs.Common.{[], sym, subst, ap, ◌∙◌}
-use Rattle.segment_rules.specs.declared.name.Name.{Name}
+use Rattle.segment.specs.declared.segment_rules.name.Name.{Name}
 use Rattle.segment.specs.Segment.{SegmentValue, Stands}
 use Rattle.segment.proofs.Empty.{empty_stands}
 use Rattle.board.proofs.rows.empty.Goals as goal

@@ -1,6 +1,6 @@
 use Rattle.std.proofs.Common.{arith, ap, sym, ◌∙◌, ◌≡◌, ◌<◌, ◌≤◌, ◌+◌, ℕ, refl, length, get_or}
 use Rattle.std.proofs.lemmas.List.{get_or_default}
-use Rattle.segment_rules.specs.declared.name.Name.{Name}
+use Rattle.segment.specs.declared.segment_rules.name.Name.{Name}
 use Rattle.segment.specs.Segment.{SegmentValue}
 use Rattle.segment.specs.Name.{name_of}
 use Rattle.board.proofs.Placing.{put_loose, extend_loose, extend_less, placed_put, placed_extend, alike, window_room, extended_at, slot_at, none_before, some_before, to_there, begins_before, strictly}

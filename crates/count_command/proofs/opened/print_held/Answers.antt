@@ -1,4 +1,4 @@
-use Rattle.site_report.specs.Report.{figures_by}
+use Rattle.report_command.specs.site_report.Report.{figures_by}
 use Rattle.count_command.proofs.AtEnd.{agrees}
 use Rattle.count_command.proofs.opened.print_held.Goals as goal
 

@@ -1,7 +1,7 @@
 use Rattle.std.proofs.Common.{rules}
-use Rattle.lane_loans.specs.Lent.{CanRound}
-use Rattle.lane_loans.proofs.Walking.{each_two}
-use Rattle.round_making.proofs.Settled.{can_go_on}
+use Rattle.count_workers.specs.lane_loans.Lent.{CanRound}
+use Rattle.count_workers.proofs.on_lane_loans.Walking.{each_two}
+use Rattle.count_workers.proofs.on_round_making.Settled.{can_go_on}
 use Rattle.count_workers.proofs.tests.two_lanes_go_through_three_workers.Goals as goal
 
 pub round-requires-clause-lanes : goal.round-requires-clause-lanes

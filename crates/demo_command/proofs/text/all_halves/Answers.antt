@@ -1,7 +1,7 @@
 use Rattle.std.proofs.Common.{length, ◌∙◌, ap, arith}
 use Rattle.calibration.specs.Grid.{GridValue}
 use Rattle.calibration.specs.History.{history}
-use Rattle.three_point.specs.Run.{half_units}
+use Rattle.turning_points.specs.three_point.Run.{half_units}
 use Rattle.demo_command.specs.Made.{demo_grid, demo_gain}
 use Rattle.demo_command.proofs.Sums.{table_sum}
 use Rattle.demo_command.proofs.text.all_halves.Goals as goal

@@ -2,11 +2,10 @@ use Rattle.std.proofs.Common.{◌≡◌, ◌-◌, ◌+◌, ◌*◌, ◌<◌, ◌
 use Rattle.std.specs.Prelude.{All}
 use Rattle.tally.specs.Counts.{Counts, HasGreatestRoom, HasPlace, most_cells}
 use Rattle.turning_points.proofs.Over.{own, zig_own}
-use Rattle.turning_points.proofs.Zigzag.{turn_test}
+use Rattle.turning_points.proofs.Zigzag.{turn_test, IsZigzag}
 use Rattle.lemmas.proofs.Lists.{below_at}
 use Rattle.std.proofs.lemmas.Bool.{both_ways}
 use Rattle.std.proofs.lemmas.List.Elements.{All-push}
-use Rattle.turning_points.proofs.Zigzag.{IsZigzag}
 use Rattle.four_point.proofs.HasNoCycle.{no_cycle_unless}
 use Rattle.four_point.proofs.Stacked.{AddsCycles-none, AddsCycles-deleted, zig_deleted, last_turns, turn_parts, take_with_last, HasNoCycleBelow-last, HasNoCycleBelow-fewer, below_fewer}
 use Rattle.four_point.proofs.stack.delete_cycles.Goals.{then-loop-len-test+else-is_cycle, else-loop-len-test}

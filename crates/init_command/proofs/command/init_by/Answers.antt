@@ -1,6 +1,6 @@
 use Rattle.std.proofs.Common.{List, ℕ, inl, inr, ⊎_elim, sym, subst}
-use Rattle.fault_lines.specs.FaultLine.{fault_line}
-use Rattle.fault_lines.specs.Telling.{EndsIn}
+use Rattle.status.specs.fault_lines.FaultLine.{fault_line}
+use Rattle.status.specs.fault_lines.Telling.{EndsIn}
 use Rattle.init_command.proofs.StoreMade.{no_name, made_answer}
 use Rattle.init_command.proofs.command.init_by.Goals as goal
 use Rattle.outside.proofs.Faults.{rose_before}

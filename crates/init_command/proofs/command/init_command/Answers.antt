@@ -1,8 +1,8 @@
 use Rattle.std.proofs.Common.{inl, inr, ⊎_elim}
 use Rattle.site_config.specs.Configuration.{config_of_bytes}
-use Rattle.recorded.specs.Asked.{names_in}
-use Rattle.recorded.proofs.Asking.{first_read, none_is_first}
-use Rattle.fault_lines.proofs.Refused.{refused_line}
+use Rattle.site_config.specs.recorded.Asked.{names_in}
+use Rattle.site_config.proofs.on_recorded.Asking.{first_read, none_is_first}
+use Rattle.status.proofs.on_fault_lines.Refused.{refused_line}
 use Rattle.init_command.proofs.StoreMade.{init_complete, answers_read}
 use Rattle.init_command.proofs.command.init_command.Goals as goal
 

@@ -1,8 +1,8 @@
 use Rattle.std.proofs.Common.{◌<◌, ◌+◌, List, [], ◌∷◌, ◌∙◌, length, ap, sym, subst, length-append, arith}
 use Rattle.std.specs.Prelude.{Ok, Err}
 use Rattle.recording.specs.declared.head.Head.{Head}
-use Rattle.recorded.specs.Asked.{file_names}
-use Rattle.recorded.proofs.Asking.{asks_file, asks_more, stops_behind, first_names, none_is_first}
+use Rattle.site_config.specs.recorded.Asked.{file_names}
+use Rattle.site_config.proofs.on_recorded.Asking.{asks_file, asks_more, stops_behind, first_names, none_is_first}
 use Rattle.init_command.specs.Heads.{AreHeadsBelow, AreHeads, HasHeadIn, HeadAnswer}
 use Rattle.init_command.proofs.Reading.{heads_more, heads_all, heads_refused, file_for}
 use Rattle.init_command.proofs.heads.read_heads.Goals as goal

@@ -1,7 +1,7 @@
 use Rattle.std.proofs.Common.{◌≡◌, ◌≤◌, length}
 use Rattle.std.specs.Prelude.{take, vec_capacity}
 use Rattle.outside.specs.Site.{Asks}
-use Rattle.recorded.specs.Asked.{file_names}
+use Rattle.site_config.specs.recorded.Asked.{file_names}
 use Rattle.init_command.specs.Heads.{AreHeadsBelow}
 use Rattle.init_command.proofs.heads.read_heads.Given as goal
 

@@ -1,12 +1,12 @@
 use Rattle.std.proofs.Common.{ℤ, ◌≡◌, ℕ, ◌<◌, List, [], ◌∷◌, ◌++◌, Option, Err, refl, sym, ◌∙◌, ap, subst, arith}
 use Rattle.outside.specs.Sink.{AppendsPrefix}
 use Rattle.outside.specs.Fault.{CountRose}
-use Rattle.file_tasks.specs.Answer.{MayAnswer}
-use Rattle.file_tasks.specs.FileState.{state_of, file_state}
+use Rattle.file_commands.specs.file_tasks.Answer.{MayAnswer}
+use Rattle.file_commands.specs.file_tasks.FileState.{state_of, file_state}
 use Rattle.status.specs.declared.status.Status.{Status}
 use Rattle.status.specs.declared.status.Status.TheVariants.{Done, ReadFault, WriteFault}
 use Rattle.monitor.specs.Printed.{text_of_samples}
-use Rattle.file_tasks.proofs.Answering.{complete, printing_may, printing_no_read, refusal_no_done, refusal_no_write, refusal_read}
+use Rattle.file_commands.proofs.on_file_tasks.Answering.{complete, printing_may, printing_no_read, refusal_no_done, refusal_no_write, refusal_read}
 use Rattle.monitor.proofs.TableRun.{text_for}
 use Rattle.monitor.proofs.command.table_command.Goals as goal
 

@@ -2,8 +2,8 @@ use Rattle.std.proofs.Common.{ℕ, List, length, slice_index, sym, ◌∙◌, ap
 use Rattle.lemmas.proofs.Sums.{get_or-le-sum}
 use Rattle.calibration.specs.Grid.{GridValue}
 use Rattle.calibration.specs.History.{history}
-use Rattle.three_point.specs.Run.{half_units}
-use Rattle.report.specs.declared.counts.SampleCounts.{SampleCounts}
+use Rattle.turning_points.specs.three_point.Run.{half_units}
+use Rattle.segment.specs.declared.counts.SampleCounts.{SampleCounts}
 use Rattle.report.specs.Page.{PageValue}
 use Rattle.report.specs.Texts.{table_text}
 use Rattle.report.proofs.SameCounts.{table_text-same}

@@ -1,5 +1,5 @@
 use Rattle.std.proofs.Common.{[]}
-use Rattle.fault_lines.specs.FaultLine.{fault_line}
+use Rattle.status.specs.fault_lines.FaultLine.{fault_line}
 use Rattle.monitor.proofs.NoMemory.{ends_by}
 use Rattle.monitor.proofs.demo.told_demo.Goals as goal
 

@@ -2,11 +2,11 @@ use Rattle.std.proofs.Common.{◌≡◌, ◌++◌, [], Err, length, take, drop, 
 use Rattle.recording.specs.Samples.{samples, torn_bytes}
 use Rattle.monitor.specs.Figures.{MOST_HALF_UNITS}
 use Rattle.monitor.specs.Printed.{table_grid, table_gain}
-use Rattle.file_tasks.specs.Answer.{answer_for}
-use Rattle.file_tasks.specs.FileState.{state_of}
+use Rattle.file_commands.specs.file_tasks.Answer.{answer_for}
+use Rattle.file_commands.specs.file_tasks.FileState.{state_of}
 use Rattle.status.specs.declared.status.Status.TheVariants.{Torn}
 use Rattle.monitor.proofs.RecordingRead.{more_read, all_read, sound_end, torn_end, too_many, by_classifier, of_classifier}
-use Rattle.file_tasks.proofs.Refusals.{head_cause, head_fault, memory_cause, memory_fault, state_with_head, err_is}
+use Rattle.file_commands.proofs.on_file_tasks.Refusals.{head_cause, head_fault, memory_cause, memory_fault, state_with_head, err_is}
 use Rattle.monitor.proofs.read.read_recording.Goals as goal
 use Rattle.recording.specs.declared.head.TheConstants.{HEAD_LENGTH}
 

@@ -2,7 +2,8 @@ use Rattle.std.proofs.Common.{◌≤◌, ◌≡◌, length, ℤ, List, drop}
 use Rattle.monitor.specs.Printed.{table_grid, table_gain}
 use Rattle.monitor.specs.Figures.{AreFigures}
 use Rattle.recording.proofs.Reading.{Splits}
-use Rattle.recording.specs.declared.TheConstants.{MAX_SAMPLES, PIECE}
+use Rattle.calibration.specs.declared.limits.TheConstants.{MAX_SAMPLES}
+use Rattle.recording.specs.declared.TheConstants.{PIECE}
 use Rattle.monitor.proofs.read.read_recording.Given as goal
 use Rattle.recording.specs.declared.head.TheConstants.{HEAD_LENGTH}
 

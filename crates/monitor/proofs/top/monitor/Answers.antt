@@ -2,7 +2,7 @@ use Rattle.std.proofs.Common.{◌≡◌, inr, refl, ◌∙◌, ap, sym, map, str
 use Rattle.std.specs.Prelude.{Some}
 use Rattle.command_words.specs.Line.{Table, Demo, Column, command_of}
 use Rattle.command_words.specs.Commands.{meaning_of}
-use Rattle.file_tasks.specs.Run.{outside}
+use Rattle.file_commands.specs.file_tasks.Run.{outside}
 use Rattle.monitor.specs.Shown.{shown_by}
 use Rattle.monitor.proofs.NoMemory.{nothing_done, init_without_memory, report_without_memory, demo_without_memory, ends_at, table_last, column_last, demo_last, usage_last}
 use Rattle.monitor.proofs.CountLeft.{count_without_memory}

@@ -1,6 +1,6 @@
 use Rattle.std.proofs.Common.{◌≡◌, length}
 use Rattle.tally.specs.Counts.{count_of}
-use Rattle.report.specs.Figures.{halves_of}
+use Rattle.segment.specs.Figures.{halves_of}
 use Rattle.recount.proofs.Rows.{AreSameBelow}
 use Rattle.recount.proofs.compare.first_other_cell.Given as goal
 

@@ -3,7 +3,7 @@ use Rattle.turning_points.specs.Points.{points}
 use Rattle.turning_points.proofs.Over.{own, zig_own}
 use Rattle.tally.specs.Counts.{Counts, HasGreatestRoom, most_cells, total_of}
 use Rattle.simple_counts.proofs.OfPoints.{zig_take}
-use Rattle.residue_join.proofs.Joined.{AddsCycles-one_more, length_one_more}
+use Rattle.four_point.proofs.on_residue_join.Joined.{AddsCycles-one_more, length_one_more}
 use Rattle.segment.proofs.block.push_points.Goals as goal
 
 room_by : (s t : Counts) (len i m : ℕ) → s.classes ≡ t.classes → s.room ≡ t.room → 2 * length s.cells + len ≤ i → i < m

@@ -1,7 +1,7 @@
 use Rattle.std.proofs.Common.{◌≡◌, ◌+◌, ◌-◌, ◌<◌, ◌≤◌, ◌==◌, if◌then◌else◌, min, max, ℕ, List, length, drop, get_or, ap, arith, rules}
-use Rattle.three_point.specs.Run.{half_units_of_pair}
-use Rattle.residue_join.specs.HalfUnits.{neighbours}
-use Rattle.tables.specs.Tables.{raise}
+use Rattle.turning_points.specs.three_point.Run.{half_units_of_pair}
+use Rattle.four_point.specs.residue_join.HalfUnits.{neighbours}
+use Rattle.tally.specs.tables.Tables.{raise}
 use Rattle.segment.proofs.SideBySide.{above_step, pairs_end, raised_few}
 use Rattle.segment.proofs.neighbours.add_above.Goals as goal
 

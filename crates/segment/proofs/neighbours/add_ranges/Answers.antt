@@ -1,9 +1,9 @@
 use Rattle.std.proofs.Common.{◌≡◌, ◌+◌, ◌-◌, ◌<◌, ◌≤◌, ℕ, List, length, drop, get_or, ap, arith, rules}
 use Rattle.std.specs.Prelude.{true}
 use Rattle.turning_points.specs.Pairs.{range}
-use Rattle.three_point.specs.Run.{half_units_at_range}
-use Rattle.residue_join.specs.HalfUnits.{neighbours}
-use Rattle.tables.specs.Tables.{raise}
+use Rattle.turning_points.specs.three_point.Run.{half_units_at_range}
+use Rattle.four_point.specs.residue_join.HalfUnits.{neighbours}
+use Rattle.tally.specs.tables.Tables.{raise}
 use Rattle.segment.proofs.SideBySide.{range_step, ranges_end, raised_few}
 use Rattle.segment.proofs.neighbours.add_ranges.Goals as goal
 

@@ -1,6 +1,6 @@
 use Rattle.std.proofs.Common.{◌≡◌, ◌+◌, ◌-◌, ◌≤◌, drop}
-use Rattle.three_point.specs.Run.{half_units_of_pair}
-use Rattle.residue_join.specs.HalfUnits.{neighbours}
+use Rattle.turning_points.specs.three_point.Run.{half_units_of_pair}
+use Rattle.four_point.specs.residue_join.HalfUnits.{neighbours}
 use Rattle.segment.proofs.neighbours.neighbours.Given as goal
 
 abbrev pub invariant-loop-i : goal.invariant-loop-i

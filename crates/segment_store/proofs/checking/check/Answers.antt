@@ -3,12 +3,12 @@ use Rattle.std.proofs.lemmas.Bool.{false≢true}
 use Rattle.std.specs.Prelude.{ℕ, List, Err}
 use Rattle.calibration.specs.declared.setup.Setup.{Setup}
 use Rattle.segment.specs.Parts.{parts_of}
-use Rattle.segment_bytes.specs.declared.fault.BytesFault.{BytesFault}
-use Rattle.segment_bytes.specs.declared.fault.BytesFault.TheVariants as faults
-use Rattle.segment_bytes.specs.declared.layout.Layout.{Layout}
-use Rattle.segment_bytes.specs.Fields.{FailsWith}
-use Rattle.segment_bytes.specs.Decoding.{segment_in}
-use Rattle.segment_rules.specs.declared.name.Name.{Name}
+use Rattle.store_bytes.specs.declared.segment_bytes.fault.BytesFault.{BytesFault}
+use Rattle.store_bytes.specs.declared.segment_bytes.fault.BytesFault.TheVariants as faults
+use Rattle.store_bytes.specs.declared.segment_bytes.layout.Layout.{Layout}
+use Rattle.store_bytes.specs.segment_bytes.Fields.{FailsWith}
+use Rattle.store_bytes.specs.segment_bytes.Decoding.{segment_in}
+use Rattle.segment.specs.declared.segment_rules.name.Name.{Name}
 use Rattle.segment.specs.declared.segment.join.JoinRefusal.TheVariants as refusals
 use Rattle.segment_store.specs.declared.damage.Damage.TheVariants as damages
 use Rattle.segment_store.specs.declared.damage.Stop.{Stop}

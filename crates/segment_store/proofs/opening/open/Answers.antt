@@ -1,13 +1,13 @@
 use Rattle.std.proofs.Common.{◌≡◌, ◌<◌, List, length, take, ap, sym, subst, ◌∙◌, arith}
 use Rattle.std.specs.Prelude.{None}
-use Rattle.station.specs.Station.{Only}
+use Rattle.outside.specs.station.Station.{Only}
 use Rattle.calibration.specs.declared.setup.Setup.{Setup}
-use Rattle.segment_bytes.specs.declared.layout.Layout.{Layout}
-use Rattle.segment_bytes.specs.Sizes.{max_body}
-use Rattle.segment_rules.specs.Parts.{PartsValue}
-use Rattle.store_head.specs.declared.setup.StoreHead.{StoreHead}
-use Rattle.store_head.specs.Head.{see_head, head_of, start_of}
-use Rattle.store_head.specs.HeadFaults.{head_fault, layout_in}
+use Rattle.store_bytes.specs.declared.segment_bytes.layout.Layout.{Layout}
+use Rattle.store_bytes.specs.segment_bytes.Sizes.{max_body}
+use Rattle.segment.specs.segment_rules.Parts.{PartsValue}
+use Rattle.store_bytes.specs.declared.store_head.setup.StoreHead.{StoreHead}
+use Rattle.store_bytes.specs.store_head.Head.{see_head, head_of, start_of}
+use Rattle.store_bytes.specs.store_head.HeadFaults.{head_fault, layout_in}
 use Rattle.segment_store.specs.declared.putting.State.{State}
 use Rattle.segment_store.specs.Held.{ends_of}
 use Rattle.segment_store.specs.Image.{nothing_held}

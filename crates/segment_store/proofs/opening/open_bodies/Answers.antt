@@ -1,7 +1,7 @@
 use Rattle.std.proofs.Common.{ℕ, List, length, ap, subst, sym, ◌∙◌}
 use Rattle.std.specs.Prelude.{Err, replicate}
-use Rattle.segment_bytes.specs.Sizes.{max_body}
-use Rattle.store_head.specs.Head.{start_of, gauge_place}
+use Rattle.store_bytes.specs.segment_bytes.Sizes.{max_body}
+use Rattle.store_bytes.specs.store_head.Head.{start_of, gauge_place}
 use Rattle.segment_store.specs.declared.putting.State.{State}
 use Rattle.segment_store.specs.Held.{ends_of}
 use Rattle.segment_store.specs.Image.{nothing_held}

@@ -2,10 +2,10 @@ use Rattle.std.proofs.Common.{◌≡◌, ◌+◌, ◌++◌, ℕ, List, slice_ran
 use Rattle.std.specs.Prelude.{Ok, Err}
 use Rattle.std.specs.Int.{w32, from_be_bytes, to_be_bytes}
 use Rattle.sha2.specs.Sha256.{sha256}
-use Rattle.station.specs.Station.{Image}
+use Rattle.outside.specs.station.Station.{Image}
 use Rattle.segment.specs.Segment.{SegmentValue}
 use Rattle.segment.specs.Parts.{parts_of}
-use Rattle.segment_bytes.specs.declared.layout.Layout.{Layout}
+use Rattle.store_bytes.specs.declared.segment_bytes.layout.Layout.{Layout}
 use Rattle.segment_store.specs.Held.{ends_of}
 use Rattle.segment_store.specs.declared.damage.Damage.TheVariants as damages
 use Rattle.segment_store.specs.declared.damage.Stop.{Stop}

@@ -1,15 +1,12 @@
-use Rattle.std.proofs.Common.{subst, ap, ◌≡◌, ◌+◌, [], ◌∷◌, ◌++◌, sym, ◌∙◌, get_or, arith, rules, length-append}
+use Rattle.std.proofs.Common.{subst, ap, ◌≡◌, ◌+◌, [], ◌∷◌, ◌++◌, sym, ◌∙◌, get_or, arith, rules, length-append, refl}
 use Rattle.calibration.specs.declared.setup.Setup.{Setup}
 use Rattle.segment.specs.Parts.{parts_of}
 use Rattle.segment_store.specs.Held.{AreHeld, ends_of}
 use Rattle.segment_store.specs.Places.{IsNear}
-use Rattle.segment_store.proofs.Found.{HasPassed}
-use Rattle.segment_store.specs.Resuming.{Finds, Walks, shut}
+use Rattle.segment_store.proofs.Found.{HasPassed, pass_more, passed_all, none_passed}
+use Rattle.segment_store.specs.Resuming.{Finds, Walks, shut, length_at}
 use Rattle.std.specs.Prelude.{Ok}
-use Rattle.std.proofs.Common.{refl}
 use Rattle.segment_store.proofs.Holding.{ends-long}
-use Rattle.segment_store.specs.Resuming.{length_at}
-use Rattle.segment_store.proofs.Found.{pass_more, passed_all, none_passed}
 use Rattle.segment_store.proofs.Nearness.{near_step}
 use Rattle.segment_store.proofs.Quiet.{quiet_starts, quiet_on, quiet_then}
 use Rattle.segment_store.proofs.Walking.{on_ok, gate_is, step, stops_here}

@@ -1,6 +1,6 @@
 use Rattle.std.proofs.Common.{◌≡◌, ◌≤◌, ◌<◌, ◌-◌, ℕ, List, length}
 use Rattle.std.specs.Prelude.{Result}
-use Rattle.segment_rules.specs.Parts.{PartsValue}
+use Rattle.segment.specs.segment_rules.Parts.{PartsValue}
 use Rattle.segment_store.specs.declared.damage.Damage.{Damage}
 use Rattle.segment_store.specs.Held.{AreHeld, ends_of}
 use Rattle.segment_store.specs.Places.{IsNear}

@@ -1,6 +1,6 @@
 use Rattle.std.proofs.Common.{◌∙◌, refl, ap, arith, length, length-set}
 use Rattle.turning_points.proofs.Over.{zig_own}
-use Rattle.tables.specs.Tables.{raise}
+use Rattle.tally.specs.tables.Tables.{raise}
 use Rattle.simple_counts.proofs.OfPoints.{ranges_none, ranges_more, ranges_all, few_ranges}
 use Rattle.simple_counts.proofs.points.fill_slice.Goals as goal
 

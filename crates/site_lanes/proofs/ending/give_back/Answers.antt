@@ -1,6 +1,6 @@
 use Rattle.std.proofs.Common.{◌≢◌, ℕ, length, refl, ◌∙◌, arith}
-use Rattle.count_workers.specs.Lane.{Lane}
-use Rattle.lane_ends.specs.declared.end.End.TheVariants.{ReadFault}
+use Rattle.count_workers.specs.declared.lane_loans.lane.Lane.{Lane}
+use Rattle.recording.specs.declared.lane_ends.end.End.TheVariants.{ReadFault}
 use Rattle.site_lanes.proofs.Places.{each_before}
 use Rattle.site_lanes.specs.Lanes.{HasSource, IsFaulty}
 use Rattle.site_lanes.proofs.ending.give_back.Goals as goal

@@ -1,11 +1,11 @@
 use Rattle.std.proofs.Common.{[], ◌∷◌, ◌∙◌, ap, arith}
 use Rattle.std.specs.Prelude.{slice_index}
 use Rattle.site_config.specs.Valid.{file_of}
-use Rattle.segment_rules.specs.declared.name.Name.{Name}
+use Rattle.segment.specs.declared.segment_rules.name.Name.{Name}
 use Rattle.segment_store.specs.Held.{ends_of}
-use Rattle.segment_store.specs.Head.{HeadValue}
-use Rattle.count_workers.specs.Lane.{Lane}
-use Rattle.recorded.proofs.Asking.{asks_file, file_is}
+use Rattle.store_bytes.specs.store_head.Head.{HeadValue}
+use Rattle.count_workers.specs.declared.lane_loans.lane.Lane.{Lane}
+use Rattle.site_config.proofs.on_recorded.Asking.{asks_file, file_is}
 use Rattle.site_lanes.proofs.Opened.{gauge_fault, gauge_refused}
 use Rattle.site_lanes.proofs.lanes.open_lane.Goals as goal
 use Rattle.outside.proofs.Asked.{asks_no_more}

@@ -2,11 +2,11 @@ use Rattle.std.proofs.Common.{◌≡◌, ℕ, length, ◌∙◌, ap, subst, arit
 use Rattle.std.specs.Prelude.{Err, None}
 use Rattle.outside.specs.Site.{Files}
 use Rattle.segment_store.specs.Held.{ends_of}
-use Rattle.count_workers.specs.Lent.{CanRound}
-use Rattle.count_workers.specs.Lane.{Lane}
-use Rattle.lane_ends.specs.declared.end.End.TheVariants.{More}
-use Rattle.recorded.specs.Recorded.{recordings}
-use Rattle.recorded.proofs.Asking.{asks_more, stops_behind, first_names}
+use Rattle.count_workers.specs.lane_loans.Lent.{CanRound}
+use Rattle.count_workers.specs.declared.lane_loans.lane.Lane.{Lane}
+use Rattle.recording.specs.declared.lane_ends.end.End.TheVariants.{More}
+use Rattle.site_config.specs.recorded.Recorded.{recordings}
+use Rattle.site_config.proofs.on_recorded.Asking.{asks_more, stops_behind, first_names}
 use Rattle.site_lanes.specs.Answers.{GaugeAnswers, FaultOf}
 use Rattle.site_lanes.specs.Lanes.{HasSource, IsLane}
 use Rattle.site_lanes.proofs.Opened.{open_refused, all_more_opened}

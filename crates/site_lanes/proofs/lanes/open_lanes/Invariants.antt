@@ -3,8 +3,8 @@ use Rattle.std.proofs.Common.{◌≡◌, ◌≤◌, ◌<◌, vec_len, vec_capaci
 use Rattle.std.specs.Prelude.{slice_index, take}
 use Rattle.outside.specs.Site.{Asks}
 use Rattle.segment_store.specs.Held.{ends_of}
-use Rattle.recorded.specs.Recorded.{recordings}
-use Rattle.recorded.specs.Asked.{file_names}
+use Rattle.site_config.specs.recorded.Recorded.{recordings}
+use Rattle.site_config.specs.recorded.Asked.{file_names}
 use Rattle.site_lanes.specs.Lanes.{AreLanes, AreHeldTo, HasSource, IsNew}
 use Rattle.site_lanes.specs.Answers.{AllOpened}
 use Rattle.site_lanes.proofs.lanes.open_lanes.Given as goal

@@ -12,7 +12,7 @@ use Rattle.tally.proofs.Equal.{cell_of}
 use Rattle.tally.proofs.Places.{few_places}
 use Rattle.tally.proofs.Walk.{count_is, total_is}
 use Rattle.tally.proofs.LogCells.{total_of-cells_of}
-use Rattle.tally.proofs.Tables.{place_left, layout_raised, counts_added, counts_of, used_of_layout}
+use Rattle.tally.proofs.RowTables.{place_left, layout_raised, counts_added, counts_of, used_of_layout}
 use Rattle.tally.proofs.AddEntries.{HasEntries, entries-none, entries-more, entries-total, entries-cell, entries-room, entries-counts, entries-sum, entries-length}
 use Rattle.tally.proofs.layout.raise_each.Goals as goal
 

@@ -1,7 +1,7 @@
 use Rattle.std.proofs.Common.{◌≡◌, ◌*◌, sym, subst, arith, rules, get_or}
 use Rattle.segment.specs.Segment.{SegmentValue, empty_at}
 use Rattle.board.proofs.Lists.{each_pushed}
-use Rattle.flow.specs.declared.TheConstants.{BLOCKS_PER_WINDOW}
+use Rattle.board.specs.declared.flow.TheConstants.{BLOCKS_PER_WINDOW}
 use Rattle.board.proofs.intervals.Intervals.new.Goals as goal
 
 pub loop-preserved : goal.loop-preserved

@@ -1,6 +1,6 @@
 use Rattle.std.proofs.Common.{◌≡◌, ◌<◌, ◌≤◌, ◌*◌, ℕ, slice_index_or, vec_len, vec_capacity}
 use Rattle.segment.specs.Segment.{SegmentValue, empty_at}
-use Rattle.flow.specs.declared.TheConstants.{BLOCKS_PER_WINDOW}
+use Rattle.board.specs.declared.flow.TheConstants.{BLOCKS_PER_WINDOW}
 use Rattle.board.proofs.intervals.Intervals.new.Given as goal
 
 abbrev pub invariant-loop : goal.invariant-loop

@@ -1,12 +1,12 @@
 use Rattle.std.proofs.Common.{◌≡◌, ◌≤◌, ◌<◌, ◌+◌, ◌*◌, ◌++◌, ◌∷◌, [], length, get_or, set, refl, sym, ap, ◌∙◌, subst, arith, Some}
-use Rattle.segment_rules.specs.declared.name.Name.{Name}
+use Rattle.segment.specs.declared.segment_rules.name.Name.{Name}
 use Rattle.segment.specs.Name.{name_of}
 use Rattle.board.specs.Board.{BoardValue, Row, IsBoard, CarriesSamples}
 use Rattle.board.specs.Rows.{PlacesSegment, FindsDouble}
-use Rattle.board.specs.Deposits.{IsDepositAnswer, IsBlockNumber}
+use Rattle.board.specs.DepositAnswers.{IsDepositAnswer, IsBlockNumber}
 use Rattle.board.specs.declared.windows.Deposit.TheVariants.{Double}
 use Rattle.board.proofs.Depositing.{placed_board, placed_room, placed_carries, row_same, doubled, can_place, number_fits, number_there}
-use Rattle.flow.specs.declared.TheConstants.{BLOCKS_PER_WINDOW}
+use Rattle.board.specs.declared.flow.TheConstants.{BLOCKS_PER_WINDOW}
 use Rattle.board.proofs.windows.Board.deposit.Goals as goal
 
 pub invariant_of-self : goal.invariant_of-self

@@ -1,7 +1,7 @@
 use Rattle.std.proofs.Common.{ℕ, List, [], ◌∷◌, sym, subst, append-nil}
 use Rattle.calibration.specs.History.{history}
 use Rattle.turning_points.specs.Points.{points}
-use Rattle.three_point.specs.Live.{HasCounted}
+use Rattle.turning_points.specs.three_point.Live.{HasCounted}
 use Rattle.recount.proofs.Taken.{last_below, all_points}
 use Rattle.recount.proofs.running.RunningCount.finish.Goals as goal
 use Rattle.recount.proofs.running.RunningCount.finish.Goals.{in-Some, in_default}

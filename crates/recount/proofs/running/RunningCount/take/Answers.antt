@@ -1,7 +1,7 @@
 use Rattle.std.proofs.Common.{◌≤◌, length, take, refl, ap, arith, length-take}
 use Rattle.recount.proofs.Taken.{points_below, counted_more}
 use Rattle.recount.proofs.running.RunningCount.take.Goals as goal
-use Rattle.report.proofs.Counted.{all_kinds}
+use Rattle.segment.proofs.Counted.{all_kinds}
 
 pub push_all-requires-clause-points : goal.push_all-requires-clause-points
 push_all-requires-clause-points g c =

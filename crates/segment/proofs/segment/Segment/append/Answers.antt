@@ -1,10 +1,10 @@
 use Rattle.std.proofs.Common.{◌≡◌, ◌+◌, ◌*◌, ◌-◌, ◌≤◌, ◌⊎◌, ◌++◌, length, ap, sym, subst, ◌∙◌, arith, length-append}
 use Rattle.turning_points.specs.Points.{points}
-use Rattle.three_point.specs.Run.{three_point}
+use Rattle.turning_points.specs.three_point.Run.{three_point}
 use Rattle.tally.specs.Counts.{HasGreatestRoom, count_of, total_of}
 use Rattle.four_point.specs.Reduction.{IsFourPointResult}
 use Rattle.four_point.specs.Residue.{AddsCycles}
-use Rattle.level_crossing.specs.Crossings.{crossing_count}
+use Rattle.simple_counts.specs.level_crossing.Crossings.{crossing_count}
 use Rattle.segment.specs.Segment.{StandsFor}
 use Rattle.segment.proofs.Residues.{recounted}
 use Rattle.segment.proofs.Room.{merge_room, join_room}

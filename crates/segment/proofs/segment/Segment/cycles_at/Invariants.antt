@@ -1,5 +1,5 @@
 use Rattle.std.proofs.Common.{◌≡◌, ◌*◌, ◌^◌, ◌≤◌}
-use Rattle.three_point.specs.Sums.{sum_at_range}
+use Rattle.turning_points.specs.three_point.Sums.{sum_at_range}
 use Rattle.segment.specs.Figures.{doubled_cycles}
 use Rattle.segment.proofs.segment.Segment.cycles_at.Given as goal
 

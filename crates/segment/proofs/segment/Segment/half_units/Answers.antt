@@ -2,8 +2,8 @@ use Rattle.std.proofs.Common.{◌≡◌, ◌<◌, ℕ, List, ap, subst, sym, ◌
 use Rattle.std.specs.Prelude.{All}
 use Rattle.turning_points.specs.Points.{points}
 use Rattle.turning_points.proofs.Over.{zig_own}
-use Rattle.three_point.specs.Run.{half_units_at_range}
-use Rattle.residue_join.specs.HalfUnits.{neighbours}
+use Rattle.turning_points.specs.three_point.Run.{half_units_at_range}
+use Rattle.four_point.specs.residue_join.HalfUnits.{neighbours}
 use Rattle.segment.specs.Segment.{SegmentValue}
 use Rattle.segment.proofs.SideBySide.{no_range_of_none}
 use Rattle.segment.proofs.HalfUnits.{range_parts, range_stands}

@@ -1,7 +1,7 @@
 use Rattle.std.proofs.Common.{ℕ, List, ap, ◌∙◌, arith}
 use Rattle.calibration.specs.History.{history}
-use Rattle.three_point.specs.Run.{half_units_of_pair}
-use Rattle.residue_join.specs.HalfUnits.{neighbours}
+use Rattle.turning_points.specs.three_point.Run.{half_units_of_pair}
+use Rattle.four_point.specs.residue_join.HalfUnits.{neighbours}
 use Rattle.segment.specs.Segment.{SegmentValue}
 use Rattle.segment.proofs.HalfUnits.{halves_stand}
 use Rattle.segment.proofs.segment.Segment.halves_above.Goals as goal

@@ -1,8 +1,8 @@
 use Rattle.std.proofs.Common.{◌≡◌, length, subst, sym, ap, arith}
 use Rattle.tally.specs.Room.{room_for}
-use Rattle.segment_rules.specs.Parts.{parts_value}
-use Rattle.segment_rules.proofs.CellsFrom.{cells_in_order}
-use Rattle.segment_rules.proofs.Sizes.{cells_count}
+use Rattle.segment.specs.segment_rules.Parts.{parts_value}
+use Rattle.segment.proofs.on_segment_rules.CellsFrom.{cells_in_order}
+use Rattle.segment.proofs.on_segment_rules.Sizes.{cells_count}
 use Rattle.segment.proofs.Ready.{can_load}
 use Rattle.segment.specs.Parts.{parts_of}
 use Rattle.segment.specs.Segment.{IsSegment}

@@ -1,6 +1,6 @@
 use Rattle.std.proofs.Common.{◌+◌, ◌<◌, ◌≤◌, sym, subst}
 use Rattle.std.specs.Prelude.{All}
-use Rattle.recording.specs.declared.TheConstants.{MAX_SAMPLES}
+use Rattle.calibration.specs.declared.limits.TheConstants.{MAX_SAMPLES}
 use Rattle.tally.specs.Counts.{count_of}
 use Rattle.four_point.specs.Reduction.{IsFourPointResult}
 use Rattle.segment.proofs.OfPoints.{block_rules, closes_result}

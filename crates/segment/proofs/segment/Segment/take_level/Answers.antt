@@ -1,5 +1,5 @@
 use Rattle.std.proofs.Common.{◌-◌, ◌<◌, ◌∷◌, [], sym, subst, arith, length-append}
-use Rattle.recording.specs.declared.TheConstants.{MAX_SAMPLES}
+use Rattle.calibration.specs.declared.limits.TheConstants.{MAX_SAMPLES}
 use Rattle.segment.specs.Segment.{StandsFor}
 use Rattle.segment.proofs.Residues.{recounted}
 use Rattle.segment.proofs.Room.{push_room}

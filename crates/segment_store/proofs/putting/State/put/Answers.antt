@@ -1,11 +1,11 @@
 use Rattle.std.proofs.Common.{◌≡◌, ◌<◌, ◌+◌, ◌++◌, ◌∷◌, [], length, get_or, take, ap, ◌∙◌, subst, sym, arith}
 use Rattle.std.proofs.lemmas.List.{length-take}
 use Rattle.calibration.specs.Grid.{GridValue}
-use Rattle.segment_rules.specs.declared.name.Name.{Name}
-use Rattle.segment_rules.specs.Rules.{AreSegmentParts}
+use Rattle.segment.specs.declared.segment_rules.name.Name.{Name}
+use Rattle.segment.specs.segment_rules.Rules.{AreSegmentParts}
 use Rattle.segment.specs.Parts.{parts_of}
-use Rattle.segment_bytes.specs.Grammar.{body_of}
-use Rattle.store_head.specs.Head.{see_head}
+use Rattle.store_bytes.specs.segment_bytes.Grammar.{body_of}
+use Rattle.store_bytes.specs.store_head.Head.{see_head}
 use Rattle.segment_store.specs.Held.{AreHeld, ends_of}
 use Rattle.segment_store.specs.Image.{with_digest, ends_after, IsNext}
 use Rattle.segment_store.specs.Moments.{IsAt}

@@ -1,6 +1,6 @@
 use Rattle.std.proofs.Common.{◌≡◌, sym, subst}
 use Rattle.turning_points.specs.Ends.{end_points}
-use Rattle.tables.specs.Bins.{count_at}
+use Rattle.tally.specs.tables.Bins.{count_at}
 use Rattle.simple_counts.specs.Simple.{IsSimple, range_count, peak_count, valley_count}
 use Rattle.simple_counts.proofs.Loaded.{loaded_counted, loaded_ranges, loaded_peaks, loaded_valleys}
 use Rattle.simple_counts.proofs.simple.Simple.load.Goals as goal

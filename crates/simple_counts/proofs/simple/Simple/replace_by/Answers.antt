@@ -1,6 +1,6 @@
 use Rattle.std.proofs.Common.{sym, subst, arith}
 use Rattle.turning_points.specs.Ends.{end_points}
-use Rattle.tables.proofs.Filled.{keys_within}
+use Rattle.tally.proofs.on_tables.Filled.{keys_within}
 use Rattle.simple_counts.specs.Loading.{CanLoad}
 use Rattle.simple_counts.proofs.Loaded.{loaded_closed, last_in}
 use Rattle.simple_counts.proofs.simple.Simple.replace_by.Goals as goal

@@ -8,7 +8,7 @@ use Rattle.tally.proofs.Ascending.{place_of_pair}
 use Rattle.tally.proofs.Places.{few_places}
 use Rattle.lemmas.proofs.Sums.{get_or-le-sum}
 use Rattle.tally.proofs.Walk.{count_is}
-use Rattle.tally.proofs.Tables.{place_left, layout_raised, counts_added, counts_of, total_of_layout, used_of_layout}
+use Rattle.tally.proofs.RowTables.{place_left, layout_raised, counts_added, counts_of, total_of_layout, used_of_layout}
 use Rattle.tally.proofs.dense.Dense.add.Goals as goal
 
 pub raise-self-inside-requires-clause-small : goal.raise-self-inside-requires-clause-small

@@ -4,7 +4,7 @@ use Rattle.std.specs.Vec.{with_items}
 use Rattle.std.proofs.lemmas.List.{with_items_is}
 use Rattle.tally.specs.Counts.{total_of, most_cells}
 use Rattle.tally.specs.Layout.{IsLayout}
-use Rattle.tally.proofs.Tables.{counts_of, total_of_layout, used_of_layout}
+use Rattle.tally.proofs.RowTables.{counts_of, total_of_layout, used_of_layout}
 use Rattle.tally.proofs.dense.Dense.add_entries.Goals as goal
 
 pub raise_each-self-inside-requires-clause-total : goal.raise_each-self-inside-requires-clause-total

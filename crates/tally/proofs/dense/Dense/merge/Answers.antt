@@ -6,7 +6,7 @@ use Rattle.tally.specs.Counts.{count_of, total_of, most_cells}
 use Rattle.tally.specs.Layout.{IsLayout, counts_in, row_start}
 use Rattle.tally.proofs.Places.{few_places, places_is}
 use Rattle.lemmas.proofs.Sums.{get_or-le-sum}
-use Rattle.tally.proofs.Tables.{layout_merged, counts_merged, counts_of, total_of_layout, used_of_layout}
+use Rattle.tally.proofs.RowTables.{layout_merged, counts_merged, counts_of, total_of_layout, used_of_layout}
 use Rattle.tally.proofs.dense.Dense.merge.Goals as goal
 
 pub raise_all-self-inside-requires-clause-small : goal.raise_all-self-inside-requires-clause-small

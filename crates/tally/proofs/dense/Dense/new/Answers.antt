@@ -3,7 +3,7 @@ use Rattle.std.specs.Prelude.{replicate}
 use Rattle.std.proofs.lemmas.List.{length-replicate}
 use Rattle.lemmas.proofs.Lists.{get_or-zeros}
 use Rattle.tally.proofs.Places.{places_is}
-use Rattle.tally.proofs.Tables.{layout_empty, counts_empty}
+use Rattle.tally.proofs.RowTables.{layout_empty, counts_empty}
 use Rattle.tally.proofs.dense.Dense.new.Goals as goal
 
 pub invariant_of-result : goal.invariant_of-result

@@ -3,7 +3,7 @@ use Rattle.std.specs.List.Sorted.{IsPermutation}
 use Rattle.std.proofs.lemmas.List.{with_items_is}
 use Rattle.tally.specs.Layout.{IsListing, IsLayout}
 use Rattle.tally.proofs.Ordered.{layout_ordered}
-use Rattle.tally.proofs.Tables.{used_of_layout}
+use Rattle.tally.proofs.RowTables.{used_of_layout}
 use Rattle.tally.proofs.dense.Dense.write.Goals as goal
 
 pub write_cells-requires-clause-listing : goal.write_cells-requires-clause-listing

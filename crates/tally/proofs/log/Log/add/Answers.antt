@@ -3,7 +3,7 @@ use Rattle.tally.specs.declared.cells.TheConstants.{MAX_TOTAL}
 use Rattle.tally.specs.declared.cells.Cell.{Cell}
 use Rattle.tally.specs.Counts.{Counts, HasPlace, count_of, total_of}
 use Rattle.tally.specs.Log.{cells_of}
-use Rattle.tally.proofs.Tables.{one_of}
+use Rattle.tally.proofs.RowTables.{one_of}
 use Rattle.tally.proofs.Equal.{cell_of}
 use Rattle.tally.proofs.Ascending.{place_of_pair}
 use Rattle.tally.proofs.LogCells.{counts_log, log_more, log_count, log_total, log_length, total_of-cells_of}

@@ -1,9 +1,0 @@
-//! The names that a round feeds to its workers, and in what order they may arrive where they are
-//! placed: each block once, and those of one gauge through one worker in order.
-//!
-//! `specs/Arrivals.antt` says it by one equation for each gauge and worker, and the law ties it to
-//! the flow of blocks. There is no code but the law.
-#![tactic(auto)]
-
-/// The law of the arrivals.
-pub mod laws;

@@ -1,0 +1,145 @@
+use Rattle.std.proofs.Common.{ℕ, length, refl, sym, ◌∙◌, ap, subst, arith}
+use Rattle.calibration.specs.declared.setup.Setup.{Setup}
+use Rattle.board.specs.Board.{BoardValue}
+use Rattle.segment_store.specs.Held.{ends_of}
+use Rattle.site_config.specs.recorded.Recorded.{recordings}
+use Rattle.count_command.specs.held_samples.Fronts.{AreFronts, FrontsStand}
+use Rattle.count_command.proofs.on_held_samples.Going.{going_starts, going_then, on_both, on_any}
+use Rattle.count_command.specs.held_rounds.Beside.{Leads}
+use Rattle.count_command.specs.held_rounds.Telling.{HasTold}
+use Rattle.count_command.proofs.on_held_rounds.Ahead.{IsAhead, ahead_first, ahead_on, ahead_last}
+use Rattle.count_command.proofs.on_held_rounds.LeadsOn.{leads_first, stands_first, held_last, board_for}
+use Rattle.count_command.proofs.on_held_rounds.RoundOf.{can_first}
+use Rattle.site_lanes.proofs.AllLanes.{sources_after, all_faulty_after, ready_after, whole_before}
+use Rattle.count_command.proofs.held_rounds.beside.count_rounds.Goals as goal
+
+pub loop-init : goal.loop-init
+loop-init g c =
+    let done = c.round.ensures in
+    let out = c.exchange-board.ensures.out in
+    let same = c.exchange-board.ensures.same in
+    let count = c.requires.gauges.2 ∙ sym c.requires.gauges.1 in
+    let ends = ends_of c.args.store.now.held in
+    let can = can_first ends c.args.lanes.now c.requires.lanes in
+    record {
+      usable = c.requires.usable;
+      head = refl;
+      gauges = (refl, same.gauges ∙ done.gauges ∙ c.requires.gauges.1, done.long);
+      grid = same.grid ∙ done.grid ∙ c.requires.grid;
+      block = same.block ∙ done.block ∙ c.requires.block;
+      board = board_for c.args.prepared.now _ _ _ _ done.board done.grid done.block done.gauges same out;
+      leads = subst (λ (b : BoardValue). Leads c.args.store.now.head.setup ends b c.round.new.lanes) (sym out)
+          (leads_first done count ends c.requires.lanes c.args.store.now.head.setup
+          (c.requires.grid ∙ ap (λ (s : Setup). s.grid) (sym c.requires.setup)));
+      can = ready_after done count can;
+      sources = sources_after done count can;
+      faulty = all_faulty_after done count can c.requires.faulty;
+      there = c.requires.on;
+      read = λ reads files lanes.
+          let both = stands_first done count ends c.requires.lanes (recordings c.args.bridge.now files) (sym c.requires.gauges.2) reads
+          lanes in
+          (both.0, subst (λ (b : BoardValue). FrontsStand (recordings c.args.bridge.now files) b) (sym out) both.1);
+      going = λ tells reads files lanes stored. (
+        going_starts (recordings c.args.bridge.now files) _ _ _ _ _ _ stored
+            (g.met.K.Station.only_now tells c.args.station.now),
+        stored,
+      );
+      told = λ tells reads files lanes n told was whole.
+          let r = recordings c.args.bridge.now files in
+          let first = g.K.Station.told c.args.station.now in
+          subst (λ (b : ℕ). IsAhead b r n told first ends c.round.new.lanes) c.requires.block
+          (ahead_first done count r (sym c.requires.gauges.2) reads lanes n told first ends c.requires.lanes whole
+          (subst (λ (b : ℕ). HasTold b r n told first c.args.lanes.now) (sym c.requires.block) was));
+      later = omega arith;
+    }
+
+pub store_board-requires-clause-fronts : goal.store_board-requires-clause-fronts
+store_board-requires-clause-fronts g c =
+    let was = c.loop.invariant in
+    subst (λ (n : ℕ). AreFronts c.loop.store.head.setup (ends_of c.loop.store.held) c.loop.board n) (was.gauges.2 ∙ c.requires.gauges.2)
+    was.leads.fronts
+
+pub returns-then-have_ended-clause-going : goal.returns-then-have_ended-clause-going
+returns-then-have_ended-clause-going g c = λ tells reads files lanes stored.
+    let was = c.loop.invariant.going tells reads files lanes stored in
+    going_then was.0 (c.store_board.ensures.going tells files was.1 (c.loop.invariant.read reads files lanes).1)
+
+pub returns-then-have_ended-clause-stored : goal.returns-then-have_ended-clause-stored
+returns-then-have_ended-clause-stored g c = λ tells reads files lanes stored.
+    let was = c.loop.invariant.going tells reads files lanes stored in
+    c.store_board.ensures.stored tells files was.1 (c.loop.invariant.read reads files lanes).1
+
+pub returns-then-have_ended-clause-read : goal.returns-then-have_ended-clause-read
+returns-then-have_ended-clause-read g c = λ reads files lanes. on_any c.store_board.result (c.loop.invariant.read reads files lanes).0
+
+pub returns-then-have_ended-clause-held : goal.returns-then-have_ended-clause-held
+returns-then-have_ended-clause-held g c =
+    let was = c.loop.invariant in
+    held_last (length c.args.bridge.now.gauges) c.loop.lanes (was.gauges.2 ∙ c.requires.gauges.2) was.can c.loop.store.head.setup
+    (ends_of c.loop.store.held) c.loop.board was.leads c.store_board.result _ c.store_board.ensures.ends
+
+pub returns-then-have_ended-clause-told : goal.returns-then-have_ended-clause-told
+returns-then-have_ended-clause-told g c = λ tells reads files lanes n told had.
+    let was = c.loop.invariant in
+    let r = recordings c.args.bridge.now files in
+    let held = held_last (length c.args.bridge.now.gauges) c.loop.lanes (was.gauges.2 ∙ c.requires.gauges.2) was.can c.loop.store.head.setup
+    (ends_of c.loop.store.held) c.loop.board was.leads c.store_board.result _ c.store_board.ensures.ends in
+    on_both c.store_board.result (λ to lines whole. ahead_last c.args.bridge.now.block r n told (g.K.Station.told c.loop.station)
+    (g.K.Station.told c.store_board.new.station) (ends_of c.loop.store.held) (ends_of c.store_board.new.store.held) c.loop.lanes
+    (sym (was.gauges.2 ∙ c.requires.gauges.2)) to lines (was.told tells reads files lanes n told had whole)) held
+    (c.store_board.ensures.lines tells)
+
+pub returns-in_err-round_beside-clause-going : goal.returns-in_err-round_beside-clause-going
+returns-in_err-round_beside-clause-going g c = λ tells reads files lanes stored.
+    let was = c.loop.invariant.going tells reads files lanes stored in
+    going_then was.0 (c.round_beside.ensures.going tells files was.1 (c.loop.invariant.read reads files lanes).1)
+
+pub returns-in_err-round_beside-clause-sources : goal.returns-in_err-round_beside-clause-sources
+returns-in_err-round_beside-clause-sources g c =
+    let was = c.loop.invariant in sources_after c.round_beside.ensures.round (was.gauges.2 ∙ c.requires.gauges.2 ∙ sym was.gauges.1) was.can
+
+pub returns-in_err-round_beside-clause-faulty : goal.returns-in_err-round_beside-clause-faulty
+returns-in_err-round_beside-clause-faulty g c =
+    let was = c.loop.invariant in all_faulty_after c.round_beside.ensures.round (was.gauges.2 ∙ c.requires.gauges.2 ∙ sym was.gauges.1)
+    was.can was.faulty
+
+pub loop-preserved : goal.loop-preserved
+loop-preserved g c =
+    let was = c.loop.invariant in
+    let now = c.in_ok-round_beside.ensures in
+    let done = c.round_beside.ensures.round in
+    let out = c.exchange-board-in-loop.ensures.out in
+    let same = c.exchange-board-in-loop.ensures.same in
+    let count = was.gauges.2 ∙ c.requires.gauges.2 ∙ sym was.gauges.1 in
+    let ends = ends_of c.loop.store.held in
+    let ends2 = ends_of c.round_beside.new.store.held in
+    record {
+      usable = now.usable;
+      head = c.round_beside.ensures.head ∙ was.head;
+      gauges = (c.round_beside.ensures.gauges ∙ was.gauges.0, same.gauges ∙ done.gauges ∙ was.gauges.1, done.long ∙ was.gauges.2);
+      grid = same.grid ∙ done.grid ∙ was.grid;
+      block = same.block ∙ done.block ∙ was.block;
+      board = board_for c.loop.prepared _ _ _ _ done.board done.grid done.block done.gauges same out;
+      leads = subst (λ (b : BoardValue). Leads c.round_beside.new.store.head.setup ends2 b c.round_beside.new.lanes) (sym out) now.leads;
+      can = ready_after done count was.can;
+      sources = sources_after done count was.can;
+      faulty = all_faulty_after done count was.can was.faulty;
+      there = now.there;
+      read = λ reads files lanes.
+          let both = now.stand reads files (was.read reads files lanes).0 in
+          (both.0, subst (λ (b : BoardValue). FrontsStand (recordings c.args.bridge.now files) b) (sym out) both.1);
+      going = λ tells reads files lanes stored.
+          let so_far = was.going tells reads files lanes stored in
+          let stand = (was.read reads files lanes).1 in
+          (going_then so_far.0 (c.round_beside.ensures.going tells files so_far.1 stand), now.stored tells files so_far.1 stand);
+      told = λ tells reads files lanes n told had whole.
+          let r = recordings c.args.bridge.now files in
+          let before = g.K.Station.told c.loop.station in
+          let after = g.K.Station.told c.round_beside.new.station in
+          let many = sym (was.gauges.2 ∙ c.requires.gauges.2) in
+          let so_far = was.told tells reads files lanes n told had (whole_before done count was.can whole) in
+          subst (λ (b : ℕ). IsAhead b r n told after ends2 c.round_beside.new.lanes) was.block
+          (ahead_on done count r many reads (was.read reads files lanes).0 n told before after ends ends2 now.held whole (now.told tells)
+          (subst (λ (b : ℕ). IsAhead b r n told before ends c.loop.lanes) (sym was.block) so_far));
+      later = omega (arith, was.later, c.round_beside.ensures.cause.later);
+    }

@@ -1,0 +1,106 @@
+use Rattle.std.proofs.Common.{◌≡◌, ◌≤◌, ◌<◌, ℕ, List, length, slice_index, refl, sym, ◌∙◌, ap, subst, arith}
+use Rattle.calibration.specs.declared.setup.Setup.{Setup}
+use Rattle.store_bytes.specs.store_head.Head.{HeadValue}
+use Rattle.segment_store.specs.Held.{ends_of}
+use Rattle.site_config.specs.declared.limits.TheConstants.{MAX_NAME_BYTES}
+use Rattle.site_config.specs.Valid.{name_of}
+use Rattle.site_config.proofs.Named.{name_is, short_name}
+use Rattle.site_config.specs.recorded.Recorded.{recordings}
+use Rattle.count_command.proofs.on_held_samples.Going.{going_starts, going_then, same_lines, round_more}
+use Rattle.count_command.proofs.on_held_samples.Fronts.{are_names, held_before, told_named, not_same, not_same_after}
+use Rattle.count_command.proofs.held_samples.storing.store_fronts.Goals as goal
+
+pub loop-gauge-init : goal.loop-gauge-init
+loop-gauge-init g c = record {
+  usable = c.requires.usable;
+  head = refl;
+  gauges = refl;
+  there = c.requires.on;
+  going = λ tells files stored stand. (
+    going_starts (recordings c.args.bridge.now files) _ _ _ _ _ _ stored
+        (g.met.K.Station.only_now tells c.args.station.now),
+    stored,
+  );
+  told = λ tells. same_lines _;
+  before = λ to ends h lt. absurd (omega (arith, lt));
+  after = λ h le. refl;
+  later = omega arith;
+}
+
+pub store_gauge-requires-clause-next : goal.store_gauge-requires-clause-next
+store_gauge-requires-clause-next g c =
+    let front = c.requires.fronts c.loop-gauge.gauge c.front.result.now (omega (arith, ap length c.as_slice-gauge-end.ensures))
+    c.front.ensures in
+    front.next ∙ sym (c.loop-gauge.invariant.after c.loop-gauge.gauge (omega arith)) ∙ ap (slice_index (ends_of c.loop-gauge.store.held))
+    (sym front.gauge)
+
+pub store_gauge-requires-clause-gauge : goal.store_gauge-requires-clause-gauge
+store_gauge-requires-clause-gauge g c =
+    let known : c.loop-gauge.gauge < length c.args.bridge.now.gauges = omega (arith, ap length c.as_slice-gauge-end.ensures) in
+    let front = c.requires.fronts c.loop-gauge.gauge c.front.result.now known c.front.ensures in
+    let many : length c.loop-gauge.store.held ≡ length c.args.bridge.now.gauges = c.loop-gauge.invariant.gauges ∙ c.requires.gauges.0 in (
+      omega (arith, known, many, front.gauge),
+      many ∙ sym c.requires.bridge.gains ∙ ap (λ (s : Setup). length s.gains) (sym c.requires.setup)
+          ∙ ap (λ (h : HeadValue). length h.setup.gains) (sym c.loop-gauge.invariant.head),
+    )
+
+pub store_gauge-requires-clause-short : goal.store_gauge-requires-clause-short
+store_gauge-requires-clause-short g c =
+    let known : c.loop-gauge.gauge < length c.args.bridge.now.gauges = omega (arith, ap length c.as_slice-gauge-end.ensures) in
+    let name = name_is c.args.bridge.now c.loop-gauge.gauge _ _ _ known c.as_slice.ensures c.as_str-name.ensures in
+    subst (λ (l : List ℕ). length l ≤ MAX_NAME_BYTES) name (short_name (name_of c.args.bridge.now c.loop-gauge.gauge)
+    (c.requires.bridge.names c.loop-gauge.gauge known))
+
+pub returns-in_err-store_gauge-clause-going : goal.returns-in_err-store_gauge-clause-going
+returns-in_err-store_gauge-clause-going g c = λ tells files stored stand.
+    let got = c.loop-gauge.invariant.going tells files stored stand in
+    let front = c.requires.fronts c.loop-gauge.gauge c.front.result.now (omega (arith, ap length c.as_slice-gauge-end.ensures))
+    c.front.ensures in
+    let known : c.loop-gauge.gauge < length c.args.bridge.now.gauges = omega (arith, ap length c.as_slice-gauge-end.ensures) in
+    let name = ap (name_of c.args.bridge.now) front.gauge ∙ name_is c.args.bridge.now c.loop-gauge.gauge _ _ _ known c.as_slice.ensures
+    c.as_str-name.ensures in
+    going_then got.0 (c.store_gauge.ensures.going tells (recordings c.args.bridge.now files) (are_names c.args.bridge.now c.requires.bridge)
+    (subst (λ (n : ℕ). n < length c.args.bridge.now.gauges) (sym front.gauge) known) name got.1
+    (stand c.loop-gauge.gauge c.front.result.now known c.front.ensures))
+
+pub loop-gauge-preserved : goal.loop-gauge-preserved
+loop-gauge-preserved g c =
+    let known : c.loop-gauge.gauge < length c.args.bridge.now.gauges = omega (arith, ap length c.as_slice-gauge-end.ensures) in
+    let front = c.requires.fronts c.loop-gauge.gauge c.front.result.now known c.front.ensures in
+    let name = name_is c.args.bridge.now c.loop-gauge.gauge _ _ _ known c.as_slice.ensures c.as_str-name.ensures in
+    let held = c.in_ok-store_gauge.ensures.held in
+    record {
+      usable = c.in_ok-store_gauge.ensures.usable;
+      head = c.store_gauge.ensures.head ∙ c.loop-gauge.invariant.head;
+      gauges = c.store_gauge.ensures.gauges ∙ c.loop-gauge.invariant.gauges;
+      there = c.in_ok-store_gauge.ensures.there;
+      going = λ tells files stored stand.
+          let got = c.loop-gauge.invariant.going tells files stored stand in
+          let stands = stand c.loop-gauge.gauge c.front.result.now known c.front.ensures in (
+            going_then got.0 (c.store_gauge.ensures.going tells (recordings c.args.bridge.now files)
+                (are_names c.args.bridge.now c.requires.bridge)
+                (subst (λ (n : ℕ). n < length c.args.bridge.now.gauges) (sym front.gauge) known)
+                (ap (name_of c.args.bridge.now) front.gauge ∙ name) got.1 stands),
+            c.in_ok-store_gauge.ensures.stored tells (recordings c.args.bridge.now files) got.1 stands,
+          );
+      told = λ tells. round_more (name_of c.args.bridge.now) (slice_index (ends_of c.args.store.now.held))
+          (slice_index (ends_of c.loop-gauge.store.held)) (slice_index (ends_of c.store_gauge.new.store.held)) c.loop-gauge.gauge
+          c.front.result.now.from c.front.result.now.to _ _ _ (c.loop-gauge.invariant.told tells)
+          (told_named (g.K.Station.told c.loop-gauge.station) (g.K.Station.told c.store_gauge.new.station)
+          (name_of c.args.bridge.now c.loop-gauge.gauge) c.as_str-name.result.now c.front.result.now.from c.front.result.now.to
+          (c.in_ok-store_gauge.ensures.told tells) name)
+          (sym front.next) (ap (slice_index (ends_of c.store_gauge.new.store.held)) (sym front.gauge) ∙ held.here)
+          (λ h lt. sym (held.others h (not_same h c.loop-gauge.gauge _ lt front.gauge)));
+      before = λ to ends h lt. held_before _ _ to c.front.result.now c.loop-gauge.gauge front.gauge held
+          (ends c.loop-gauge.gauge c.front.result.now known c.front.ensures) (λ k less. c.loop-gauge.invariant.before to ends k less) h lt;
+      after = λ h le. held.others h (not_same_after h c.loop-gauge.gauge _ le front.gauge) ∙ c.loop-gauge.invariant.after h
+          (omega (arith, le));
+      later = omega (arith, c.store_gauge.ensures.cause.later, c.loop-gauge.invariant.later);
+    }
+
+pub returns-clause-going : goal.returns-clause-going
+returns-clause-going g c = λ tells files stored stand. (c.loop-gauge.invariant.going tells files stored stand).0
+
+pub returns-clause-held : goal.returns-clause-held
+returns-clause-held g c = λ to ends h lt. c.loop-gauge.invariant.before to ends h
+    (omega (arith, lt, c.loop-gauge-test.false, ap length c.as_slice-gauge-end.ensures))

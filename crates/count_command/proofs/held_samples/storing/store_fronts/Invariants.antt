@@ -1,0 +1,33 @@
+use Rattle.std.proofs.Common.{◌≡◌, ◌≤◌, ◌<◌, ◌++◌, ℕ, false, length, slice_index}
+use Rattle.outside.specs.Site.{Files}
+use Rattle.segment_store.specs.Held.{ends_of}
+use Rattle.segment_store.specs.Moments.{IsThere}
+use Rattle.site_config.specs.Valid.{name_of}
+use Rattle.site_config.specs.recorded.Recorded.{recordings}
+use Rattle.count_command.specs.held_samples.Told.{round_lines}
+use Rattle.count_command.specs.held_samples.Going.{HoldsSinceEntry, IsStored}
+use Rattle.count_command.specs.held_samples.Fronts.{FrontsStand, FrontsEnd}
+use Rattle.count_command.proofs.held_samples.storing.store_fronts.Given as goal
+
+-- the gauges before this one are held up to their fronts' ends, the others as at entry
+abbrev pub invariant-loop-gauge : goal.invariant-loop-gauge
+invariant-loop-gauge g l =
+    let k = g.K.Station in
+    record {
+      usable : l.store.shut ≡ false;
+      head : l.store.head ≡ l.fn.store.head;
+      gauges : length l.store.held ≡ length l.fn.store.held;
+      there : k.tells → IsThere l.store (k.seen l.station) (k.leaves l.station);
+      going : k.tells → (files : Files) → IsStored (recordings l.bridge files) l.fn.store (k.seen l.fn.station) (k.leaves l.fn.station) →
+          FrontsStand (recordings l.bridge files) l.board →
+          HoldsSinceEntry (recordings l.bridge files) (ends_of l.fn.store.held) (k.clock l.fn.station) (k.moments l.fn.station)
+          (k.told l.fn.station)
+          (k.clock l.station) (k.moments l.station) (k.told l.station) (k.leaves l.station) (ends_of l.store.held)
+          × IsStored (recordings l.bridge files) l.store (k.seen l.station) (k.leaves l.station);
+      told : k.tells → k.told l.station ≡ k.told l.fn.station ++ round_lines (name_of l.bridge) (slice_index (ends_of l.fn.store.held))
+          (slice_index (ends_of l.store.held)) l.gauge;
+      before : (to : ℕ → ℕ) → FrontsEnd to l.board (length l.bridge.gauges) → (h : ℕ) → h < l.gauge →
+          slice_index (ends_of l.store.held) h ≡ to h;
+      after : (h : ℕ) → l.gauge ≤ h → slice_index (ends_of l.store.held) h ≡ slice_index (ends_of l.fn.store.held) h;
+      later : k.faults l.fn.station ≤ k.faults l.station;
+    }

@@ -1,0 +1,365 @@
+-- How a run goes on: a put, a line, a callee.
+--   at_most_same, at_most_trans   of EachAtMost
+--   going_starts                  over a store that is on its station
+--   going_then                    a run after a run
+--   put_going, put_going_on       a put, whatever it answers, and one with Ok
+--   line_going                    a line that acknowledges no more than is held
+--   safe_quiet, safe_going        a run that only read; a run over a resumed store
+use Rattle.std.proofs.Common.{◌≡◌, ◌⊎◌, inl, inr, ⊎_elim, ◌≤◌, ◌<◌, ℕ, zero, suc, ◌+◌, List, [], ◌∷◌, ◌++◌, length, get_or, set, append_assoc, refl, sym, ◌∙◌, ap, subst, arith}
+use Rattle.std.specs.Prelude.{Result, Ok, Err, OnOk}
+use Rattle.std.specs.List.{AllByRecursion}
+use Rattle.std.proofs.lemmas.Bool.{cases_eq, cases_lt}
+use Rattle.std.proofs.lemmas.List.{get_or-set_same, get_or-set_other, get_or_past, length-map}
+use Rattle.outside.specs.station.Station.{Image, Lines, MomentsSince, Elapses, Since, SameImages, NoNew, Tells}
+use Rattle.outside.proofs.on_station.Moments.{started, goes_on, continues, entails}
+use Rattle.segment.specs.segment_rules.Parts.{PartsValue}
+use Rattle.segment.specs.Segment.{SegmentValue}
+use Rattle.calibration.specs.declared.setup.Setup.{Setup}
+use Rattle.segment_store.specs.Image.{Reads, IsNext, ends_after}
+use Rattle.segment_store.specs.Held.{ends_of}
+use Rattle.segment_store.specs.Holds.{Holds, StandsIn}
+use Rattle.segment_store.specs.Moments.{StoreValue, IsOn, InPut}
+use Rattle.segment_store.specs.Quiet.{IsQuiet}
+use Rattle.store_bytes.specs.store_head.Head.{HeadValue}
+use Rattle.site_config.specs.recorded.Recorded.{Recorded}
+use Rattle.count_command.specs.held_samples.Told.{IsBelow, AreBelow, EachAtMost, held_line, gauge_lines, round_lines}
+use Rattle.std.proofs.lemmas.Bool.Decides.{nat_tests}
+use Rattle.count_command.specs.held_samples.Fronts.{IsHeldTo}
+use Rattle.count_command.specs.held_samples.Going.{HoldsAtLeast, KeepsTold, HoldsSinceEntry, Safe, IsStored}
+
+pub all_more : {A : Type 0} (P : A → Type 0) (xs : List A) (x : A) → AllByRecursion P xs → P x → AllByRecursion P (xs ++ x ∷ [])
+all_more P [] x all here = (here, tt)
+all_more P (y ∷ ys) x all here = (all.0, all_more P ys x all.1 here)
+
+all_both : {A : Type 0} (P : A → Type 0) (xs ys : List A) → AllByRecursion P xs → AllByRecursion P ys → AllByRecursion P (xs ++ ys)
+all_both P [] ys all more = more
+all_both P (x ∷ xs) ys all more = (all.0, all_both P xs ys all.1 more)
+
+pub at_most_same : (a : List ℕ) → EachAtMost a a
+at_most_same a g = omega arith
+
+pub at_most_trans : (a b c : List ℕ) → EachAtMost a b → EachAtMost b c → EachAtMost a c
+at_most_trans a b c p q g = omega (arith, p g, q g)
+
+grows : (setup : Setup) (ends : List ℕ) (p : PartsValue) → IsNext setup ends p → EachAtMost ends (ends_after ends p)
+grows setup ends p next g = elim (cases_eq g p.name.gauge) [
+  | inr other ↦ omega (arith, get_or-set_other ends p.name.gauge g p.name.to 0 other)
+  | inl same ↦ elim (cases_lt g (length ends)) [
+    | inl within ↦ let e : get_or (set ends p.name.gauge p.name.to) g 0 ≡ p.name.to = ap
+        (λ (k : ℕ). get_or (set ends p.name.gauge p.name.to) k 0) same ∙ get_or-set_same ends p.name.gauge p.name.to 0
+        (omega (arith, within, same)) in
+        omega (arith, e, next.body.some, next.joins, ap (λ (k : ℕ). get_or ends k 0) same)
+    | inr past ↦ omega (arith, get_or_past ends g 0 past)
+  ]
+]
+
+pub below_grows : (r : Recorded) (m n : List ℕ) → EachAtMost m n → (lines : Lines) → AreBelow r m lines → AreBelow r n lines
+below_grows r m n le [] all = tt
+below_grows r m n le (line ∷ lines) all =
+    ((λ g k lt small is. omega (arith, all.0 g k lt small is, le g)), below_grows r m n le lines all.1)
+
+pub same_lines : (told : Lines) → told ≡ told ++ []
+same_lines [] = refl
+same_lines (line ∷ lines) = ap (λ (l : Lines). line ∷ l) (same_lines lines)
+
+pub stored_holds : (r : Recorded) (s : StoreValue) (seen : Image) (leaves : Image → Type 0) → IsStored r s seen leaves → (c : Image) →
+    leaves c → Holds r.setup r.samples (ends_of s.held) c
+stored_holds r s seen leaves stored c has = record {
+  head = s.head;
+  of_setup = stored.setup;
+  bodies = stored.bodies;
+  reads = subst (λ (d : Image). Reads s.head stored.bodies (ends_of s.held) d) (sym (stored.on.durable c has)) stored.on.reads;
+  stand = stored.stand;
+}
+
+pub going_starts : (r : Recorded) (s : StoreValue) (start : ℕ) (past : MomentsSince) (told : Lines) (seen : Image)
+    (leaves : Image → Type 0) → IsStored r s seen leaves
+    → ((lines : Lines) (c : Image) → past start lines c → (lines ≡ told) × leaves c) →
+    HoldsSinceEntry r (ends_of s.held) start past told start past told leaves (ends_of s.held)
+going_starts r s start past told seen leaves stored only = record {
+  run = started start past (KeepsTold r (ends_of s.held) told) (λ lines c was. record {
+    held = ends_of s.held;
+    holds = stored_holds r s seen leaves stored c (only lines c was).1;
+    least = at_most_same (ends_of s.held);
+    new = [];
+    grew = (only lines c was).0 ∙ same_lines told;
+    below = tt;
+  });
+  new = [];
+  grew = same_lines told;
+  below = tt;
+  least = at_most_same (ends_of s.held);
+  held = λ c has. record {
+    held = ends_of s.held;
+    holds = stored_holds r s seen leaves stored c has;
+    least = at_most_same (ends_of s.held);
+  };
+}
+
+-- where what holds of a moment of the later run has the lines of the earlier one before it
+kept_then : (r : Recorded) (a n : List ℕ) (told told2 lines : Lines) (c : Image) (new : Lines) → told2 ≡ told ++ new → AreBelow r n new →
+    EachAtMost a n → KeepsTold r n told2 lines c → KeepsTold r a told lines c
+kept_then r a n told told2 lines c new grew below least k = record {
+  held = k.held;
+  holds = k.holds;
+  least = at_most_trans a n k.held least k.least;
+  new = new ++ k.new;
+  grew = k.grew ∙ ap (λ (l : Lines). l ++ k.new) grew ∙ append_assoc told new k.new;
+  below = all_both (IsBelow r k.held) new k.new (below_grows r n k.held k.least new below) k.below;
+}
+
+pub going_then : {r : Recorded} {a n m : List ℕ} {start mid now : ℕ} {past between since : MomentsSince} {told told2 told3 : Lines}
+    {leaves2 leaves3 : Image → Type 0}
+    → HoldsSinceEntry r a start past told mid between told2 leaves2 n → HoldsSinceEntry r n mid between told2 now since told3 leaves3 m →
+    HoldsSinceEntry r a start past told now since told3 leaves3 m
+going_then {r} {a} {n} {m} {start} {mid} {now} {past} {between} {since} {told} {told2} {told3} {leaves2} {leaves3} x y = record {
+  run = continues start mid now past between since (KeepsTold r a told) (KeepsTold r n told2) x.run y.run
+      (λ lines c k. kept_then r a n told told2 lines c x.new x.grew x.below x.least k);
+  new = x.new ++ y.new;
+  grew = y.grew ∙ ap (λ (l : Lines). l ++ y.new) x.grew ∙ append_assoc told x.new y.new;
+  below = all_both (IsBelow r m) x.new y.new (below_grows r n m y.least x.new x.below) y.below;
+  least = at_most_trans a n m x.least y.least;
+  held = y.held;
+}
+
+-- a put of a segment that stands for its samples
+module _ (r : Recorded) (s : StoreValue) (seen : Image) (leaves : Image → Type 0) (stored : IsStored r s seen leaves) (p : PartsValue)
+    (stands : StandsIn r.setup r.samples p)
+    (start now : ℕ) (past since : MomentsSince) (told told2 : Lines) (leaves2 : Image → Type 0)
+    (run : Since start past now since (InPut told s.head stored.bodies (ends_of s.held) p)) (same : told2 ≡ told)
+    (counts : (c : Image) → leaves2 c → since start told2 c) where
+  holds_more : (c : Image) → IsNext s.head.setup (ends_of s.held) p →
+      Reads s.head (stored.bodies ++ p ∷ []) (ends_after (ends_of s.held) p) c → Holds r.setup r.samples (ends_after (ends_of s.held) p) c
+  holds_more c next reads = record {
+    head = s.head;
+    of_setup = stored.setup;
+    bodies = stored.bodies ++ p ∷ [];
+    reads = reads;
+    stand = all_more (StandsIn r.setup r.samples) stored.bodies p stored.stand stands;
+  }
+
+  in_put : (lines : Lines) (c : Image) → InPut told s.head stored.bodies (ends_of s.held) p lines c → HoldsAtLeast r (ends_of s.held) c
+  in_put lines c i = ⊎_elim
+      (λ old. record {
+        held = ends_of s.held;
+        holds = record {
+          head = s.head;
+          of_setup = stored.setup;
+          bodies = stored.bodies;
+          reads = old;
+          stand = stored.stand;
+        };
+        least = at_most_same (ends_of s.held);
+      })
+      (λ new. record {
+        held = ends_after (ends_of s.held) p;
+        holds = holds_more c new.0 new.1;
+        least = grows s.head.setup
+            (ends_of s.held) p new.0;
+      }) i.1
+
+  put_kept : (lines : Lines) (c : Image) → InPut told s.head stored.bodies (ends_of s.held) p lines c →
+      KeepsTold r (ends_of s.held) told lines c
+  put_kept lines c i = let h = in_put lines c i in record {
+    held = h.held;
+    holds = h.holds;
+    least = h.least;
+    new = [];
+    grew = i.0 ∙ same_lines told;
+    below = tt;
+  }
+
+  -- whatever it answers
+  pub put_going : HoldsSinceEntry r (ends_of s.held) start past told now since told2 leaves2 (ends_of s.held)
+  put_going = record {
+    run = entails start now past since (KeepsTold r (ends_of s.held) told)
+        (InPut told s.head stored.bodies (ends_of s.held) p) run put_kept;
+    new = [];
+    grew = same ∙ same_lines told;
+    below = tt;
+    least = at_most_same (ends_of s.held);
+    held = λ c has. in_put told2 c (run.each told2 c (counts c has));
+  }
+
+  -- with Ok
+  module _ (s2 : StoreValue) (seen2 : Image) (held2 : ends_of s2.held ≡ ends_after (ends_of s.held) p) (head2 : s2.head ≡ s.head)
+      (next : IsNext s.head.setup (ends_of s.held) p) (on : IsOn s2 (stored.bodies ++ p ∷ []) seen2 leaves2) where
+    pub put_stored : IsStored r s2 seen2 leaves2
+    put_stored = record {
+      setup = ap (λ (h : HeadValue). h.setup) head2 ∙ stored.setup;
+      bodies = stored.bodies ++ p ∷ [];
+      on = on;
+      stand = all_more (StandsIn r.setup r.samples) stored.bodies p stored.stand stands;
+    }
+
+    more : EachAtMost (ends_of s.held) (ends_of s2.held)
+    more = subst (EachAtMost (ends_of s.held)) (sym held2) (grows s.head.setup (ends_of s.held) p next)
+
+    pub put_going_on : HoldsSinceEntry r (ends_of s.held) start past told now since told2 leaves2 (ends_of s2.held)
+    put_going_on = record {
+      run = put_going.run;
+      new = [];
+      grew = same ∙ same_lines told;
+      below = tt;
+      least = more;
+      held = λ c has. record {
+        held = ends_of s2.held;
+        holds = stored_holds r s2 seen2 leaves2 put_stored c has;
+        least = at_most_same (ends_of s2.held);
+      };
+    }
+
+-- a line that acknowledges no more than is held, told or not
+pub line_going : (r : Recorded) (a m : List ℕ) (start now next : ℕ) (past since later : MomentsSince) (told told2 told3 : Lines)
+    (leaves leaves2 : Image → Type 0) → HoldsSinceEntry r a start past told now since told2 leaves m
+    → (line : List ℕ) → IsBelow r m line → Elapses now next since later told3 leaves2 → SameImages leaves leaves2 →
+    (told3 ≡ told2 ++ line ∷ []) ⊎ (told3 ≡ told2) → HoldsSinceEntry r a start past told next later told3 leaves2 m
+line_going r a m start now next past since later told told2 told3 leaves leaves2 g line is_below time images lines =
+    let new : (l : Lines) × (told3 ≡ told ++ l) × AreBelow r m l = ⊎_elim
+    (λ more. (
+      g.new ++ line ∷ [],
+      more ∙ ap (λ (l : Lines). l ++ line ∷ []) g.grew ∙ append_assoc told g.new (line ∷ []),
+      all_more (IsBelow r m) g.new line g.below is_below,
+    ))
+    (λ none. (g.new, none ∙ g.grew, g.below)) lines in
+    record {
+      run = goes_on start now next past since later (KeepsTold r a told) told3 leaves2 g.run time
+          (λ c has. let h = g.held c (images.none_new c has) in
+          record {
+            held = h.held;
+            holds = h.holds;
+            least = at_most_trans a m h.held g.least h.least;
+            new = new.0;
+            grew = new.1;
+            below = below_grows r m h.held h.least new.0 new.2;
+          });
+      new = new.0;
+      grew = new.1;
+      below = new.2;
+      least = g.least;
+      held = λ c has. g.held c (images.none_new c has);
+    }
+
+-- the store stays on its station where nothing is written
+pub on_still : (s : StoreValue) (bodies : List PartsValue) (seen seen2 : Image) (leaves leaves2 : Image → Type 0) →
+    IsOn s bodies seen leaves → seen2 ≡ seen → NoNew leaves leaves2 → IsOn s bodies seen2 leaves2
+on_still s bodies seen seen2 leaves leaves2 on same none = record {
+  reads = subst (λ (d : Image). Reads s.head bodies (ends_of s.held) d)
+      (sym same) on.reads;
+  held = on.held;
+  count_is = on.count_is;
+  place_is = on.place_is;
+  durable = λ c has.
+      on.durable c (none c has) ∙ sym same;
+}
+
+pub stored_still : (r : Recorded) (s : StoreValue) (seen seen2 : Image) (leaves leaves2 : Image → Type 0) → IsStored r s seen leaves →
+    seen2 ≡ seen → NoNew leaves leaves2 → IsStored r s seen2 leaves2
+stored_still r s seen seen2 leaves leaves2 stored same none = record {
+  setup = stored.setup;
+  bodies = stored.bodies;
+  on = on_still s stored.bodies seen seen2 leaves leaves2 stored.on same none;
+  stand = stored.stand;
+}
+
+some : (name : List ℕ) (from to : ℕ) → from < to → held_line name to ∷ [] ≡ gauge_lines name from to
+some name from to lt = grind (arith, nat_tests)
+
+none : (name : List ℕ) (from to : ℕ) → from ≡ to → [] ≡ gauge_lines name from to
+none name from to same = grind (arith, nat_tests)
+
+-- what is held of a gauge after its put
+pub end_held : (held held2 : List SegmentValue) (p : PartsValue) → p.name.gauge < length held → ends_of held2 ≡ ends_after (ends_of held) p
+    →
+    p.name.to ≤ get_or (ends_of held2) p.name.gauge 0
+end_held held held2 p lt is = omega (
+  arith,
+  ap (λ (e : List ℕ). get_or e p.name.gauge 0) is,
+  get_or-set_same (ends_of held) p.name.gauge
+      p.name.to 0 (omega (arith, lt, length-map held (λ (s : SegmentValue). s.to))),
+)
+
+pub held_to : (held held2 : List SegmentValue) (p : PartsValue) → p.name.gauge < length held → ends_of held2 ≡ ends_after (ends_of held) p →
+    IsHeldTo (ends_of held) p.name.gauge p.name.to (ends_of held2)
+held_to held held2 p lt is = record {
+  here = ap (λ (e : List ℕ). get_or e p.name.gauge 0) is ∙ get_or-set_same (ends_of held) p.name.gauge p.name.to 0
+      (omega (arith, lt, length-map held (λ (s : SegmentValue). s.to)));
+  others = λ g other. ap (λ (e : List ℕ). get_or e g 0) is ∙ get_or-set_other (ends_of held) p.name.gauge g p.name.to 0 other;
+}
+
+-- a fact whatever the answer is, and what telling does to the lines
+pub on_any : {A E : Type 0} {P : Type 0} (r : Result A E) → P → OnOk r P
+on_any (Ok x) p = p
+on_any (Err e) p = tt
+
+pub on_both : {A E : Type 0} {P Q R : Type 0} (r : Result A E) → (P → Q → R) → OnOk r P → OnOk r Q → OnOk r R
+on_both (Ok x) f p q = f p q
+on_both (Err e) f p q = tt
+
+pub told_either : {E : Type 0} (r : Result (Unit {0}) E) (old new : Lines) (line : List ℕ) → Tells old line new r →
+    (new ≡ old ++ line ∷ []) ⊎ (new ≡ old)
+told_either (Ok u) old new line t = inl t.0
+told_either (Err e) old new line t = t.1
+
+-- a run that only read
+pub safe_quiet : (r : Recorded) (a : List ℕ) (start now : ℕ) (past since : MomentsSince) (told told2 : Lines) (seen seen2 : Image)
+    (leaves leaves2 : Image → Type 0) → ((c : Image) → leaves c → HoldsAtLeast r a c)
+    → IsQuiet start past now since told told2 seen seen2 leaves leaves2 → Safe r a start past told now since told2 leaves2
+safe_quiet r a start now past since told told2 seen seen2 leaves leaves2 holds quiet =
+    let kept : (lines : Lines) (c : Image) → (lines ≡ told) × leaves c →
+    KeepsTold r a told lines c = λ lines c was. let h = holds c was.1 in record
+    { held = h.held; holds = h.holds; least = h.least; new = []; grew = was.0 ∙ same_lines told; below = tt } in
+    record {
+      run = entails start now past since (KeepsTold r a told) (λ lines c. (lines ≡ told) × leaves c) quiet.run kept;
+      kept = λ c has.
+          kept told2 c (quiet.told_same, quiet.none_new c has);
+    }
+
+-- and then one over the resumed store
+pub safe_going : (r : Recorded) (a n m : List ℕ) (start mid now : ℕ) (past between since : MomentsSince) (told told2 told3 : Lines)
+    (leaves2 leaves3 : Image → Type 0) → Safe r a start past told mid between told2 leaves2 → told2 ≡ told → EachAtMost a n
+    → HoldsSinceEntry r n mid between told2 now since told3 leaves3 m → Safe r a start past told now since told3 leaves3
+safe_going r a n m start mid now past between since told told2 told3 leaves2 leaves3 safe same least g =
+    let none : told2 ≡ told ++ [] = same ∙ same_lines told in
+    record {
+      run = continues start mid now past between since (KeepsTold r a told) (KeepsTold r n told2) safe.run g.run
+          (λ lines c k. kept_then r a n told told2 lines c [] none tt least k);
+      kept = λ c has. let h = g.held c has in record {
+        held = h.held;
+        holds = h.holds;
+        least = at_most_trans a n h.held least
+            (at_most_trans n m h.held g.least h.least);
+        new = g.new;
+        grew = g.grew ∙ ap (λ (l : Lines). l ++ g.new) same;
+        below = below_grows r m h.held h.least g.new g.below;
+      };
+    }
+
+-- the lines of a round are the same where the numbers are
+pub round_same : (names : ℕ → List ℕ) (from to to2 : ℕ → ℕ) (k : ℕ) → ((g : ℕ) → g < k → to g ≡ to2 g) →
+    round_lines names from to k ≡ round_lines names from to2 k
+round_same names from to to2 zero same = refl
+round_same names from to to2 (suc k) same =
+    ap (λ (l : Lines). l ++ gauge_lines (names k) (from k) (to k)) (round_same names from to to2 k (λ g lt. same g (omega (arith, lt))))
+    ∙ ap (λ (n : ℕ). round_lines names from to2 k ++ gauge_lines (names k) (from k) n) (same k (omega arith))
+
+pub round_both : (names : ℕ → List ℕ) (from from2 to to2 : ℕ → ℕ) (k : ℕ) → ((g : ℕ) → g < k → from g ≡ from2 g) →
+    ((g : ℕ) → g < k → to g ≡ to2 g) → round_lines names from to k ≡ round_lines names from2 to2 k
+round_both names from from2 to to2 zero same also = refl
+round_both names from from2 to to2 (suc k) same also =
+    ap (λ (l : Lines). l ++ gauge_lines (names k) (from k) (to k)) (round_both names from from2 to to2 k
+    (λ g lt. same g (omega (arith, lt))) (λ g lt. also g (omega (arith, lt))))
+    ∙ ap (λ (n : ℕ). round_lines names from2 to2 k ++ gauge_lines (names k) n (to k)) (same k (omega arith))
+    ∙ ap (λ (n : ℕ). round_lines names from2 to2 k ++ gauge_lines (names k) (from2 k) n) (also k (omega arith))
+
+-- the lines of the gauges up to k, and those of k, where its numbers are from and to
+pub round_more : (names : ℕ → List ℕ) (from to to2 : ℕ → ℕ) (k a b : ℕ) (told told2 told3 : Lines) →
+    told2 ≡ told ++ round_lines names from to k → told3 ≡ told2 ++ gauge_lines (names k) a b → from k ≡ a → to2 k ≡ b →
+    ((g : ℕ) → g < k → to g ≡ to2 g)
+    → told3 ≡ told ++ round_lines names from to2 (k + 1)
+round_more names from to to2 k a b told told2 told3 so_far here is_from is_to same =
+    here ∙ ap (λ (l : Lines). l ++ gauge_lines (names k) a b) (so_far ∙ ap (λ (l : Lines). told ++ l) (round_same names from to to2 k same))
+    ∙ append_assoc told (round_lines names from to2 k) (gauge_lines (names k) a b)
+    ∙ ap (λ (n : ℕ). told ++ (round_lines names from to2 k ++ gauge_lines (names k) n b)) (sym is_from)
+    ∙ ap (λ (n : ℕ). told ++ (round_lines names from to2 k ++ gauge_lines (names k) (from k) n)) (sym is_to)
+    ∙ ap (λ (n : ℕ). told ++ round_lines names from to2 n) (let e : suc k ≡ k + 1 = omega arith in e)

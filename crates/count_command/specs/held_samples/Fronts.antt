@@ -1,0 +1,37 @@
+-- The fronts of a board, and what is held after their puts.
+--   IsHeldTo                           one gauge is held up to there, and the others as before
+--   IsNextFront                        a front begins where its gauge's held segment ends
+--   StandsInRecording                  a segment stands for the samples of a recording that its name names
+--   AreFronts, FrontsEnd, FrontsStand  whichever segments a board gives as fronts
+use Rattle.std.specs.Prelude.{◌≡◌, ◌≢◌, ◌<◌, ◌≤◌, ℕ, List, slice_index}
+use Rattle.calibration.specs.declared.setup.Setup.{Setup}
+use Rattle.segment.specs.Segment.{SegmentValue}
+use Rattle.board.specs.Board.{BoardValue, IsFront, StandsIn}
+use Rattle.site_config.specs.recorded.Recorded.{Recorded}
+use Rattle.segment_store.specs.Holds.{gain_at}
+
+pub record IsHeldTo (ends : List ℕ) (gauge to : ℕ) (now : List ℕ) : Type 0 where
+  pub here : slice_index now gauge ≡ to
+  pub others : (g : ℕ) → g ≢ gauge → slice_index now g ≡ slice_index ends g
+
+pub record IsNextFront (setup : Setup) (ends : List ℕ) (g : ℕ) (front : SegmentValue) : Type 0 where
+  pub gauge : front.gauge ≡ g
+  pub grid : front.grid ≡ setup.grid
+  pub next : front.from ≡ slice_index ends g
+  pub ascends : front.from ≤ front.to
+
+abbrev pub AreFronts : Setup → List ℕ → BoardValue → ℕ → Type 0
+AreFronts setup ends board gauges =
+    (g : ℕ) (front : SegmentValue) → g < gauges → IsFront board g front → IsNextFront setup ends g front
+
+abbrev pub FrontsEnd : (ℕ → ℕ) → BoardValue → ℕ → Type 0
+FrontsEnd to board gauges = (g : ℕ) (front : SegmentValue) → g < gauges → IsFront board g front → front.to ≡ to g
+
+abbrev pub StandsInRecording : Recorded → SegmentValue → Type 0
+StandsInRecording r s = StandsIn s (gain_at r.setup s.gauge) (r.samples s.gauge)
+
+-- those that are not empty do
+abbrev pub FrontsStand : Recorded → BoardValue → Type 0
+FrontsStand r board =
+    (g : ℕ) (front : SegmentValue) → g < r.gauges → IsFront board g front → front.from < front.to →
+    StandsInRecording r front

@@ -1,0 +1,19 @@
+//! The puts of a round, and the lines that acknowledge them.
+//!
+//! A line `held NAME N` tells the operator that the first N samples of a gauge are held: it is told
+//! when the put of the segment that ends there has returned. `specs/held_samples/Going.antt` says
+//! what is true at every moment of such a run: whatever a crash leaves holds at least what was held
+//! at entry, and no line acknowledges more than it holds. `specs/held_samples/Told.antt` has the
+//! lines.
+//!
+//! Cost: four station calls and a line for each front that is not empty. No call but
+//! [`HeldLine::new`] takes memory.
+
+mod line;
+mod storing;
+#[cfg(test)]
+mod tests;
+
+pub use line::HeldLine;
+pub use std::alloc::AllocError as OutOfMemory;
+pub use storing::{store_front, store_fronts};

@@ -1,0 +1,180 @@
+ghost use Rattle.std.specs.Prelude.{
+  ◌≡◌,
+  ◌≤◌,
+  ◌<◌,
+  ◌++◌,
+  [],
+  ◌∷◌,
+  ℕ,
+  false,
+  length,
+  slice_index,
+  OnOk,
+};
+ghost use Rattle.outside.specs.Fault.{HasCause};
+ghost use Rattle.outside.specs.Site.{Files};
+ghost use Rattle.segment.specs.Parts.{parts_of};
+ghost use Rattle.segment_store.specs.Held.{ends_of};
+ghost use Rattle.segment_store.specs.Image.{ends_after};
+ghost use Rattle.segment_store.specs.Moments.{IsThere};
+ghost use Rattle.site_config.specs.declared.limits.TheConstants.{MAX_NAME_BYTES};
+ghost use Rattle.site_config.specs.Valid.{IsConfig, name_of};
+ghost use Rattle.site_config.specs.recorded.Recorded.{Recorded, recordings};
+ghost use Rattle.count_command.specs.held_samples.Told.{held_line, gauge_lines, round_lines};
+ghost use Rattle.count_command.specs.held_samples.Going.{HoldsSinceEntry, IsStored, AreNames};
+ghost use Rattle.count_command.specs.held_samples.Fronts.{IsHeldTo, StandsInRecording, AreFronts, FrontsEnd, FrontsStand};
+
+use crate::held_samples::line::HeldLine;
+use board::Board;
+use outside::Failed;
+use outside::station::Station;
+use segment::Segment;
+use segment_store::Store;
+use site_config::Config;
+
+/// Stores the front of a gauge, and acknowledges it.
+pub fn store_front<K: Station>(
+    store: &mut Store,
+    station: &mut K,
+    front: &Segment,
+    name: &str,
+    line: &mut HeldLine,
+) -> Result<(), Failed>
+    requires usable { store.old.shut ≡ false }
+    requires grid { front.now.grid ≡ store.old.head.setup.grid }
+    requires gauge { (front.now.gauge < length store.old.held)
+        × (length store.old.held ≡ length store.old.head.setup.gains) }
+    requires some { front.now.from < front.now.to }
+    requires next { front.now.from ≡ slice_index (ends_of store.old.held) front.now.gauge }
+    requires on { K.tells → IsThere store.old (K.seen station.old) (K.leaves station.old) }
+    requires short { length name.now ≤ MAX_NAME_BYTES }
+    // Every moment is kept, whatever it answers.
+    ensures going { K.tells → (r : Recorded) → AreNames r.names r.gauges →
+        front.now.gauge < r.gauges →
+        r.names front.now.gauge ≡ name.now →
+        IsStored r store.old (K.seen station.old) (K.leaves station.old) →
+        StandsInRecording r front.now →
+        HoldsSinceEntry r (ends_of store.old.held)
+        (K.clock station.old) (K.moments station.old) (K.told station.old)
+        (K.clock station.new) (K.moments station.new) (K.told station.new)
+        (K.leaves station.new) (ends_of store.new.held) }
+    ensures stored { K.tells → (r : Recorded) →
+        IsStored r store.old (K.seen station.old) (K.leaves station.old) →
+        StandsInRecording r front.now →
+        OnOk result (IsStored r store.new (K.seen station.new) (K.leaves station.new)) }
+    ensures told { K.tells → OnOk result (K.told station.new ≡
+        K.told station.old ++ held_line name.now front.now.to ∷ []) }
+    ensures held { OnOk result (ends_of store.new.held ≡
+        ends_after (ends_of store.old.held) (parts_of front.now)) }
+    ensures there { K.tells →
+        OnOk result (IsThere store.new (K.seen station.new) (K.leaves station.new)) }
+    ensures usable { OnOk result (store.new.shut ≡ false) }
+    ensures head { store.new.head ≡ store.old.head }
+    ensures gauges { length store.new.held ≡ length store.old.held }
+    ensures cause { HasCause (K.faults station.old) (K.faults station.new) result }
+{
+    let to = front.name().to;
+    match store.put(station, front) {
+        Ok(()) => station.tell(line.held(name, to)),
+        Err(_) => Err(Failed),
+    }
+}
+
+// Stores and acknowledges the front of a gauge, unless it is empty.
+fn store_gauge<K: Station>(
+    store: &mut Store,
+    station: &mut K,
+    front: &Segment,
+    name: &str,
+    line: &mut HeldLine,
+) -> Result<(), Failed>
+    requires usable { store.old.shut ≡ false }
+    requires grid { front.now.grid ≡ store.old.head.setup.grid }
+    requires gauge { (front.now.gauge < length store.old.held)
+        × (length store.old.held ≡ length store.old.head.setup.gains) }
+    requires ascends { front.now.from ≤ front.now.to }
+    requires next { front.now.from ≡ slice_index (ends_of store.old.held) front.now.gauge }
+    requires on { K.tells → IsThere store.old (K.seen station.old) (K.leaves station.old) }
+    requires short { length name.now ≤ MAX_NAME_BYTES }
+    ensures going { K.tells → (r : Recorded) → AreNames r.names r.gauges →
+        front.now.gauge < r.gauges →
+        r.names front.now.gauge ≡ name.now →
+        IsStored r store.old (K.seen station.old) (K.leaves station.old) →
+        (front.now.from < front.now.to → StandsInRecording r front.now) →
+        HoldsSinceEntry r (ends_of store.old.held)
+        (K.clock station.old) (K.moments station.old) (K.told station.old)
+        (K.clock station.new) (K.moments station.new) (K.told station.new)
+        (K.leaves station.new) (ends_of store.new.held) }
+    ensures stored { K.tells → (r : Recorded) →
+        IsStored r store.old (K.seen station.old) (K.leaves station.old) →
+        (front.now.from < front.now.to → StandsInRecording r front.now) →
+        OnOk result (IsStored r store.new (K.seen station.new) (K.leaves station.new)) }
+    ensures told { K.tells → OnOk result (K.told station.new ≡
+        K.told station.old ++ gauge_lines name.now front.now.from front.now.to) }
+    ensures held { OnOk result (IsHeldTo (ends_of store.old.held)
+        front.now.gauge front.now.to (ends_of store.new.held)) }
+    ensures there { K.tells →
+        OnOk result (IsThere store.new (K.seen station.new) (K.leaves station.new)) }
+    ensures usable { OnOk result (store.new.shut ≡ false) }
+    ensures head { store.new.head ≡ store.old.head }
+    ensures gauges { length store.new.held ≡ length store.old.held }
+    ensures cause { HasCause (K.faults station.old) (K.faults station.new) result }
+{
+    let span = front.name();
+    if span.from == span.to {
+        return Ok(());
+    }
+    store_front(store, station, front, name, line)
+}
+
+/// Stores and acknowledges what a round gave, in order of gauge. After a failure the store is shut,
+/// or a line was not told; the gauges below keep what was stored of them.
+pub fn store_fronts<K: Station>(
+    board: &Board,
+    bridge: &Config,
+    store: &mut Store,
+    station: &mut K,
+    line: &mut HeldLine,
+) -> Result<(), Failed>
+    requires usable { store.old.shut ≡ false }
+    requires bridge { IsConfig bridge.now }
+    requires gauges { (length store.old.held ≡ length bridge.now.gauges)
+        × (length board.now.rows ≡ length bridge.now.gauges) }
+    requires setup { store.old.head.setup ≡ bridge.now.setup }
+    requires fronts { AreFronts store.old.head.setup (ends_of store.old.held) board.now
+        (length bridge.now.gauges) }
+    requires on { K.tells → IsThere store.old (K.seen station.old) (K.leaves station.old) }
+    // Every moment is kept, whatever it answers.
+    ensures going { K.tells → (files : Files) →
+        IsStored (recordings bridge.now files) store.old (K.seen station.old)
+        (K.leaves station.old) →
+        FrontsStand (recordings bridge.now files) board.now →
+        HoldsSinceEntry (recordings bridge.now files) (ends_of store.old.held)
+        (K.clock station.old) (K.moments station.old) (K.told station.old)
+        (K.clock station.new) (K.moments station.new) (K.told station.new)
+        (K.leaves station.new) (ends_of store.new.held) }
+    ensures stored { K.tells → (files : Files) →
+        IsStored (recordings bridge.now files) store.old (K.seen station.old)
+        (K.leaves station.old) →
+        FrontsStand (recordings bridge.now files) board.now → OnOk result
+        (IsStored (recordings bridge.now files) store.new (K.seen station.new)
+        (K.leaves station.new)) }
+    ensures told { K.tells → OnOk result (K.told station.new ≡ K.told station.old
+        ++ round_lines (name_of bridge.now) (slice_index (ends_of store.old.held))
+        (slice_index (ends_of store.new.held)) (length bridge.now.gauges)) }
+    ensures held { (to : ℕ → ℕ) → FrontsEnd to board.now (length bridge.now.gauges) →
+        OnOk result ((g : ℕ) → g < length bridge.now.gauges →
+        slice_index (ends_of store.new.held) g ≡ to g) }
+    ensures there { K.tells →
+        OnOk result (IsThere store.new (K.seen station.new) (K.leaves station.new)) }
+    ensures usable { OnOk result (store.new.shut ≡ false) }
+    ensures head { store.new.head ≡ store.old.head }
+    ensures gauges { length store.new.held ≡ length store.old.held }
+    ensures cause { HasCause (K.faults station.old) (K.faults station.new) result }
+{
+    for gauge in 0..bridge.gauges.as_slice().len() {
+        let name = bridge.gauges.as_slice()[gauge].name.as_str();
+        store_gauge(store, station, board.front(gauge as u16), name, line)?;
+    }
+    Ok(())
+}

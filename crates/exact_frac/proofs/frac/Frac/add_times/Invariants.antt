@@ -1,7 +1,0 @@
--- The multiple by the first bits of n has been formed.
-use Rattle.std.proofs.Common.{◌≡◌, ◌-◌, ◌*◌, ◌/◌, ◌^◌}
-use Rattle.exact_frac.specs.Frac.{parts}
-use Rattle.exact_frac.proofs.frac.Frac.add_times.Given as goal
-
-abbrev pub invariant-loop-bit : goal.invariant-loop-bit
-invariant-loop-bit l = record { multiple : parts l.times ≡ l.fn.n / 2 ^ (64 - l.bit) * l.fn.num; den : l.times.den ≡ l.fn.self.den }

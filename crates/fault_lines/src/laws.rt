@@ -1,6 +1,0 @@
-ghost use Rattle.fault_lines.specs.FaultLine.{NoneAcknowledges};
-
-/// No line of a status begins as a line does that acknowledges samples, whatever names it carries.
-pub fn none_acknowledges()
-    ensures { NoneAcknowledges }
-{}

@@ -1,0 +1,3 @@
+pub mod file_tasks
+pub mod column_command
+pub mod sheet_command

@@ -1,7 +1,0 @@
-ghost use Rattle.miner.specs.Damage.{HasOneDamage};
-
-/// The damage of half cycles is one number: no two fractions are the damage of the same half
-/// cycles.
-pub fn one_damage()
-    ensures { HasOneDamage }
-{}

@@ -1,0 +1,4 @@
+pub mod Told
+pub mod Moments
+pub mod Recorded
+pub mod Crashing

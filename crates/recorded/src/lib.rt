@@ -1,6 +1,0 @@
-//! What a configuration and the files of its site record: for each gauge its name, its samples, and
-//! the bytes behind the last whole one.
-//!
-//! `specs/Recorded.antt` is what the commands' contracts speak of, and `specs/Asked.antt` says
-//! which files they ask for. There is no code.
-#![tactic(auto)]

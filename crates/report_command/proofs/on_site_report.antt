@@ -1,0 +1,4 @@
+pub mod FewHalves
+pub mod Printed
+pub mod Summed
+pub mod HeldFigures

@@ -1,0 +1,68 @@
+use Rattle.std.proofs.Common.{◌<◌, ◌≤◌, ◌++◌, ℕ, List, length, refl, ◌∙◌, ap, subst, arith}
+use Rattle.outside.specs.Sink.{AppendsPrefix}
+use Rattle.calibration.specs.declared.setup.Setup.{Setup}
+use Rattle.calibration.specs.declared.limits.TheConstants.{MAX_NAME_BYTES}
+use Rattle.lemmas.proofs.Outcomes.{on_err}
+use Rattle.site_config.specs.Valid.{name_of}
+use Rattle.site_config.proofs.Named.{name_is, short_name}
+use Rattle.report_command.specs.site_report.Report.{gauge_lines, text_of_gauge}
+use Rattle.report_command.proofs.on_site_report.HeldFigures.{agree_held}
+use Rattle.report.proofs.Printed.{lines_more, lines_front, lines_whole, lines_start}
+use Rattle.report_command.proofs.on_site_report.Printed.{text_is}
+use Rattle.report_command.proofs.site_report.printing.print_gauges.Goals as goal
+
+pub print_gauge-requires-clause-name : goal.print_gauge-requires-clause-name
+print_gauge-requires-clause-name g c =
+    let known : c.loop-gauge.gauge < length c.args.bridge.now.gauges = omega (arith, ap length c.as_slice-gauge-end.ensures) in
+    subst (λ (l : List ℕ). length l ≤ MAX_NAME_BYTES) (name_is c.args.bridge.now c.loop-gauge.gauge _ _ _ known c.as_slice.ensures
+    c.as_str-name.ensures)
+    (short_name (name_of c.args.bridge.now c.loop-gauge.gauge) (c.requires.bridge.names c.loop-gauge.gauge known))
+
+pub loop-gauge-init : goal.loop-gauge-init
+loop-gauge-init g c = record {
+  classes = refl;
+  printed = λ tells figures agrees. lines_start (text_of_gauge c.args.bridge.now figures) (length c.args.bridge.now.gauges)
+      (g.O.Sink.written c.args.out.now);
+  later = omega arith;
+}
+
+pub loop-gauge-preserved : goal.loop-gauge-preserved
+loop-gauge-preserved g c =
+    let was = c.loop-gauge.invariant in
+    let known : c.loop-gauge.gauge < length c.args.bridge.now.gauges = omega (arith, ap length c.as_slice-gauge-end.ensures) in
+    let grid = c.held.ensures.grid ∙ ap (λ (s : Setup). s.grid) c.requires.setup in
+    let name = name_is c.args.bridge.now c.loop-gauge.gauge _ _ _ known c.as_slice.ensures c.as_str-name.ensures in
+    record {
+      classes = c.print_gauge.ensures.classes ∙ was.classes;
+      printed = λ tells figures agrees. lines_more (text_of_gauge c.args.bridge.now figures) c.loop-gauge.gauge
+          (length c.args.bridge.now.gauges)
+          (g.O.Sink.written c.args.out.now) (g.O.Sink.written c.loop-gauge.out) (g.O.Sink.written c.print_gauge.new.out)
+          (gauge_lines c.args.bridge.now figures) known (was.printed tells figures agrees)
+          (c.in_ok-print_gauge.ensures.ok tells (figures c.loop-gauge.gauge)
+          (agree_held c.args.bridge.now c.args.store.now.held figures c.loop-gauge.gauge c.loop-gauge.gauge c.held.result.now agrees refl
+          (omega (arith, known, c.requires.gauges)) (c.held.ensures.held c.held.result.now) grid c.print_gauge.ensures.rules)
+          ∙ ap (λ (t : List ℕ). g.O.Sink.written c.loop-gauge.out ++ t)
+          (text_is c.args.bridge.now figures c.loop-gauge.gauge c.held.result.now.grid c.as_str-name.result.now grid name));
+      later = omega (arith, was.later, c.print_gauge.ensures.cause.later);
+    }
+
+pub returns-in_err-print_gauge-clause-failed : goal.returns-in_err-print_gauge-clause-failed
+returns-in_err-print_gauge-clause-failed g c = λ tells figures agrees.
+    let was = c.loop-gauge.invariant in
+    let known : c.loop-gauge.gauge < length c.args.bridge.now.gauges = omega (arith, ap length c.as_slice-gauge-end.ensures) in
+    let grid = c.held.ensures.grid ∙ ap (λ (s : Setup). s.grid) c.requires.setup in
+    let name = name_is c.args.bridge.now c.loop-gauge.gauge _ _ _ known c.as_slice.ensures c.as_str-name.ensures in
+    on_err _ (lines_front (text_of_gauge c.args.bridge.now figures) c.loop-gauge.gauge (length c.args.bridge.now.gauges)
+    (g.O.Sink.written c.args.out.now) (g.O.Sink.written c.loop-gauge.out) (g.O.Sink.written c.print_gauge.new.out)
+    (gauge_lines c.args.bridge.now figures) known (was.printed tells figures agrees)
+    (subst (AppendsPrefix (g.O.Sink.written c.loop-gauge.out) (g.O.Sink.written c.print_gauge.new.out))
+    (text_is c.args.bridge.now figures c.loop-gauge.gauge c.held.result.now.grid c.as_str-name.result.now grid name)
+    (c.in_err-print_gauge.ensures.failed tells (figures c.loop-gauge.gauge)
+    (agree_held c.args.bridge.now c.args.store.now.held figures c.loop-gauge.gauge c.loop-gauge.gauge c.held.result.now agrees refl
+    (omega (arith, known, c.requires.gauges)) (c.held.ensures.held c.held.result.now) grid c.print_gauge.ensures.rules))))
+
+pub returns-clause-ok : goal.returns-clause-ok
+returns-clause-ok g c = λ tells figures agrees. lines_whole (text_of_gauge c.args.bridge.now figures) c.loop-gauge.gauge
+    (length c.args.bridge.now.gauges) (g.O.Sink.written c.args.out.now) (g.O.Sink.written c.loop-gauge.out)
+    (gauge_lines c.args.bridge.now figures)
+    (omega (arith, c.loop-gauge-test.false, ap length c.as_slice-gauge-end.ensures)) (c.loop-gauge.invariant.printed tells figures agrees)

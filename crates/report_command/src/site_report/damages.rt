@@ -1,0 +1,78 @@
+ghost use Rattle.std.specs.Prelude.{◌≡◌, ◌<◌, ◌≤◌, ℕ, All, length, sum, vec_capacity};
+ghost use Rattle.calibration.specs.declared.grid.TheConstants.{MAX_CLASSES};
+ghost use Rattle.damage.specs.declared.miner.TheConstants.{MAX_HALF_CYCLES};
+ghost use Rattle.report.specs.Figures.{Figures, Agree, figures_of};
+ghost use Rattle.segment.specs.Segment.{IsSegment};
+ghost use Rattle.site_config.specs.Valid.{IsConfig};
+ghost use Rattle.report_command.specs.site_report.Damages.{IsDamageOf, AreDamages, AreHalves};
+ghost use Rattle.report_command.specs.site_report.Report.{Agrees};
+
+use calibration::{Grid, MAX_CLASSES};
+use damage::exact_frac::Frac;
+use damage::miner::damage;
+use damage::sn_curve::Detail;
+use segment::Segment;
+use segment_store::Store;
+use site_config::Config;
+
+const PLACES: usize = MAX_CLASSES as usize;
+
+/// Sums the damage of each detail by the held segment of its gauge.
+pub fn sum_damages(bridge: &Config, store: &Store, damages: &mut Vec<Frac>)
+    requires bridge { IsConfig bridge.now }
+    requires setup { store.now.head.setup ≡ bridge.now.setup }
+    requires gauges { length store.now.held ≡ length bridge.now.gauges }
+    requires room { length bridge.now.details ≤ vec_capacity damages.old }
+    ensures damages { (figures : ℕ → Figures) → Agrees bridge.now store.now.held figures →
+        AreDamages bridge.now figures damages.new.items }
+    ensures one_each { length damages.new.items ≡ length bridge.now.details }
+    ensures few { All (λ damage. damage.whole ≤ MAX_HALF_CYCLES) damages.new.items }
+    ensures room { vec_capacity damages.new ≡ vec_capacity damages.old }
+{
+    damages.clear();
+    for detail in bridge.details.as_slice() {
+        let held = store.held(detail.gauge);
+        damages.push_reserved(damage_by(&detail.detail, held));
+    }
+}
+
+// The damage of a detail by a segment's half units.
+fn damage_by(detail: &Detail, segment: &Segment) -> Frac
+    ensures damage { (figures : Figures) → Agree segment.now.grid (figures_of segment.now) figures →
+        IsDamageOf segment.now.grid detail.now figures.half_units result }
+    ensures few { result.whole ≤ MAX_HALF_CYCLES }
+    ensures rules { IsSegment segment.now }
+{
+    let grid = segment.grid();
+    let mut places = [0; PLACES];
+    damage_over(
+        detail,
+        &grid,
+        segment,
+        &mut places[..usize::from(grid.classes())],
+    )
+}
+
+// `halves` is room for the half units at each range.
+fn damage_over(detail: &Detail, grid: &Grid, segment: &Segment, halves: &mut [u64]) -> Frac
+    requires grid { grid.now ≡ segment.now.grid }
+    requires places { length halves.old ≡ segment.now.grid.classes }
+    ensures damage { (figures : Figures) → Agree segment.now.grid (figures_of segment.now) figures →
+        IsDamageOf segment.now.grid detail.now figures.half_units result }
+    ensures few { result.whole ≤ MAX_HALF_CYCLES }
+{
+    put_halves(segment, halves);
+    damage(detail, grid, halves)
+}
+
+// The half units at each range, which together are no more than the points.
+fn put_halves(segment: &Segment, halves: &mut [u64])
+    requires places { length halves.old ≡ segment.now.grid.classes }
+    ensures halves { AreHalves (figures_of segment.now).half_units
+        segment.now.grid.classes halves.new }
+    ensures few { sum halves.new ≤ MAX_HALF_CYCLES }
+{
+    // What a segment keeps: its rules.
+    let _grid = segment.grid();
+    segment.half_units(halves);
+}

@@ -1,0 +1,73 @@
+ghost use Rattle.std.specs.Prelude.{◌≡◌, ◌++◌, ℕ, List, length, IfOk, OnOk, OnErr};
+ghost use Rattle.outside.specs.Fault.{HasCause};
+ghost use Rattle.outside.specs.Sink.{AppendsPrefix};
+ghost use Rattle.report.specs.Figures.{Figures};
+ghost use Rattle.site_config.specs.Valid.{IsConfig};
+ghost use Rattle.report_command.specs.site_report.Report.{Agrees, IsReport};
+ghost use Rattle.report_command.specs.site_report.Room.{HasRoom};
+
+use crate::site_report::damages::sum_damages;
+use crate::site_report::printing::{print_details, print_gauges};
+use damage::exact_frac::Frac;
+use outside::{Failed, Sink};
+use report::Page;
+use segment_store::Store;
+use site_config::Config;
+use std::alloc::{AllocError, Global};
+use std::marker::Model;
+
+/// The memory of a report: a page, and a place for the damage of each detail.
+#[derive(Drop)]
+pub struct Report {
+    page: Page,
+    damages: Vec<Frac>,
+}
+
+impl Model for Report {
+    ghost use Rattle.std.specs.Prelude.{vec_capacity};
+    ghost use Rattle.report_command.specs.site_report.Room.{RoomValue};
+
+    ghost Value = { RoomValue };
+
+    ghost view = { λ r. record { classes = r.page.classes; details = vec_capacity r.damages } };
+}
+
+impl Report {
+    /// Takes all memory that printing the report of this site takes.
+    pub fn new(alloc: Global, bridge: &Config) -> Result<Report, AllocError>
+        requires { IsConfig bridge.now }
+        ensures { IfOk result (HasRoom bridge.now) }
+    {
+        Ok(Report {
+            page: Page::new(alloc, bridge.setup.grid.classes())?,
+            damages: Vec::with_capacity(alloc, bridge.details.as_slice().len())?,
+        })
+    }
+
+    /// Prints the report of what is held: the text of each gauge, then the line of each detail.
+    /// Takes no memory. Where a put fails, a front of the report is written.
+    pub fn print<O: Sink>(
+        &mut self,
+        bridge: &Config,
+        store: &Store,
+        out: &mut O,
+    ) -> Result<(), Failed>
+        requires bridge { IsConfig bridge.now }
+        requires setup { store.now.head.setup ≡ bridge.now.setup }
+        requires gauges { length store.now.held ≡ length bridge.now.gauges }
+        requires room { HasRoom bridge.now self.old }
+        ensures ok { O.tells → (figures : ℕ → Figures) → Agrees bridge.now store.now.held figures →
+            OnOk result ((text : List ℕ) × IsReport bridge.now figures text ×
+            (O.written out.new ≡ O.written out.old ++ text)) }
+        ensures failed { O.tells → (figures : ℕ → Figures) →
+            Agrees bridge.now store.now.held figures →
+            OnErr result ((text : List ℕ) × IsReport bridge.now figures text ×
+            AppendsPrefix (O.written out.old) (O.written out.new) text) }
+        ensures cause { HasCause (O.faults out.old) (O.faults out.new) result }
+        ensures room { HasRoom bridge.now self.new }
+    {
+        sum_damages(bridge, store, &mut self.damages);
+        print_gauges(bridge, store, &mut self.page, out)?;
+        print_details(bridge, &self.damages, &mut self.page, out)
+    }
+}

@@ -1,0 +1,5 @@
+pub mod Few
+pub mod Parts
+pub mod Rules
+pub mod RuleText
+pub mod Tests

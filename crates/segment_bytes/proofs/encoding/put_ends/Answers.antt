@@ -1,7 +1,0 @@
-use Rattle.segment_bytes.proofs.Listed.{puts_then}
-use Rattle.segment_bytes.proofs.encoding.put_ends.Goals as goal
-
-pub returns-clause-puts : goal.returns-clause-puts
-returns-clause-puts c =
-    puts_then _ _ c.put_u64-at.ensures (puts_then _ _ c.put_u16-at.ensures
-    (puts_then _ _ c.put_u16-at-2.ensures (puts_then _ _ c.put_u16-at-3.ensures c.put_u16.ensures)))

@@ -1,5 +1,0 @@
-use Rattle.segment_rules.proofs.Residues.{residue_test}
-use Rattle.segment_rules.proofs.rules.first_wrong.Goals as goal
-
-pub first_wrong_end-requires : goal.first_wrong_end-requires
-first_wrong_end-requires c = residue_test c.args.has_residue c.args.grid.now.classes c.args.parts.now.residue c.requires

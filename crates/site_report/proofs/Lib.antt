@@ -1,4 +1,0 @@
-mod FewHalves
-pub mod Printed
-mod Summed
-pub mod HeldFigures

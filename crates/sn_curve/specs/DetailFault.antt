@@ -1,8 +1,0 @@
--- What is told of a detail that is refused.
-use Rattle.std.specs.Prelude.{ℕ, List, codes}
-use Rattle.sn_curve.specs.declared.detail.DetailFault.{DetailFault}
-use Rattle.sn_curve.specs.declared.detail.DetailFault.TheVariants.{Category, Gamma}
-
-abbrev pub detail_fault_text : DetailFault → List ℕ
-detail_fault_text Category = codes "no detail category of this kind of stress"
-detail_fault_text Gamma = codes "no partial factor of table 3.1"

@@ -1,0 +1,11 @@
+pub mod Bodies
+pub mod Decoded
+pub mod Encoded
+pub mod Formats
+pub mod Found
+pub mod Lengths
+pub mod Listed
+pub mod Loops
+pub mod RowReading
+pub mod Rows
+pub mod Walked

@@ -1,0 +1,2 @@
+pub mod segment_bytes
+pub mod store_head

@@ -1,3 +1,0 @@
-pub mod Counting
-pub mod Filled
-pub use Rattle.tally.proofs.Lists
