@@ -14,6 +14,3 @@ mod recounting;
 mod same_lines;
 
 pub use command::audit_command;
-
-#[cfg(test)]
-mod tests;

@@ -7,8 +7,6 @@
 //! counted at once (`Segment::count_block`).
 
 mod pool;
-#[cfg(test)]
-mod tests;
 mod unit;
 
 pub use pool::Pool;

@@ -6,7 +6,5 @@
 //! lists, as the units come. No call here takes memory.
 
 mod depositing;
-#[cfg(test)]
-mod tests;
 
 pub use depositing::deposit_one;

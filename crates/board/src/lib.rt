@@ -10,6 +10,10 @@
 //! [`Board::new`] takes memory; a deposit costs a look at 16 places at most, and one join or two.
 //!
 //! `specs/Board.antt` has what holds of every board, `specs/DepositAnswers.antt` what a deposit answers.
+//!
+//! [`block_pool`] has the units that blocks are read into and counted in, [`deposits`] the call
+//! that puts a counted one on the board, and [`flow`] and [`arrivals`] the order in which all
+//! this may happen.
 #![tactic(auto)]
 
 pub mod arrivals;
@@ -18,8 +22,6 @@ pub mod deposits;
 pub mod flow;
 mod intervals;
 mod rows;
-#[cfg(test)]
-mod tests;
 mod windows;
 
 pub use std::alloc::AllocError as OutOfMemory;

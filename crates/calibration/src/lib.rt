@@ -29,8 +29,6 @@ mod limits;
 mod reading;
 mod setup;
 mod single;
-#[cfg(test)]
-mod tests;
 
 pub use classifier::Classifier;
 pub use gain::{Gain, GainFault, MAX_DEN, MAX_NUM, MAX_OFFSET};

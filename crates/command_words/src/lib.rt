@@ -20,6 +20,3 @@ mod readers;
 
 pub use command::{Command, MAX_DEMO_SAMPLES, MAX_PERIOD_US, MAX_SEED, MAX_WORKERS};
 pub use readers::read_words;
-
-#[cfg(test)]
-mod tests;

@@ -11,8 +11,6 @@
 
 mod line;
 mod storing;
-#[cfg(test)]
-mod tests;
 
 pub use line::HeldLine;
 pub use std::alloc::AllocError as OutOfMemory;

@@ -9,8 +9,6 @@
 mod collecting;
 mod running;
 mod settling;
-#[cfg(test)]
-mod tests;
 
 pub use collecting::{Return, collect};
 pub use running::run_round;

@@ -12,8 +12,6 @@
 
 mod feeder;
 mod taker;
-#[cfg(test)]
-mod tests;
 
 pub use feeder::Feeder;
 pub use std::alloc::AllocError as OutOfMemory;

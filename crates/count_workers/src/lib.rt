@@ -9,6 +9,11 @@
 //! caller.
 //!
 //! What a round does is said by `RoundDone` (`crates/count_workers/specs/round_making/Round.antt`).
+//!
+//! From below: [`gauge_ring`] carries units between threads, [`block_workers`] read and count,
+//! [`collector`] puts what was counted on the board, [`lane_loans`] lends lanes to a round and
+//! puts them back, [`round_making`] makes a whole round, and `round_accounts` has lemmas on
+//! what comes back.
 #![tactic(auto)]
 
 pub mod block_workers;
@@ -20,8 +25,6 @@ mod prepared;
 mod preparing;
 pub mod round_accounts;
 pub mod round_making;
-#[cfg(test)]
-mod tests;
 
 pub use plan::Plan;
 pub use prepared::Prepared;

@@ -22,8 +22,3 @@ pub use sheets::sheet;
 
 /// The samples of a recording, in order. A reading that is missing is -2147483648.
 pub type Samples = Vec<i32>;
-
-#[cfg(test)]
-mod sheet_tests;
-#[cfg(test)]
-mod tests;

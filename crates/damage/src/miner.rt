@@ -40,6 +40,3 @@ pub fn damage(detail: &Detail, grid: &Grid, half_counts: &[u64]) -> Frac
     }
     total
 }
-
-#[cfg(test)]
-mod tests;

@@ -12,6 +12,3 @@ mod writing;
 
 pub use command::column_command;
 pub use reading::MAX_FILE_BYTES;
-
-#[cfg(test)]
-mod tests;

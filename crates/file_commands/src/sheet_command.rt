@@ -11,6 +11,3 @@ mod reading;
 mod writing;
 
 pub use command::sheet_command;
-
-#[cfg(test)]
-mod tests;

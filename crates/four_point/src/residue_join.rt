@@ -17,8 +17,6 @@ mod join;
 /// Laws over the definitions alone.
 pub mod laws;
 mod pairs;
-#[cfg(test)]
-mod tests;
 
 pub use join::join_residue;
 pub use pairs::PairCounter;

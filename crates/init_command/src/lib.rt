@@ -10,6 +10,3 @@ mod heads;
 mod making;
 
 pub use command::init_command;
-
-#[cfg(test)]
-mod tests;

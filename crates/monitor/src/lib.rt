@@ -30,6 +30,3 @@ mod top;
 
 pub use command::table_command;
 pub use top::monitor;
-
-#[cfg(test)]
-mod tests;

@@ -1,24 +1,14 @@
 //! The program: the command line, the current folder, standard output and standard error, handed to
 //! `monitor`. The configuration is `monitor.toml`, the store `monitor.store`; each is opened at its
 //! first use.
-//!
-//! The adapters are the trusted edge. They meet the contracts of the outside: a source gives what
-//! its reader gives, and an output is what its writer holds, where these tell it. Of a real file
-//! and a terminal no contract tells. Each counts the errors of the system that it met.
 #![tactic(auto)]
-
-mod adapters;
-mod named_file;
-mod store_file;
-mod words;
 
 ghost use Rattle.std.specs.Prelude.{◌≡◌};
 ghost use Rattle.std.specs.Process.{exit_status};
 ghost use Rattle.status.specs.Status.{code_of};
 
-use adapters::{FolderSite, OutputSink};
+use adapters::{FileStation, FolderSite, NamedFile, OutputSink, WordFault, words_of};
 use monitor::monitor;
-use named_file::NamedFile;
 use outside::OpenGate;
 use outside::station::Station;
 use status::Status;
@@ -27,8 +17,6 @@ use std::io;
 use std::process::ExitCode;
 use std::sync::Wait;
 use std::thread::Threads;
-use store_file::FileStation;
-use words::{WordFault, words_of};
 
 fn main(rt: HostRuntime) -> ExitCode {
     exit_code(run(&rt, &rt))

@@ -16,6 +16,8 @@
 //!
 //! A site says besides which names it was asked for, so that a contract can say which files a call
 //! reads. A gate promises nothing, so no contract leans on it: it is there for tests.
+//!
+//! [`station`] is the device that holds a store, with its own faults and moments.
 #![tactic(auto)]
 
 mod bytes_source;
@@ -28,8 +30,6 @@ mod site;
 mod source;
 pub mod station;
 mod steady_source;
-#[cfg(test)]
-mod tests;
 mod vec_sink;
 
 pub use bytes_source::BytesSource;

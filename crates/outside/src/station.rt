@@ -17,8 +17,6 @@ mod crash;
 mod moment_station;
 mod recorder;
 mod station;
-#[cfg(test)]
-mod tests;
 
 pub use call::Call;
 pub use crash::Torn;

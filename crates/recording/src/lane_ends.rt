@@ -7,8 +7,6 @@
 
 mod end;
 mod reading;
-#[cfg(test)]
-mod tests;
 
 pub use end::{End, LaneRead};
 pub use reading::read_samples;

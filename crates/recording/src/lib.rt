@@ -8,6 +8,8 @@
 //! and take again until it is full, so what they give does not depend on the sizes of the source's
 //! takes, and a part sample is never kept between calls. Bytes become samples a buffer at a time.
 //! No call here takes memory. A `fill` costs the takes and about one copy of the bytes.
+//!
+//! [`lane_ends`] says how the samples of a block end: whether more may follow.
 #![tactic(auto)]
 
 mod ends;
@@ -17,8 +19,6 @@ pub mod lane_ends;
 mod skipping;
 mod synth;
 mod taking;
-#[cfg(test)]
-mod tests;
 mod writing;
 
 pub use ends::{Fill, FillEnd, Skip};

@@ -16,8 +16,6 @@ mod compare;
 mod count;
 mod piece;
 mod running;
-#[cfg(test)]
-mod tests;
 
 pub use compare::{Difference, What, first_difference};
 pub use count::{Recount, RecountFault, count_again};

@@ -15,7 +15,5 @@ mod copying;
 /// Laws over the definitions alone.
 pub mod laws;
 mod repeating;
-#[cfg(test)]
-mod tests;
 
 pub use repeating::Repeating;

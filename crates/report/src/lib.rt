@@ -21,6 +21,3 @@ pub use gauge::gauge_text;
 pub use page::Page;
 pub use repeat::repeat_text;
 pub use table::table_text;
-
-#[cfg(test)]
-mod tests;

@@ -11,6 +11,3 @@ mod command;
 mod printing;
 
 pub use command::repeat_command;
-
-#[cfg(test)]
-mod tests;

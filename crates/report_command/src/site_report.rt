@@ -9,6 +9,3 @@ mod printing;
 mod whole;
 
 pub use whole::Report;
-
-#[cfg(test)]
-mod tests;

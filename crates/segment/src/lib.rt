@@ -12,6 +12,8 @@
 //! Only `new` takes memory. A sample, or the whole of a block at once, takes constant time for each
 //! level; a joint takes what the right part has in its tally and residue, and a pass over the
 //! places of the classes.
+//!
+//! [`segment_rules`] has the rules of a segment's parts, and the first one that is broken.
 #![tactic(auto)]
 
 mod block;
@@ -24,8 +26,4 @@ pub mod segment_rules;
 
 pub use counts::SampleCounts;
 pub use fault::LoadFault;
-
-#[cfg(test)]
-mod tests;
-
 pub use segment::{JoinRefusal, Segment};

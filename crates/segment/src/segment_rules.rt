@@ -17,8 +17,6 @@ mod parts;
 mod rule;
 mod rules;
 mod sums;
-#[cfg(test)]
-mod tests;
 
 pub use lists::{Bins, Cells, Levels};
 pub use name::Name;

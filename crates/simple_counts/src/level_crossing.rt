@@ -11,7 +11,5 @@ mod crossings;
 /// Laws over the definitions alone.
 pub mod laws;
 mod points;
-#[cfg(test)]
-mod tests;
 
 pub use crossings::Crossings;

@@ -5,6 +5,8 @@
 //! where it decides a point. It takes levels one at a time, the points of a history at once (the
 //! peaks and valleys are those that the crossings' pass tells), another part that follows, or
 //! counts that were kept. `clear` is one pass over the places; only `new` takes memory.
+//!
+//! [`level_crossing`] counts the crossings of each boundary (5.1), over the same points.
 #![tactic(auto)]
 
 /// Laws over the definitions alone.
@@ -12,7 +14,5 @@ pub mod laws;
 pub mod level_crossing;
 mod points;
 mod simple;
-#[cfg(test)]
-mod tests;
 
 pub use simple::Simple;

@@ -9,6 +9,8 @@
 //!
 //! Cost: what `toml` takes for at most 64 KiB, and a copy of each name. Names are looked for from
 //! the first on.
+//!
+//! [`recorded`] defines what is recorded of the gauges of a configuration.
 #![tactic(auto)]
 
 mod config;
@@ -31,6 +33,3 @@ pub use limits::{
 };
 pub use reading::read;
 pub use text::Text;
-
-#[cfg(test)]
-mod tests;

@@ -7,6 +7,3 @@ mod reading;
 mod taking;
 
 pub use reading::read_config;
-
-#[cfg(test)]
-mod tests;

@@ -16,6 +16,3 @@ mod text;
 pub use line::FaultLine;
 pub use name::name_in;
 pub use tell::{tell_fault, tell_no_memory};
-
-#[cfg(test)]
-mod tests;

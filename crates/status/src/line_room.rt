@@ -6,6 +6,3 @@
 mod room;
 
 pub use room::LineRoom;
-
-#[cfg(test)]
-mod tests;

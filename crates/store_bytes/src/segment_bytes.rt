@@ -29,6 +29,3 @@ pub use fault::BytesFault;
 pub use layout::{Layout, MAX_CLASSES_ONE};
 pub use parts_reading::parts_in;
 pub use sizes::max_body;
-
-#[cfg(test)]
-mod tests;

@@ -5,22 +5,58 @@
 #![tactic(auto)]
 
 #[cfg(test)]
+mod audit_runs;
+#[cfg(test)]
 mod changes;
 #[cfg(test)]
+mod column_runs;
+#[cfg(test)]
+mod columns;
+#[cfg(test)]
+mod configuration_readings;
+#[cfg(test)]
+mod configurations;
+#[cfg(test)]
+mod count_runs;
+#[cfg(test)]
+mod demo_runs;
+#[cfg(test)]
 mod examples;
+#[cfg(test)]
+mod fault_lines;
 #[cfg(test)]
 mod faults;
 #[cfg(test)]
 mod growing;
 #[cfg(test)]
+mod held_lines;
+#[cfg(test)]
+mod init_runs;
+#[cfg(test)]
 mod lengths;
+#[cfg(test)]
+mod line_rooms;
 #[cfg(test)]
 mod made;
 #[cfg(test)]
+mod monitor_runs;
+#[cfg(test)]
 mod reads;
+#[cfg(test)]
+mod repeat_runs;
+#[cfg(test)]
+mod report_rooms;
+#[cfg(test)]
+mod report_runs;
+#[cfg(test)]
+mod sheet_runs;
+#[cfg(test)]
+mod sheets;
 #[cfg(test)]
 mod sites;
 #[cfg(test)]
 mod stops;
 #[cfg(test)]
 mod usual;
+#[cfg(test)]
+mod words;

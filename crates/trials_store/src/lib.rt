@@ -4,10 +4,32 @@
 #![tactic(auto)]
 
 #[cfg(test)]
+mod boards;
+#[cfg(test)]
+mod bodies;
+#[cfg(test)]
 mod changes;
 #[cfg(test)]
+mod collectors;
+#[cfg(test)]
+mod deposits;
+#[cfg(test)]
+mod lane_ends;
+#[cfg(test)]
 mod moments;
+#[cfg(test)]
+mod objects;
+#[cfg(test)]
+mod recordings;
+#[cfg(test)]
+mod rings;
+#[cfg(test)]
+mod rounds;
+#[cfg(test)]
+mod stations;
 #[cfg(test)]
 mod stores;
 #[cfg(test)]
 mod turned;
+#[cfg(test)]
+mod units;

@@ -19,13 +19,13 @@
 //! of points), `Over` (points of a concatenation), `Push` (one level behind a list of points),
 //! `Extended` (the same in a buffer), `Levels` (what points keep of their levels), `Pieces`, and
 //! `Joining`, `Put`, `MeetEnds`, `PushEnds` (ends).
+//!
+//! [`three_point`] runs the standard's own numbered steps (5.4.4) over such points.
 #![tactic(auto)]
 
 mod direction;
 mod ends;
 mod in_place;
-#[cfg(test)]
-mod tests;
 pub mod three_point;
 mod turner;
 

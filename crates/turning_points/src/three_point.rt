@@ -24,8 +24,6 @@ mod listing;
 mod ranges;
 mod reading;
 mod run;
-#[cfg(test)]
-mod tests;
 
 pub use counter::RangeCounter;
 pub use half_units::HalfUnits;

@@ -102,6 +102,3 @@ fn shear_numerator(range: u128, category: u128) -> u128
     }
     0
 }
-
-#[cfg(test)]
-mod tests;

@@ -1,16 +1,13 @@
 -- A text that is printed piece by piece.
-use Rattle.std.proofs.Common.{◌≡◌, ◌<◌, ◌≤◌, ℕ, ◌+◌, ◌-◌, List, [], ◌∷◌, ◌++◌, length, take, drop, get_or, min, refl, sym, ap, ◌∙◌, subst, arith, append_assoc}
-use Rattle.std.proofs.lemmas.List.{append-nil, at_drop_more, take-append-le, take_min}
-use Rattle.std.proofs.Math.Seq.{take-append-add}
+use Rattle.std.proofs.Common.{◌≡◌, ◌<◌, ℕ, ◌+◌, List, ◌∷◌, ◌++◌, length, drop, get_or, sym, ap, ◌∙◌, subst}
+use Rattle.std.proofs.lemmas.List.{at_drop_more}
 use Rattle.outside.specs.Sink.{AppendsPrefix}
-use Rattle.report.specs.Lines.{lines_from}
 use Rattle.damage.specs.declared.exact_frac.frac.Frac.{Frac}
 use Rattle.site_config.specs.declared.config.Config.{Config}
 use Rattle.site_config.specs.declared.config.NamedDetail.{NamedDetail}
 use Rattle.calibration.specs.Grid.{GridValue}
 use Rattle.report.specs.Figures.{Figures}
 use Rattle.report.specs.Texts.{detail_text, gauge_text}
-use Rattle.report.proofs.Written.{lines_from-first, lines_from-none}
 use Rattle.site_config.specs.Valid.{name_of}
 use Rattle.report.specs.Printed.{IsPrinted}
 use Rattle.report_command.specs.site_report.Report.{detail_line, detail_lines, text_of_gauge}

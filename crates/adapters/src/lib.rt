@@ -1,0 +1,19 @@
+//! The adapters over the real outside: files of the current folder, the file of the store, streams,
+//! and the words of the command line.
+//!
+//! They are the trusted edge, and meet the contracts of the outside: a source gives what its reader
+//! gives, and an output is what its writer holds, where these tell it. Of a real file and a terminal
+//! no contract tells. Each counts the errors of the system that it met.
+#![tactic(auto)]
+
+mod folder;
+mod named_file;
+mod store_file;
+mod streams;
+mod words;
+
+pub use folder::FolderSite;
+pub use named_file::NamedFile;
+pub use store_file::FileStation;
+pub use streams::{FileSource, OutputSink};
+pub use words::{WordFault, words_of};

@@ -1,0 +1,122 @@
+use command_words::{Command, read_words};
+use std::test::Fail;
+
+fn words_of(rt: &HostRuntime, line: &str) -> Result<Vec<String>, Fail> {
+    let mut words = Vec::new(rt.alloc());
+    for word in line.split(' ') {
+        words.push(String::from_str(rt.alloc(), word)?)?;
+    }
+    Ok(words)
+}
+
+const BYTES: [u8; 16] = [
+    0x01, 0x23, 0x45, 0x67, 0x89, 0xab, 0xcd, 0xef, 0x01, 0x23, 0x45, 0x67, 0x89, 0xab, 0xcd, 0xef,
+];
+
+// A line, and the workers of `count`, or none where the line is refused.
+#[test]
+fn lines_of_count(rt: HostRuntime) -> Result<(), Fail> {
+    let table = [
+        ("count", Some(None)),
+        ("count --workers 2", Some(Some(2))),
+        ("count --workers=8", Some(Some(8))),
+        ("count --workers +3", Some(Some(3))),
+        ("count --workers 03", Some(Some(3))),
+        ("count --workers 9", None),
+        ("count --workers 0", None),
+        ("count --workers -1", None),
+        ("count --workers", None),
+        ("count --workers 2 --workers 2", None),
+        ("count -w 2", None),
+        ("count --work 2", None),
+        ("count x", None),
+        ("count --", Some(None)),
+        ("count --help", None),
+        ("count -h", None),
+    ];
+    for (line, workers) in table {
+        let words = words_of(&rt, line)?;
+        let command = workers.map(|workers| Command::Count { workers });
+        assert_eq!(rt; read_words(rt.alloc(), &words)?, command);
+    }
+    Ok(())
+}
+
+#[test]
+fn lines_of_others(rt: HostRuntime) -> Result<(), Fail> {
+    let table = [
+        ("table t.sgrc", Some(Command::Table { file: "t.sgrc" })),
+        ("table -- -x", Some(Command::Table { file: "-x" })),
+        ("table -", Some(Command::Table { file: "-" })),
+        ("table -x", None),
+        ("table", None),
+        ("table a b", None),
+        ("draw", None),
+        ("init", Some(Command::Init)),
+        ("init x", None),
+        ("report", Some(Command::Report)),
+        ("report --workers 2", None),
+        ("audit", Some(Command::Audit)),
+        ("audit --", Some(Command::Audit)),
+        ("audit x", None),
+        ("repeat", Some(Command::Repeat)),
+        ("repeat --workers 2", None),
+        ("repeats", None),
+        ("sheet", Some(Command::Sheet)),
+        ("sheet x", None),
+        (
+            "column d.csv G2 0123456789abcdef0123456789abcdef 10000",
+            Some(Command::Column {
+                file: "d.csv",
+                name: "G2",
+                id: BYTES,
+                period_us: 10000,
+            }),
+        ),
+        (
+            "column d.csv -- -2 0123456789abcdef0123456789abcdef 4294967295",
+            Some(Command::Column {
+                file: "d.csv",
+                name: "-2",
+                id: BYTES,
+                period_us: u32::MAX,
+            }),
+        ),
+        ("column d.csv G2 0123456789ABCDEF0123456789ABCDEF 1", None),
+        ("column d.csv G2 0123456789abcdef0123456789abcde 1", None),
+        ("column d.csv G2 0123456789abcdef0123456789abcdef0 1", None),
+        ("column d.csv G2 0123456789abcdef0123456789abcdeg 1", None),
+        (
+            "column d.csv G2 0123456789abcdef0123456789abcdef 4294967296",
+            None,
+        ),
+        ("column d.csv G2 0123456789abcdef0123456789abcdef", None),
+        ("column d.csv G2 0123456789abcdef0123456789abcdef 1 2", None),
+        ("Table t.sgrc", None),
+        (
+            "demo",
+            Some(Command::Demo {
+                seed: 0,
+                samples: 100000,
+                workers: 4,
+            }),
+        ),
+        (
+            "demo --samples 5 --seed 9223372036854775807 --workers 1",
+            Some(Command::Demo {
+                seed: 9223372036854775807,
+                samples: 5,
+                workers: 1,
+            }),
+        ),
+        ("demo --seed 9223372036854775808", None),
+        ("demo --samples 0", None),
+    ];
+    for (line, command) in table {
+        let words = words_of(&rt, line)?;
+        assert_eq!(rt; read_words(rt.alloc(), &words)?, command);
+    }
+    let none = Vec::new(rt.alloc());
+    assert_eq!(rt; read_words(rt.alloc(), &none)?, None);
+    Ok(())
+}
