@@ -2,8 +2,8 @@
 //! and the words of the command line.
 //!
 //! They are the trusted edge, and meet the contracts of the outside: a source gives what its reader
-//! gives, and an output is what its writer holds, where these tell it. Of a real file and a terminal
-//! no contract tells. Each counts the errors of the system that it met.
+//! gives, and an output is what its writer holds, where these tell it. Of a real file and a
+//! terminal no contract tells. Each counts the errors of the system that it met.
 #![tactic(auto)]
 
 mod folder;

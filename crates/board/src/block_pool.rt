@@ -3,8 +3,8 @@
 //! A unit has a buffer for a block of raw values, room for their levels and a segment. It is
 //! `Blank`, then `Filled` with samples of a gauge, then `Counted`: its segment has the name of its
 //! samples and stands for them, so nobody can hand on a unit that was not counted.
-//! `specs/block_pool/Units.antt` says what contracts see of it. All memory is taken by `Pool::new`. A block is
-//! counted at once (`Segment::count_block`).
+//! `specs/block_pool/Units.antt` says what contracts see of it. All memory is taken by `Pool::new`.
+//! A block is counted at once (`Segment::count_block`).
 
 mod pool;
 mod unit;

@@ -1,9 +1,9 @@
 //! The flow of blocks from the recordings to the store, as a machine of five events over names:
 //! a block is fed to a ring, counted, placed and stored, and a run may stop at any moment.
 //!
-//! `specs/flow/Flow.antt` has its states and events, `specs/flow/Kept.antt` what every list of events keeps.
-//! Nothing here knows of threads: the orders in which threads can act are among the lists of
-//! events. There is no code but the law.
+//! `specs/flow/Flow.antt` has its states and events, `specs/flow/Kept.antt` what every list of
+//! events keeps. Nothing here knows of threads: the orders in which threads can act are among the
+//! lists of events. There is no code but the law.
 
 /// The law of the flow.
 pub mod laws;

@@ -9,7 +9,8 @@
 //! An interval that begins at the k-th block of a window stands at place k. No call but
 //! [`Board::new`] takes memory; a deposit costs a look at 16 places at most, and one join or two.
 //!
-//! `specs/Board.antt` has what holds of every board, `specs/DepositAnswers.antt` what a deposit answers.
+//! `specs/Board.antt` has what holds of every board, `specs/DepositAnswers.antt` what a deposit
+//! answers.
 //!
 //! [`block_pool`] has the units that blocks are read into and counted in, [`deposits`] the call
 //! that puts a counted one on the board, and [`flow`] and [`arrivals`] the order in which all

@@ -1,9 +1,9 @@
 //! The linear damage sum of EN 1993-1-9:2005, Annex A (Palmgren and Miner), as an exact fraction.
 //!
-//! `specs/miner/Damage.antt` has the sum over the ranges: the half cycles of each, times the damage of
-//! one. Its fraction is the exact one, since all shares of a detail have one denominator: the code
-//! adds numerators, and only a text that prints decimals rounds. `laws::one_damage` says that it is
-//! one number.
+//! `specs/miner/Damage.antt` has the sum over the ranges: the half cycles of each, times the damage
+//! of one. Its fraction is the exact one, since all shares of a detail have one denominator: the
+//! code adds numerators, and only a text that prints decimals rounds. `laws::one_damage` says that
+//! it is one number.
 //!
 //! The sum of all half cycles is at most `MAX_HALF_CYCLES`, 2^42, so that the wholes fit 64 bits
 //! with room to spare.

@@ -1,7 +1,7 @@
 //! The configuration of a site, read from a source.
 //!
-//! `specs/config_reading/Reading.antt` says which answer comes of which bytes. Of a source that gives more than a
-//! configuration may have, one byte more than that is taken.
+//! `specs/config_reading/Reading.antt` says which answer comes of which bytes. Of a source that
+//! gives more than a configuration may have, one byte more than that is taken.
 
 mod reading;
 mod taking;

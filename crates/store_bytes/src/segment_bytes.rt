@@ -1,7 +1,8 @@
 //! The body of a segment: its bytes, in two layouts, with one spelling for each segment.
 //!
-//! `specs/segment_bytes/Grammar.antt` is the format, as it is written and as it is read; numbers are big-endian.
-//! The layouts differ in the cells alone: one after the other, or in rows of one lower level.
+//! `specs/segment_bytes/Grammar.antt` is the format, as it is written and as it is read; numbers
+//! are big-endian. The layouts differ in the cells alone: one after the other, or in rows of one
+//! lower level.
 //!
 //! `encode` takes no memory and walks the cells once, row by row. `decode` goes from left to right
 //! over the bytes, where rows become cells as they are read, and tells the first number that does

@@ -6,9 +6,9 @@
 ghost use Rattle.tally.specs.tables.Tables.{sum_of_tables, table_with_bins, lower, raise};
 ghost use Rattle.std.specs.Prelude.{All, if◌then◌else◌, slice_index, length, replicate, sum, ◌+◌, ◌<◌, ◌≡◌, ◌≤◌, ◌^◌, ℕ};
 
-/// One more at a place.
 use crate::Bin;
 
+/// One more at a place.
 pub fn raise(table: &mut [u64], place: usize)
     requires within { place < length table.old }
     requires room { slice_index table.old place < 2 ^ 63 }

@@ -1,9 +1,9 @@
 //! The three-point count of ASTM E1049-85, 5.4.4 (rainflow counting), over the points of a level
 //! history.
 //!
-//! `specs/three_point/Run.antt` has the run as a recursion over the live points, and `specs/three_point/Standard.antt` the
-//! standard's numbered steps, with X, Y and the starting point S; `laws::standard` says that the
-//! two count the same ranges in the same order.
+//! `specs/three_point/Run.antt` has the run as a recursion over the live points, and
+//! `specs/three_point/Standard.antt` the standard's numbered steps, with X, Y and the starting
+//! point S; `laws::standard` says that the two count the same ranges in the same order.
 //!
 //! The live points are a stack, the newest on top. Where Y contains the starting point there are
 //! two of them below the point that is read, so dropping the first moves one level; otherwise the
