@@ -12,7 +12,7 @@ use std::io::{ErrorKind, Read, Write};
 #[derive(Drop)]
 pub struct FileSource<F: Read + Send + Drop> {
     file: F,
-    faults: u64,
+    pub(crate) faults: u64,
 }
 
 impl<F: Read + Send + Drop> FileSource<F> {

@@ -1,5 +1,0 @@
-use Rattle.count_workers.specs.gauge_ring.Ends.{AreOneRing}
-use Rattle.count_workers.proofs.gauge_ring.tests.a_ring_has_up_to_1024_places.Given as goal
-
-abbrev pub invariant-loop-item : goal.invariant-loop-item
-invariant-loop-item g l = AreOneRing l.feeder l.taker

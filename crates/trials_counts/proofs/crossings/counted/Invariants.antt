@@ -1,0 +1,11 @@
+-- Each level adds one at most.
+use Rattle.std.proofs.Common.{◌≡◌, ◌≤◌, ℕ}
+use Rattle.simple_counts.specs.level_crossing.Crossings.{crossing_count}
+use Rattle.trials_counts.proofs.crossings.counted.Given as goal
+
+abbrev pub invariant-loop-level : goal.invariant-loop-level
+invariant-loop-level l = record {
+  few : (b : ℕ) → crossing_count l.crossings b ≤ l.level-index;
+  classes : l.crossings.classes ≡ l.grid.classes;
+  reference : l.crossings.reference ≡ l.grid.reference;
+}
