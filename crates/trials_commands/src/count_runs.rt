@@ -1,5 +1,6 @@
 ghost use Rattle.std.specs.Prelude.{◌≡◌, IfOk};
 
+use count_command::count_command;
 use outside::station::{MomentStation, Torn};
 use outside::{BytesSource, MapSite, OpenGate, VecSink};
 use segment_store::Damage;

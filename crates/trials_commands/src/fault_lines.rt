@@ -2,7 +2,7 @@ use outside::station::MomentStation;
 use recount::What;
 use segment_store::Damage;
 use site_config::{ConfigFault, Key, KeyName, Part};
-use status::fault_lines::FaultLine;
+use status::fault_lines::{FaultLine, tell_fault, tell_no_memory};
 use status::{RecordingFault, Status, StoreFault};
 use std::alloc::{AllocError, Global};
 use std::test::Fail;

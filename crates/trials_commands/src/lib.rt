@@ -1,7 +1,8 @@
-//! Trials of the commands over whole sites in memory, beside what their contracts prove: worked
-//! examples with every byte that is printed and told, faults of each kind, a `count` stopped after
-//! each call of the station and with each read failing, each length of a recording, stores whose
-//! bytes were changed, and rounds that run beside the puts. There is no code but the tests.
+//! Tests of the configuration, the words, the commands and whole sites in memory, beside what
+//! their contracts prove: worked examples with every byte that is printed and told, faults of
+//! each kind, a `count` stopped after each call of the station and with each read failing, each
+//! length of a recording, stores whose bytes were changed, and rounds that run beside the puts.
+//! There is no code but the tests.
 #![tactic(auto)]
 
 #[cfg(test)]

@@ -1,5 +1,6 @@
 use outside::station::MomentStation;
 use outside::{BytesSource, VecSink};
+use report_command::report_command;
 use segment_store::Damage;
 use site_config::ConfigFault;
 use status::{Status, StoreFault};

@@ -1,4 +1,7 @@
-//! Trials of the counting crates, beside what their contracts prove.
+//! Tests of the crates below the store, beside what their contracts prove: readings, points,
+//! counts, segments, damages and printed texts against tables that come from the standards or
+//! from an independent count, and each call that takes memory once on its happy path. There is
+//! no code but the tests.
 #![tactic(auto)]
 
 #[cfg(test)]

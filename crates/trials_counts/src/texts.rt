@@ -4,7 +4,7 @@ ghost use Rattle.calibration.specs.declared.limits.TheConstants.{MAX_NAME_BYTES}
 use calibration::{Classifier, Gain, Grid};
 use damage::exact_frac::Frac;
 use repeating::Repeating;
-use report::{Page, detail_text, table_text};
+use report::{Page, detail_text, gauge_text, repeat_text, table_text};
 use segment::Segment;
 use std::alloc::Global;
 use std::process::Abort;

@@ -1,6 +1,7 @@
-//! Trials of whole stores, beside what `segment_store` proves of each call: the bytes of a store
-//! against a written example, every moment of making and of putting, and stores that were changed,
-//! cut, padded, or put together from others. There is no code but the tests.
+//! Tests of the outside in memory, of recordings, rounds and whole stores, beside what their
+//! contracts prove: faults of sources, sinks and stations, the bytes of a store against a
+//! written example, every moment of making and of putting, and stores that were changed, cut,
+//! padded, or put together from others. There is no code but the tests.
 #![tactic(auto)]
 
 #[cfg(test)]

@@ -2,8 +2,8 @@ ghost use Rattle.std.specs.Prelude.{◌≡◌, ◌<◌, ◌≤◌};
 ghost use Rattle.outside.specs.declared.site.TheConstants.{MAX_SOURCES_OUT};
 
 use outside::{
-    BytesSource, Failed, HoldGate, MAX_SOURCES_OUT, MapSite, OpenGate, Site, Source, SteadySource,
-    VecSink,
+    BytesSource, Failed, Gate, HoldGate, MAX_SOURCES_OUT, MapSite, OpenGate, Sink, Site, Source,
+    SteadySource, VecSink,
 };
 use std::alloc::{AllocError, Global};
 use std::collections::BTreeMap;

@@ -1,5 +1,5 @@
 use outside::Failed;
-use outside::station::{MomentStation, Torn};
+use outside::station::{MomentStation, Station, Torn};
 use std::alloc::Global;
 use std::test::Fail;
 
