@@ -1,5 +1,6 @@
-/* merges [CLASSES]: what `block_times` measures, in plain C: blocks of levels through the reducers and logs of one unit or of 512, each
- * block's log merged into the table of a board and emptied. The history is the same, and 128 classes where none are named.
+/* merges [CLASSES]: what `bench_calls time block_times` measures, in plain C: blocks of levels through the reducers and logs of one unit
+ * or of 512, each block's log merged into the table of a board and emptied. The history is the same, and 128 classes where none are
+ * named.
  *
  * A log holds the place of each cycle's pair in the table, four bytes a cycle: less than the log of a tally, which keeps pairs and
  * counts. Boards are tables whatever the classes are. For each history, number of units and block it prints the nanoseconds of processor
