@@ -3,6 +3,7 @@
 
   further_edits.py            says whether each can be applied: its old text stands in its file exactly once
   further_edits.py NAME ..    has the check try those of these crates, which must be refused (minutes for a crate)
+  further_edits.py --all      has it try each (hours)
 
 An edit has a line 'file: PATH', and then pairs of lines 'old: TEXT' and 'new: TEXT', as those in must-fail/ have.
 """
@@ -55,36 +56,48 @@ def apply_all():
     return 1 if faults or not count else 0
 
 
-def try_those_of(name):
-    """Has the check try a crate's further edits, beside those of the gate. Returns the exit status."""
-    crate = ROOT / "crates" / name
-    edits = edits_of(crate)
-    if not edits:
-        print(f"further edits: {name} has none")
-        return 1
-    lent, folder = [], crate / "must-fail"
-    is_lent = not folder.exists()
-    folder.mkdir(exist_ok=True)
-    try:
-        for edit in edits:
+def lend(crates, lent):
+    """Puts the further edits of these crates beside those of the gate, and notes what it made. Returns whether it could."""
+    for crate in crates:
+        folder = crate / "must-fail"
+        if not folder.exists():
+            folder.mkdir()
+            lent.append(folder)
+        for edit in edits_of(crate):
             beside = folder / edit.name
             if beside.exists():
-                print(f"further edits: must-fail/ of {name} has {edit.name} too")
-                return 1
+                print(f"further edits: must-fail/ of {crate.name} has {edit.name} too")
+                return False
             lent.append(beside)
             shutil.copyfile(edit, beside)
-        return subprocess.run(["rt", "must-fail", name], cwd=ROOT, check=False).returncode
+    return True
+
+
+def try_those_of(names):
+    """Has the check try the further edits of these crates, beside those of the gate. Returns the exit status."""
+    crates = [ROOT / "crates" / it for it in names]
+    bare = [it.name for it in crates if not edits_of(it)]
+    if bare:
+        print(f"further edits: {bare[0]} has none")
+        return 1
+    lent = []
+    try:
+        return subprocess.run(["rt", "must-fail", *names], cwd=ROOT, check=False).returncode if lend(crates, lent) else 1
     finally:
-        for beside in lent:
-            beside.unlink(missing_ok=True)
-        if is_lent:
-            folder.rmdir()
+        # (a folder stands before what was put into it)
+        for beside in reversed(lent):
+            if beside.is_dir():
+                beside.rmdir()
+            else:
+                beside.unlink(missing_ok=True)
 
 
-def main(names):
-    if not names:
+def main(words):
+    if not words:
         return apply_all()
-    return max([try_those_of(it) for it in names])
+    if words == ["--all"]:
+        words = [it.name for it in sorted((ROOT / "crates").iterdir()) if edits_of(it)]
+    return try_those_of(words)
 
 
 if __name__ == "__main__":

@@ -19,14 +19,18 @@ check() {
     fi
 }
 
-# The stand-in makes a program that prints its words and ends with status 3, and notes each build.
+# The stand-in checks crates, and makes a program that prints its words and ends with status 3. It notes each build.
 mkdir -p "$room/kit/bin" "$room/caller"
 echo 'stand-in 1' >"$room/kit/KIT-ID"
 cat >"$room/kit/bin/rt" <<'RT'
 #!/bin/sh
+if [ "$1" = all ]; then
+    echo "$@" >>"$NOTES.checks"
+    echo 'crate low: modules loaded=0 checked=1'
+    echo 'crate monitor_main: modules loaded=0 checked=1'
+    exit "${CHECKED:-0}"
+fi
 echo build >>"$NOTES"
-echo 'crate low: modules loaded=0 checked=1'
-echo 'crate monitor_main: modules loaded=0 checked=1'
 eval "${DURING:-:}"
 mkdir -p out
 printf '#!/bin/sh\nprintf "%%s|" ran "$@"\nexit 3\n' >out/monitor_main
@@ -71,6 +75,8 @@ fresh
 check 'first use' 'ran|table|a b|3' "$(run "$kit" table 'a b')"
 check 'progress' '3' "$(wc -l <"$room/told" | tr -d ' ')"
 check 'progress names each crate' 'monitor: proved monitor_main' "$(tail -n 1 "$room/told")"
+check 'progress tells the time left' '1' "$(grep -c 'monitor: proved low, about [0-9]* minutes left' "$room/told")"
+check 'crates are checked side by side' '1' "$(grep -cx 'all check --jobs [1-9][0-9]*' "$NOTES.checks")"
 builds 'again' 0
 
 # however it is called
@@ -153,6 +159,12 @@ unset DURING
 echo 'fn low() { 2 }' >"$top/crates/low/src/lib.rt"
 check 'no kit, and a changed source' '70' "$(run "$bare")"
 check 'no kit: one line' '1' "$(wc -l <"$room/told" | tr -d ' ')"
+CHECKED=1
+export CHECKED
+: >"$NOTES"
+check 'a crate that is not proved' '70' "$(run "$kit")"
+check 'a crate that is not proved: nothing is built' '0' "$(wc -l <"$NOTES" | tr -d ' ')"
+unset CHECKED
 DURING='echo wrong; exit 1'
 export DURING
 check 'a build that fails' '70' "$(run "$kit")"
