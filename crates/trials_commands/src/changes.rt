@@ -38,7 +38,7 @@ fn id_fault(rt: &impl Abort, byte: usize) -> RecordingFault {
 }
 
 // The places of the period of 10000 microseconds, and what it becomes.
-const PERIODS: [(usize, u32); 4] = [
+const PERIODS: &[(usize, u32)] = &[
     (38, 0xff00_2710),
     (39, 0x00ff_2710),
     (40, 0xd810),
@@ -74,7 +74,7 @@ fn each_byte_of_the_id_and_the_period_is_turned(rt: HostRuntime) -> Result<(), F
         for byte in 0..16usize {
             check_turned(&rt, &store, 22 + byte, id_fault(&rt, byte))?;
         }
-        for (place, kept) in PERIODS {
+        for &(place, kept) in PERIODS {
             let found = 10_000;
             check_turned(&rt, &store, place, RecordingFault::Period { kept, found })?;
         }

@@ -194,7 +194,7 @@ const SHEAR: &[(u16, u16, u16, u128)] = &[
 ];
 
 // 2500 * (737 * 40 * category)^5 and 4000000 * (40 * category)^5.
-const DENOMINATORS: [(Kind, u16, u128); 16] = [
+const DENOMINATORS: &[(Kind, u16, u128)] = &[
     (Kind::Normal, 160, 5836833674337608479539200000000000000),
     (Kind::Normal, 140, 2993764146868658011340800000000000000),
     (Kind::Normal, 125, 1698742176620757812500000000000000000),
@@ -226,7 +226,7 @@ fn share_of(kind: Kind, category: u16, gamma: u16, w2: u16, k: u16) -> Option<(u
 }
 
 fn denominator(kind: Kind, category: u16) -> Option<u128> {
-    for (of, at, denominator) in DENOMINATORS {
+    for &(of, at, denominator) in DENOMINATORS {
         if of == kind && at == category {
             return Some(denominator);
         }

@@ -22,7 +22,7 @@ type Row = (
 
 // Points, cycles and residues by hand from the rules of the four-point method, over the whole
 // history.
-const ROWS: [Row; 5] = [
+const ROWS: &[Row] = &[
     // The history of the standard's own example, moved up by eight.
     (
         &[&[6, 9, 5, 13], &[7, 11, 4, 12, 6]],
@@ -177,32 +177,55 @@ fn assert_equal(rt: &impl Abort, left: &Tally, right: &Tally) {
     }
 }
 
+// The half units of a whole history, by the standard's own steps.
+fn halves_of_points(rt: &impl Abort, alloc: Global, points: &[u16]) -> Result<Tally, AllocError> {
+    let ranges = astm(alloc, points)?;
+    halves_of_ranges(rt, alloc, ranges.as_slice())
+}
+
+// What was joined has the row's residue and cycles, and says what the standard's steps say of the
+// whole.
+fn assert_whole(
+    rt: &impl Abort,
+    alloc: Global,
+    row: &Row,
+    whole: &Reducer,
+    tally: &Tally,
+) -> Result<(), AllocError> {
+    let (_, points, cycles, residue) = *row;
+    assert_eq!(rt; whole.residue(), residue);
+    assert_counts(rt, tally, cycles);
+    let halves = halves_of_result(rt, alloc, tally, whole.residue())?;
+    let expected = halves_of_points(rt, alloc, points)?;
+    assert_equal(rt, &halves, &expected);
+    Ok(())
+}
+
 #[test]
-fn parts_join_in_any_bracketing_to_the_count_of_the_whole(rt: HostRuntime) -> Result<(), Fail> {
-    for (parts, points, cycles, residue) in ROWS {
-        let ranges = astm(rt.alloc(), points)?;
-        let expected = halves_of_ranges(&rt, rt.alloc(), ranges.as_slice())?;
-
-        let mut tally = Tally::new(rt.alloc(), CLASSES, 120)?;
-        let whole = joined_from_the_left(&rt, rt.alloc(), parts, &mut tally)?;
-        assert_eq!(rt; whole.residue(), residue, "over {parts:?}");
-        assert_counts(&rt, &tally, cycles);
-        let halves = halves_of_result(&rt, rt.alloc(), &tally, whole.residue())?;
-        assert_equal(&rt, &halves, &expected);
-
+fn parts_join_from_the_left_to_the_count_of_the_whole(rt: HostRuntime) -> Result<(), Fail> {
+    let mut tally = Tally::new(rt.alloc(), CLASSES, 120)?;
+    for row in ROWS {
+        let whole = joined_from_the_left(&rt, rt.alloc(), row.0, &mut tally)?;
+        assert_whole(&rt, rt.alloc(), row, &whole, &tally)?;
         tally.clear();
-        let whole = joined_from_the_right(&rt, rt.alloc(), parts, &mut tally)?;
-        assert_eq!(rt; whole.residue(), residue, "over {parts:?}");
-        assert_counts(&rt, &tally, cycles);
-        let halves = halves_of_result(&rt, rt.alloc(), &tally, whole.residue())?;
-        assert_equal(&rt, &halves, &expected);
+    }
+    Ok(())
+}
+
+#[test]
+fn parts_join_from_the_right_to_the_count_of_the_whole(rt: HostRuntime) -> Result<(), Fail> {
+    let mut tally = Tally::new(rt.alloc(), CLASSES, 120)?;
+    for row in ROWS {
+        let whole = joined_from_the_right(&rt, rt.alloc(), row.0, &mut tally)?;
+        assert_whole(&rt, rt.alloc(), row, &whole, &tally)?;
+        tally.clear();
     }
     Ok(())
 }
 
 #[test]
 fn the_tables_points_are_those_of_the_whole(rt: HostRuntime) -> Result<(), Fail> {
-    for (parts, points, _, _) in ROWS {
+    for &(parts, points, _, _) in ROWS {
         let mut levels = Vec::new(rt.alloc());
         for part in parts {
             levels.extend_from_slice(part)?;

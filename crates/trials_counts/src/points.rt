@@ -2,7 +2,7 @@ use std::test::Fail;
 use turning_points::{Ends, Turner, ends_of, join_ends, keep_points, no_ends, put_behind};
 
 // Levels and their points, found by hand from the rule.
-const HISTORIES: [(&[u16], &[u16]); 8] = [
+const HISTORIES: &[(&[u16], &[u16])] = &[
     (&[], &[]),
     (&[10, 10, 10], &[10]),
     (&[7, 7, 9, 9], &[7, 9]),
@@ -18,7 +18,7 @@ const HISTORIES: [(&[u16], &[u16]); 8] = [
 
 #[test]
 fn finds_the_points(rt: HostRuntime) -> Result<(), Fail> {
-    for (levels, points) in HISTORIES {
+    for &(levels, points) in HISTORIES {
         let mut turner = Turner::new();
         let mut given = Vec::with_capacity(rt.alloc(), levels.len())?;
         for &level in levels {
@@ -40,7 +40,7 @@ fn finds_the_points(rt: HostRuntime) -> Result<(), Fail> {
 
 #[test]
 fn finds_the_points_of_pieces(rt: HostRuntime) -> Result<(), Fail> {
-    for (levels, points) in HISTORIES {
+    for &(levels, points) in HISTORIES {
         for cut in 0..=levels.len() {
             let mut turner = Turner::new();
             let mut front = levels[..cut].to_vec(rt.alloc())?;
@@ -66,7 +66,7 @@ fn ends_in(levels: &mut [u16]) -> Ends {
 
 #[test]
 fn ends_of_two_parts_are_those_of_the_whole(rt: HostRuntime) -> Result<(), Fail> {
-    for (levels, _) in HISTORIES {
+    for &(levels, _) in HISTORIES {
         let whole = ends_in(&mut levels.to_vec(rt.alloc())?);
         for cut in 0..=levels.len() {
             let left = ends_in(&mut levels[..cut].to_vec(rt.alloc())?);

@@ -5,7 +5,7 @@ use tally::Tally;
 // Levels, the cycles (lower level, higher level, count) and the residue. The first is the history
 // of the standard's own example. The results are those of a small program of its own, which deletes
 // anywhere in the list.
-const HISTORIES: [(&[u16], &[(u16, u16, u64)], &[u16]); 6] = [
+const HISTORIES: &[(&[u16], &[(u16, u16, u64)], &[u16])] = &[
     (
         &[6, 9, 5, 13, 7, 11, 4, 12, 6],
         &[(7, 11, 1)],
@@ -24,7 +24,7 @@ const HISTORIES: [(&[u16], &[(u16, u16, u64)], &[u16]); 6] = [
 
 #[test]
 fn counts_cycles_and_keeps_the_residue(rt: HostRuntime) -> Result<(), AllocError> {
-    for (levels, cycles, residue) in HISTORIES {
+    for &(levels, cycles, residue) in HISTORIES {
         let mut tally = Tally::new(rt.alloc(), 16, 5)?;
         let mut reducer = Reducer::new(rt.alloc(), 16)?;
         for &level in levels {

@@ -11,7 +11,7 @@ use tally::Cell;
 type Row = (&'static [i32], &'static [(u16, u16, u64)]);
 
 // By hand from the standard.
-const ROWS: [Row; 7] = [
+const ROWS: &[Row] = &[
     (&[], &[]),
     (&[2, 2, 2], &[]),
     (&[0, 5], &[(8, 13, 1)]),
@@ -85,7 +85,7 @@ fn counts_by_the_standard(rt: HostRuntime) -> Result<(), Fail> {
     let grid = Grid::new(16, 2, -8000, 8)?;
     let gain = Gain::new(1000, 1, 0)?;
     let mut repeating = Repeating::new(rt.alloc(), &grid)?;
-    for (raws, expected) in ROWS {
+    for &(raws, expected) in ROWS {
         let mut segment = Segment::new(rt.alloc(), &grid, 0, 3, 16)?;
         for &raw in raws {
             take(&rt, &mut segment, raw, &gain);

@@ -36,7 +36,7 @@ const HALVES: [u64; 16] = [0, 0, 0, 1, 3, 0, 1, 0, 2, 1, 0, 0, 0, 0, 0, 0];
 
 // By hand from the rules, over the whole history; the half units by the standard's steps over its
 // points. A raw value `r` has level `r + 8`.
-const ROWS: [Row; 7] = [
+const ROWS: &[Row] = &[
     Row {
         parts: &[&[-2, 1, -3, 5], &[-1, 3, -4, 4, -2]],
         readings: [9, 0, 0],
@@ -277,7 +277,7 @@ fn assert_from_the_right(
 #[test]
 fn parts_join_in_any_bracketing(rt: HostRuntime) -> Result<(), Fail> {
     let grid = Grid::new(16, 2, -8000, 8)?;
-    for row in &ROWS {
+    for row in ROWS {
         let to = samples_of(&rt, row);
         assert_from_the_left(&rt, rt.alloc(), &grid, row, to)?;
         assert_from_the_right(&rt, rt.alloc(), &grid, row, to)?;

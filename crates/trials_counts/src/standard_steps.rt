@@ -7,7 +7,7 @@ use turning_points::three_point::{HalfUnits, Range, Run, astm};
 type Row = (&'static [u16], &'static [(u16, u16, u8)]);
 
 // Counted by hand from the steps.
-const ROWS: [Row; 9] = [
+const ROWS: &[Row] = &[
     (&[], &[]),
     (&[10], &[]),
     (&[0, 15], &[(0, 15, 1)]),
@@ -39,7 +39,7 @@ const ROWS: [Row; 9] = [
 
 #[test]
 fn counts_as_the_standard_does(rt: HostRuntime) -> Result<(), Fail> {
-    for (points, expected) in ROWS {
+    for &(points, expected) in ROWS {
         let ranges = astm(rt.alloc(), points)?;
         assert_eq!(rt; ranges.as_slice().len(), expected.len(), "over {points:?}");
         for (range, &(lo, hi, halves)) in ranges.as_slice().iter().zip(expected) {

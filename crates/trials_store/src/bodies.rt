@@ -117,7 +117,7 @@ fn the_vector_in_rows(rt: HostRuntime) -> Result<(), Fail> {
 }
 
 // A byte of the vector is changed, and the fault that this makes.
-const CHANGES: [(usize, u8, BytesFault); 16] = [
+const CHANGES: &[(usize, u8, BytesFault)] = &[
     (79, 0, BytesFault::Order { list: 0, index: 0 }),
     (93, 9, BytesFault::Order { list: 1, index: 1 }),
     (135, 7, BytesFault::Order { list: 2, index: 0 }),
@@ -145,7 +145,7 @@ fn changed(rt: &impl Abort, place: usize, byte: u8) -> [u8; 158] {
 
 #[test]
 fn one_byte_changed(rt: HostRuntime) -> Result<(), Fail> {
-    for (place, byte, expected) in &CHANGES {
+    for (place, byte, expected) in CHANGES {
         let bytes = changed(&rt, *place, *byte);
         let found = fault(&rt, rt.alloc(), Layout::One, &bytes)?;
         assert_eq!(rt; found, Some(*expected), "byte {place}");
@@ -154,7 +154,7 @@ fn one_byte_changed(rt: HostRuntime) -> Result<(), Fail> {
 }
 
 // The body of no samples is 72 zeros, and 70 in rows; one byte less, and one more.
-const ZEROS: [(Layout, usize, Option<BytesFault>); 6] = [
+const ZEROS: &[(Layout, usize, Option<BytesFault>)] = &[
     (
         Layout::One,
         71,
@@ -173,7 +173,7 @@ const ZEROS: [(Layout, usize, Option<BytesFault>); 6] = [
 
 #[test]
 fn short_and_trailing(rt: HostRuntime) -> Result<(), Fail> {
-    for (layout, bytes, expected) in &ZEROS {
+    for (layout, bytes, expected) in ZEROS {
         assert!(rt; *bytes <= 73);
         let found = fault(&rt, rt.alloc(), *layout, &[0; 73][..*bytes])?;
         assert_eq!(rt; found, *expected, "{bytes} bytes");
@@ -213,7 +213,7 @@ fn the_body_of_no_samples(rt: HostRuntime) -> Result<(), Fail> {
 }
 
 // A second row, behind that of the vector: rows that do not ascend, and an empty one.
-const SECOND_ROWS: [(&[u8], BytesFault); 4] = [
+const SECOND_ROWS: &[(&[u8], BytesFault)] = &[
     (
         &[0, 8, 0, 1, 0, 13, 0, 0, 0, 0, 0, 0, 0, 1],
         BytesFault::Order { list: 0, index: 1 },
@@ -239,7 +239,7 @@ fn with_second_row(alloc: Global, row: &[u8]) -> Result<Vec<u8>, AllocError> {
 
 #[test]
 fn rows_out_of_order(rt: HostRuntime) -> Result<(), Fail> {
-    for (row, expected) in &SECOND_ROWS {
+    for (row, expected) in SECOND_ROWS {
         let bytes = with_second_row(rt.alloc(), row)?;
         let found = fault(&rt, rt.alloc(), Layout::Two, &bytes)?;
         assert_eq!(rt; found, Some(*expected));

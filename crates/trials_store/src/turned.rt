@@ -16,7 +16,7 @@ fn stored_whole(rt: &impl Abort, alloc: Global, version: u8) -> Result<Vec<u8>, 
 
 // A byte of the head, the number in which it stands, what becomes of that number where all bits of
 // the byte are turned, and what the setup has.
-const NUMBERS: [(usize, Field, i64, i64); 36] = [
+const NUMBERS: &[(usize, Field, i64, i64)] = &[
     (6, Field::Gauges, 65281, 1),
     (7, Field::Gauges, 254, 1),
     (8, Field::Classes, 65296, 16),
@@ -56,7 +56,7 @@ const NUMBERS: [(usize, Field, i64, i64); 36] = [
 ];
 
 fn differs(place: usize) -> ResumeFault {
-    for (at, field, kept, found) in NUMBERS {
+    for &(at, field, kept, found) in NUMBERS {
         if at == place {
             return ResumeFault::Differs { field, kept, found };
         }
