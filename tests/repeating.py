@@ -1,5 +1,5 @@
 #!/usr/bin/env python3
-"""Prints the numbers that the test of `repeating` expects of 2,000 histories, by the independent count.
+"""Prints the numbers that the test `repeats` of `trials_counts` expects of 2,000 histories, by the independent count.
 
 Both sides make the histories by the same plain generator. A number stands for the cycles of a hundred histories.
 """
