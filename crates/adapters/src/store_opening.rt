@@ -67,8 +67,11 @@ fn none_if_missing(fault: io::Error) -> io::Result<Option<File>> {
     }
 }
 
-// The file with a lock of its own, until it is closed.
-fn locked(file: File) -> io::Result<Option<File>> {
+// The file with a lock of its own, until it is closed. Where a standard stream was closed before the
+// program began, the system gave the file its number, and a line that is told would be written into
+// the store. A clone never has one of these numbers.
+fn locked(opened: File) -> io::Result<Option<File>> {
+    let file = opened.try_clone()?;
     match file.try_lock() {
         Ok(()) => Ok(Some(file)),
         Err(TryLockError::WouldBlock) => Err(io::Error::new(

@@ -90,9 +90,9 @@ fn next_body<K: Station>(
         (K.seen station.old) (K.seen station.new) (K.leaves station.old) (K.leaves station.new) }
     ensures later { K.faults station.old ≤ K.faults station.new }
 {
-    let size = size_reaching(station, size, at, 5)?;
-    if size.saturating_sub(at) < 5 {
-        return Err(Stop::Damaged(Damage::Cut { size }));
+    let known_size = size_reaching(station, size, at, 5)?;
+    if known_size.saturating_sub(at) < 5 {
+        return Err(Stop::Damaged(Damage::Cut { size: known_size }));
     }
     let mut field = [0u8; 4];
     station.read_at(at + 1, &mut field)?;
@@ -101,7 +101,7 @@ fn next_body<K: Station>(
         return Err(Stop::Damaged(Damage::Length(len)));
     }
     let stored = len as u64 + (FRAME_LENGTH + 1) as u64;
-    let size = size_reaching(station, size, at, stored)?;
+    let size = size_reaching(station, known_size, at, stored)?;
     if size.saturating_sub(at) < stored {
         return Err(Stop::Damaged(Damage::Cut { size }));
     }
