@@ -1,7 +1,7 @@
 ghost use Rattle.std.specs.Prelude.{◌≡◌, ◌<◌, ◌≤◌, ◌+◌, ◌^◌, [], List, ℕ, length, slice_index, Err, IfOk, IfErr};
 ghost use Rattle.segment.specs.segment_rules.Parts.{PartsValue};
 ghost use Rattle.segment.specs.Parts.{parts_of};
-ghost use Rattle.outside.specs.Fault.{CountRose, HasCause};
+ghost use Rattle.outside.specs.Fault.{CountRose};
 ghost use Rattle.store_bytes.specs.declared.segment_bytes.layout.Layout.TheVariants.{One};
 ghost use Rattle.segment_store.specs.Held.{AreHeld, ends_of};
 ghost use Rattle.segment_store.specs.Quiet.{IsQuiet};
@@ -33,30 +33,106 @@ fn length_of(field: &[u8]) -> u32
     u32::from_be_bytes([field[0], field[1], field[2], field[3]])
 }
 
-// The size that was asked at the start, where it reaches so many bytes behind the place, and else the
-// size of now: another program may have stored a body since, and a gate is opened only when its body
-// is there.
-fn size_reaching<K: Station>(
+// Reads the body whose open gate stands there in a store of this size, and tells the next gate's
+// place too.
+fn stored_body<K: Station>(
+    alloc: Global,
     station: &mut K,
+    layout: Layout,
+    setup: &Setup,
     size: u64,
+    limit: usize,
+    held: &Held,
     at: u64,
-    count: u64,
-) -> Result<u64, Failed>
+    buf: &mut [u8],
+) -> Result<(Segment, u64), Stop>
+    requires narrow { layout ≡ One → setup.now.grid.classes ≤ MAX_CLASSES_ONE }
+    requires gauges { length held.now ≡ length setup.now.gains }
     requires size { K.tells → size ≡ length (K.seen station.old) }
-    ensures size { K.tells → IfOk result (λ n. n ≡ length (K.seen station.old)) }
-    ensures cause { HasCause (K.faults station.old) (K.faults station.new) result }
+    requires at { at ≤ size }
+    requires few { limit < 2 ^ 32 }
+    requires room { limit ≤ length buf.old }
+    ensures finds { K.tells → TellsAs (λ x. parts_of x.0)
+        (Finds layout setup.now limit (K.seen station.old) (ends_of held.now) at) result }
+    ensures gate { K.tells → IfOk result (λ x.
+        x.1 ≡ at + length_at (K.seen station.old) at + FRAME_LENGTH) }
+    ensures ahead { IfOk result (λ x. (at < x.1) × (x.1 < size)) }
+    ensures over { IfOk result (λ x. x.0.grid ≡ setup.now.grid) }
+    ensures gauge { IfOk result (λ x. x.0.gauge < length held.now) }
+    ensures joins { IfOk result (λ x. x.0.from ≡ slice_index (ends_of held.now) x.0.gauge) }
+    ensures cause { result ≡ Err Disk →
+        CountRose (K.faults station.old) (K.faults station.new) }
+    ensures step { IfOk result (λ x. IsStep (ends_of held.now) at (parts_of x.0) x.1) }
     ensures quiet { K.tells → IsQuiet (K.clock station.old) (K.moments station.old)
         (K.clock station.new) (K.moments station.new) (K.told station.old) (K.told station.new)
         (K.seen station.old) (K.seen station.new) (K.leaves station.old) (K.leaves station.new) }
+    ensures later { K.faults station.old ≤ K.faults station.new }
 {
-    if size.saturating_sub(at) >= count {
-        Ok(size)
-    } else {
-        station.size()
+    if size - at < 5 {
+        return Err(Stop::Damaged(Damage::Cut { size }));
+    }
+    let mut field = [0u8; 4];
+    station.read_at(at + 1, &mut field)?;
+    let len = length_of(&field);
+    if len as usize > limit {
+        return Err(Stop::Damaged(Damage::Length(len)));
+    }
+    if size - at < len as u64 + (FRAME_LENGTH + 1) as u64 {
+        return Err(Stop::Damaged(Damage::Cut { size }));
+    }
+    let (body, _) = buf.split_at_mut(len as usize);
+    station.read_at(at + 5, body)?;
+    let mut kept = [0u8; 32];
+    station.read_at(at + 5 + len as u64, &mut kept)?;
+    let found = digest_of(&field, body);
+    match check(alloc, layout, setup, held, body, kept, found) {
+        Ok(segment) => Ok((segment, at + FRAME_LENGTH as u64 + len as u64)),
+        Err(stop) => Err(stop),
     }
 }
 
-// Reads the body whose open gate stands there, and tells the next gate's place too.
+// The same in a store of the size that it has by now.
+fn body_by_now<K: Station>(
+    alloc: Global,
+    station: &mut K,
+    layout: Layout,
+    setup: &Setup,
+    limit: usize,
+    held: &Held,
+    at: u64,
+    buf: &mut [u8],
+) -> Result<(Segment, u64), Stop>
+    requires narrow { layout ≡ One → setup.now.grid.classes ≤ MAX_CLASSES_ONE }
+    requires gauges { length held.now ≡ length setup.now.gains }
+    requires few { limit < 2 ^ 32 }
+    requires room { limit ≤ length buf.old }
+    ensures finds { K.tells → TellsAs (λ x. parts_of x.0)
+        (Finds layout setup.now limit (K.seen station.old) (ends_of held.now) at) result }
+    ensures gate { K.tells → IfOk result (λ x.
+        x.1 ≡ at + length_at (K.seen station.old) at + FRAME_LENGTH) }
+    ensures ahead { IfOk result (λ x. at < x.1) }
+    ensures within { K.tells → IfOk result (λ x. x.1 < length (K.seen station.old)) }
+    ensures over { IfOk result (λ x. x.0.grid ≡ setup.now.grid) }
+    ensures gauge { IfOk result (λ x. x.0.gauge < length held.now) }
+    ensures joins { IfOk result (λ x. x.0.from ≡ slice_index (ends_of held.now) x.0.gauge) }
+    ensures cause { result ≡ Err Disk →
+        CountRose (K.faults station.old) (K.faults station.new) }
+    ensures step { IfOk result (λ x. IsStep (ends_of held.now) at (parts_of x.0) x.1) }
+    ensures quiet { K.tells → IsQuiet (K.clock station.old) (K.moments station.old)
+        (K.clock station.new) (K.moments station.new) (K.told station.old) (K.told station.new)
+        (K.seen station.old) (K.seen station.new) (K.leaves station.old) (K.leaves station.new) }
+    ensures later { K.faults station.old ≤ K.faults station.new }
+{
+    let size = station.size()?;
+    if size < at {
+        return Err(Stop::Damaged(Damage::Cut { size }));
+    }
+    stored_body(alloc, station, layout, setup, size, limit, held, at, buf)
+}
+
+// The body whose open gate stands there, and the next gate's place. Where the size that was asked at
+// the start doesn't reach to its end, the size is asked again before that is told: another program may
+// have stored the body since, and a gate is opened only when its body is there.
 fn next_body<K: Station>(
     alloc: Global,
     station: &mut K,
@@ -78,7 +154,7 @@ fn next_body<K: Station>(
     ensures gate { K.tells → IfOk result (λ x.
         x.1 ≡ at + length_at (K.seen station.old) at + FRAME_LENGTH) }
     ensures ahead { IfOk result (λ x. at < x.1) }
-    ensures within { K.tells → IfOk result (λ x. x.1 < length (K.seen station.old)) }
+    ensures within { K.tells → IfOk result (λ x. x.1 < size) }
     ensures over { IfOk result (λ x. x.0.grid ≡ setup.now.grid) }
     ensures gauge { IfOk result (λ x. x.0.gauge < length held.now) }
     ensures joins { IfOk result (λ x. x.0.from ≡ slice_index (ends_of held.now) x.0.gauge) }
@@ -90,29 +166,14 @@ fn next_body<K: Station>(
         (K.seen station.old) (K.seen station.new) (K.leaves station.old) (K.leaves station.new) }
     ensures later { K.faults station.old ≤ K.faults station.new }
 {
-    let known_size = size_reaching(station, size, at, 5)?;
-    if known_size.saturating_sub(at) < 5 {
-        return Err(Stop::Damaged(Damage::Cut { size: known_size }));
+    if size < at {
+        return body_by_now(alloc, station, layout, setup, limit, held, at, buf);
     }
-    let mut field = [0u8; 4];
-    station.read_at(at + 1, &mut field)?;
-    let len = length_of(&field);
-    if len as usize > limit {
-        return Err(Stop::Damaged(Damage::Length(len)));
-    }
-    let stored = len as u64 + (FRAME_LENGTH + 1) as u64;
-    let size = size_reaching(station, known_size, at, stored)?;
-    if size.saturating_sub(at) < stored {
-        return Err(Stop::Damaged(Damage::Cut { size }));
-    }
-    let (body, _) = buf.split_at_mut(len as usize);
-    station.read_at(at + 5, body)?;
-    let mut kept = [0u8; 32];
-    station.read_at(at + 5 + len as u64, &mut kept)?;
-    let found = digest_of(&field, body);
-    match check(alloc, layout, setup, held, body, kept, found) {
-        Ok(segment) => Ok((segment, at + FRAME_LENGTH as u64 + len as u64)),
-        Err(stop) => Err(stop),
+    match stored_body(alloc, station, layout, setup, size, limit, held, at, buf) {
+        Err(Stop::Damaged(Damage::Cut { .. })) => {
+            body_by_now(alloc, station, layout, setup, limit, held, at, buf)
+        }
+        found => found,
     }
 }
 

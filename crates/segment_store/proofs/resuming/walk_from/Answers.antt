@@ -108,9 +108,7 @@ bodies-preserved g c =
       );
       quiet = λ tells. quiet_then (quiet_on (c.bodies.invariant.quiet tells) (c.read_at.ensures.time tells) (c.read_at.ensures.told tells)
           (c.read_at.ensures.seen tells) (c.read_at.ensures.crash tells).none_new) (c.next_body.ensures.quiet tells);
-      within = λ tells.
-          let image_same = c.read_at.ensures.seen tells ∙ (i.quiet tells).seen_same in
-          omega (arith, c.in-Ok.ensures.within tells, ap length image_same, c.requires.size tells);
+      within = λ tells. c.in-Ok.ensures.within tells;
       few = omega (arith, c.in-Ok.ensures.ahead, c.bodies.invariant.few);
       gauges = c.join.ensures.gauges ∙ i.gauges;
       near = subst (λ e. IsNear c.in-Ok.next e) (sym c.join.ensures.ends)
