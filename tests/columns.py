@@ -227,7 +227,7 @@ def limits(trial):
             file.truncate(length)
         trial.check("a file of %d bytes" % length, answer, trial.run("column", "d.csv", "G1", ID, "10000"))
     os.remove(path)
-    trial.check("no file", (6, b"", "read fault\n"), trial.run("column", "d.csv", "G1", ID, "10000"))
+    trial.check("no file", (6, b"", "monitor: d.csv: No such file or directory\nread fault\n"), trial.run("column", "d.csv", "G1", ID, "10000"))
 
 
 def main():

@@ -91,9 +91,15 @@ for bytes in 1 2 3; do
     status "$bytes bytes behind the last sample" 5 "recording torn: ends in $bytes odd bytes" table torn
 done
 
-status 'a missing file' 6 'read fault' table missing
+none='No such file or directory'
+status 'a missing file' 6 "monitor: missing: $none
+read fault" table missing
+status 'a missing file of two lines' 6 "monitor: a?c: $none
+read fault" table 'a
+c'
 mkdir folder
-status 'a folder' 6 'read fault' table folder
+status 'a folder' 6 'monitor: folder: Is a directory
+read fault' table folder
 
 # A store.
 store() {
@@ -111,7 +117,8 @@ workers = 2
 name = "G1"
 file = "g1.sgrc"
 num = 1000'
-status 'no configuration' 6 'read fault' init
+status 'no configuration' 6 "monitor: monitor.toml: $none
+read fault" init
 : >monitor.toml
 status 'an empty configuration' 2 'config: missing grid' init
 echo '[grid' >monitor.toml
@@ -119,7 +126,8 @@ status 'no TOML' 2 'config: not TOML' init
 printf '%s\nden = 0\n' "$config" >monitor.toml
 status 'a value outside its limits' 2 'config: out of range gauge 0 den' init
 echo "$config" >monitor.toml
-status 'no recording' 6 'read fault' init
+status 'no recording' 6 "monitor: g1.sgrc: $none
+read fault" init
 cp magic g1.sgrc
 status 'another recording' 4 'recording G1: no SGRC' init
 cp sound g1.sgrc
@@ -128,7 +136,10 @@ check 'nothing was made' no "$([ -e monitor.store ] && echo yes || echo no)"
 status 'no store' 3 'store: not a store' report
 status 'no store that repeats' 3 'store: not a store' repeat
 mkdir monitor.store
-status 'a folder for a store' 8 'station fault' init
+for word in init count report; do
+    status "a folder for a store to $word" 8 'monitor: monitor.store: Is a directory
+station fault' "$word"
+done
 rmdir monitor.store
 status 'a new store' 0 'init 1' init
 new=015347535402000100100002ffffffffffffe0c00008$(printf '11%.0s' 1 2 3 4 5 6 7 8 9 10 11 12 13 14 15 16)00002710
@@ -177,12 +188,14 @@ check 'the same with three workers' "$made" "$("$program" demo --samples 3000 --
 
 if [ -c /dev/full ]; then
     "$program" table sound >/dev/full 2>told
-    check 'a full output' '7:write fault' "$?:$(cat told)"
+    check 'a full output' '7:monitor: standard output: No space left on device
+write fault' "$?:$(cat told)"
 else
     echo 'statuses: skipped: there is no /dev/full'
 fi
-"$program" table sound >&- 2>/dev/null
-check 'a closed output' 7 "$?"
+"$program" table sound >&- 2>told
+check 'a closed output' '7:monitor: standard output: Bad file descriptor
+write fault' "$?:$(cat told)"
 "$program" table missing 2>&-
 check 'a closed standard error' 6 "$?"
 

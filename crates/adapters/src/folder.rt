@@ -3,11 +3,12 @@ ghost use Rattle.std.specs.Prelude.{◌≡◌, ◌+◌, ◌<◌, None};
 #[cfg(test)]
 mod tests;
 
+use crate::reasons::Reasons;
 use crate::streams::FileSource;
 use outside::{Failed, Site};
 use std::fs::File;
 use std::io;
-use std::io::{BufReader, ErrorKind};
+use std::io::{BufReader, ErrorKind, Write};
 use std::rt::Files;
 
 // What is read ahead of a recording, in bytes: blocks are read in such pieces, however small they
@@ -27,29 +28,40 @@ fn open_ahead<R: Files<File = File> + AllocGlobal>(
     }
 }
 
+// A copy of the name, if there is memory for it.
+fn owned<R: AllocGlobal>(rt: &R, name: &str) -> Option<String> {
+    match name.to_string(rt.alloc()) {
+        Ok(name) => Some(name),
+        Err(_) => None,
+    }
+}
+
 /// The files of the current folder. A name is a path. Of each that is out 64 KiB are read ahead.
 #[derive(Drop)]
-pub struct FolderSite<'a, R: Files<File = File> + AllocGlobal> {
+pub struct FolderSite<'a, R: Files<File = File> + AllocGlobal, W: Write + Drop> {
     rt: &'a R,
+    reasons: Reasons<W>,
     out: u64,
     faults: u64,
 }
 
-impl<'a, R: Files<File = File> + AllocGlobal> FolderSite<'a, R> {
-    /// The current folder, of which no source is out.
-    pub fn new(rt: &'a R) -> FolderSite<'a, R>
+impl<'a, R: Files<File = File> + AllocGlobal, W: Write + Drop> FolderSite<'a, R, W> {
+    /// The current folder, of which no source is out, and where the reasons of its files' faults are
+    /// told. Why a source failed is told when it is given back: it may be read beside others.
+    pub fn new(rt: &'a R, reasons: Reasons<W>) -> FolderSite<'a, R, W>
         ensures out { result.out ≡ 0 }
         ensures faults { result.faults ≡ 0 }
     {
         FolderSite {
             rt,
+            reasons,
             out: 0,
             faults: 0,
         }
     }
 }
 
-impl<'a, R: Files<File = File> + AllocGlobal> Site for FolderSite<'a, R> {
+impl<'a, R: Files<File = File> + AllocGlobal, W: Write + Drop> Site for FolderSite<'a, R, W> {
     type Src = FileSource<BufReader<File>>;
 
     ghost tells = { ⊥ };
@@ -66,9 +78,10 @@ impl<'a, R: Files<File = File> + AllocGlobal> Site for FolderSite<'a, R> {
         match open_ahead(self.rt, name) {
             Ok(file) => {
                 self.out += 1;
-                Ok(FileSource::new(file))
+                Ok(FileSource::with_name(file, owned(self.rt, name)))
             }
-            Err(_) => {
+            Err(fault) => {
+                self.reasons.tell(name, &fault);
                 self.faults = self.faults.saturating_add(1);
                 Err(Failed)
             }
@@ -77,6 +90,7 @@ impl<'a, R: Files<File = File> + AllocGlobal> Site for FolderSite<'a, R> {
 
     fn give_back(&mut self, src: FileSource<BufReader<File>>) {
         if src.faults > 0 {
+            self.reasons.tell(src.name(), &src.reason());
             self.faults = self.faults.saturating_add(1);
         }
         self.out -= 1;

@@ -4,6 +4,9 @@ ghost use Rattle.outside.specs.Fault.{HasCause};
 #[cfg(test)]
 mod tests;
 
+use crate::reasons::Reasons;
+use crate::store_access::StoreAccess;
+use crate::store_opening::{open_store, sync_found};
 use outside::Failed;
 use outside::station::Station;
 use std::fs::File;
@@ -13,22 +16,32 @@ use std::os::unix::fs::FileExt;
 use std::rt::Files;
 
 /// The store in a file of the current folder, and the line to the operator. The file is opened at
-/// its first use. Where there is none it is made when it is first written.
+/// its first use, as the command needs it, and then held until the station is dropped.
 #[derive(Drop)]
 pub struct FileStation<'a, R: Files<File = File>, W: Write + Drop> {
     rt: &'a R,
     name: &'static str,
+    access: StoreAccess,
     file: Option<File>,
     // Whether the folder was synced, so that the file keeps its name.
     is_named: bool,
     line: W,
+    reasons: Reasons<W>,
     faults: u64,
 }
 
 impl<'a, R: Files<File = File>, W: Write + Drop> FileStation<'a, R, W> {
-    /// The store in the file of this name, which is not opened yet, and the line to the operator.
-    pub fn new(rt: &'a R, name: &'static str, line: W) -> FileStation<'a, R, W>
+    /// The store in the file of this name, which is not opened yet, the line to the operator, and
+    /// where the reasons of the file's faults are told.
+    pub fn new(
+        rt: &'a R,
+        name: &'static str,
+        access: StoreAccess,
+        line: W,
+        reasons: Reasons<W>,
+    ) -> FileStation<'a, R, W>
         ensures name { result.name ≡ name.entry }
+        ensures access { result.access ≡ access }
         ensures unnamed { result.is_named ≡ false }
         ensures line { result.line ≡ line }
         ensures faults { result.faults ≡ 0 }
@@ -36,32 +49,23 @@ impl<'a, R: Files<File = File>, W: Write + Drop> FileStation<'a, R, W> {
         FileStation {
             rt,
             name,
+            access,
             file: None,
             is_named: false,
             line,
+            reasons,
             faults: 0,
         }
     }
 
-    // Opens the file, if there is one.
+    // Opens the file, if it isn't open yet and is there or is to be made.
     fn open(&mut self) -> io::Result<()>
         ensures { self.new.faults ≡ self.old.faults }
     {
-        if self.file.is_some() {
-            return Ok(());
+        if self.file.is_none() {
+            self.file = open_store(self.rt, self.name, self.access)?;
         }
-        match File::options()
-            .read(true)
-            .write(true)
-            .open(self.rt, self.name)
-        {
-            Ok(file) => {
-                self.file = Some(file);
-                Ok(())
-            }
-            Err(fault) if fault.kind() == ErrorKind::NotFound => Ok(()),
-            Err(fault) => Err(fault),
-        }
+        Ok(())
     }
 
     fn length(&mut self) -> io::Result<u64>
@@ -88,9 +92,6 @@ impl<'a, R: Files<File = File>, W: Write + Drop> FileStation<'a, R, W> {
         ensures { self.new.faults ≡ self.old.faults }
     {
         self.open()?;
-        if self.file.is_none() {
-            self.file = Some(File::create_new(self.rt, self.name)?);
-        }
         match &self.file {
             Some(file) => file.write_all_at(bytes, at),
             None => Err(ErrorKind::NotFound.into()),
@@ -104,6 +105,9 @@ impl<'a, R: Files<File = File>, W: Write + Drop> FileStation<'a, R, W> {
         let Some(file) = &self.file else {
             return Ok(());
         };
+        if self.access == StoreAccess::Read {
+            return sync_found(file);
+        }
         file.sync_all()?;
         if !self.is_named {
             File::open(self.rt, ".")?.sync_all()?;
@@ -112,13 +116,14 @@ impl<'a, R: Files<File = File>, W: Write + Drop> FileStation<'a, R, W> {
         Ok(())
     }
 
-    // Counts a call that failed.
+    // Counts a call on the file that failed, and tells why.
     fn count_fault<T>(&mut self, answer: io::Result<T>) -> Result<T, Failed>
         ensures { HasCause self.old.faults self.new.faults result }
     {
         match answer {
             Ok(value) => Ok(value),
-            Err(_) => {
+            Err(fault) => {
+                self.reasons.tell(self.name, &fault);
                 self.faults = self.faults.saturating_add(1);
                 Err(Failed)
             }
@@ -167,8 +172,13 @@ impl<'a, R: Files<File = File>, W: Write + Drop> Station for FileStation<'a, R, 
         self.count_fault(answer)
     }
 
+    // Why a line wasn't told could only be told on the line that failed.
     fn tell(&mut self, line: &[u8]) -> Result<(), Failed> {
-        let answer = self.line.write_all(line);
-        self.count_fault(answer)
+        let told = self.line.write_all(line);
+        if told.is_err() {
+            self.faults = self.faults.saturating_add(1);
+            return Err(Failed);
+        }
+        Ok(())
     }
 }

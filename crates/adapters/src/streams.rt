@@ -5,13 +5,19 @@ ghost use Rattle.adapters.specs.Known.{Tells, bytes_of};
 #[cfg(test)]
 mod tests;
 
+use crate::reasons::Reasons;
 use outside::{Failed, Sink, Source};
+use std::io;
 use std::io::{ErrorKind, Read, Write};
 
 /// An open file, or another reader, from where it stands.
 #[derive(Drop)]
 pub struct FileSource<F: Read + Send + Drop> {
     file: F,
+    // What the file is called, where there was memory for it.
+    name: Option<String>,
+    // Why the last read failed that did.
+    fault: Option<io::Error>,
     pub(crate) faults: u64,
 }
 
@@ -21,7 +27,36 @@ impl<F: Read + Send + Drop> FileSource<F> {
         ensures file { result.file ≡ file }
         ensures faults { result.faults ≡ 0 }
     {
-        FileSource { file, faults: 0 }
+        FileSource::with_name(file, None)
+    }
+
+    // The same of a file with a name.
+    pub(crate) fn with_name(file: F, name: Option<String>) -> FileSource<F>
+        ensures file { result.file ≡ file }
+        ensures faults { result.faults ≡ 0 }
+    {
+        FileSource {
+            file,
+            name,
+            fault: None,
+            faults: 0,
+        }
+    }
+
+    // What the file is called.
+    pub(crate) fn name(&self) -> &str {
+        match &self.name {
+            Some(name) => name.as_str(),
+            None => "?",
+        }
+    }
+
+    // Why the last read failed that did.
+    pub(crate) fn reason(&self) -> io::Error {
+        match self.fault {
+            Some(fault) => fault,
+            None => ErrorKind::Interrupted.into(),
+        }
     }
 }
 
@@ -41,7 +76,10 @@ impl<F: Read + Send + Drop> Source for FileSource<F> {
             match self.file.read(buf) {
                 Ok(n) => return Ok(n),
                 Err(fault) if fault.kind() == ErrorKind::Interrupted => {}
-                Err(_) => break,
+                Err(fault) => {
+                    self.fault = Some(fault);
+                    break;
+                }
             }
         }
         self.faults = self.faults.saturating_add(1);
@@ -51,23 +89,31 @@ impl<F: Read + Send + Drop> Source for FileSource<F> {
 
 /// An output, written at once.
 #[derive(Drop)]
-pub struct OutputSink<W: Write + Drop> {
+pub struct OutputSink<W: Write + Drop, L: Write + Drop> {
     out: W,
+    name: &'static str,
+    reasons: Reasons<L>,
     faults: u64,
 }
 
-impl<W: Write + Drop> OutputSink<W> {
-    /// An output to this writer, on which no call failed yet.
-    pub fn new(out: W) -> OutputSink<W>
+impl<W: Write + Drop, L: Write + Drop> OutputSink<W, L> {
+    /// An output of this name to this writer, on which no call failed yet, and where the reasons of its
+    /// faults are told.
+    pub fn new(out: W, name: &'static str, reasons: Reasons<L>) -> OutputSink<W, L>
         ensures out { result.out ≡ out }
         ensures faults { result.faults ≡ 0 }
     {
-        OutputSink { out, faults: 0 }
+        OutputSink {
+            out,
+            name,
+            reasons,
+            faults: 0,
+        }
     }
 
     // Writes the bytes, as std's `write_all` does, which doesn't say that a failure left a front of
     // them. A write that was interrupted is tried again.
-    fn write(&mut self, bytes: &[u8]) -> Result<(), Failed>
+    fn write(&mut self, bytes: &[u8]) -> io::Result<()>
         ensures ok { Tells W.contents → OnOk result
             (bytes_of (W.contents self.new.out) ≡ bytes_of (W.contents self.old.out) ++ bytes.now) }
         ensures failed { Tells W.contents → OnErr result (AppendsPrefix
@@ -80,17 +126,17 @@ impl<W: Write + Drop> OutputSink<W> {
                 return Ok(());
             }
             match self.out.write(rest) {
-                Ok(0) => break,
+                Ok(0) => return Err(ErrorKind::WriteZero.into()),
                 Ok(n) => rest = &rest[n..],
                 Err(cause) if cause.kind() == ErrorKind::Interrupted => {}
-                Err(_) => break,
+                Err(cause) => return Err(cause),
             }
         }
-        Err(Failed)
+        Err(ErrorKind::WriteZero.into())
     }
 }
 
-impl<W: Write + Drop> Sink for OutputSink<W> {
+impl<W: Write + Drop, L: Write + Drop> Sink for OutputSink<W, L> {
     // Where writers of its type tell what they hold.
     ghost tells = { Tells W.contents };
 
@@ -99,10 +145,13 @@ impl<W: Write + Drop> Sink for OutputSink<W> {
     ghost faults = { λ s. s.faults };
 
     fn put(&mut self, bytes: &[u8]) -> Result<(), Failed> {
-        let answer = self.write(bytes);
-        if answer.is_err() {
-            self.faults = self.faults.saturating_add(1);
+        match self.write(bytes) {
+            Ok(()) => Ok(()),
+            Err(fault) => {
+                self.reasons.tell(self.name, &fault);
+                self.faults = self.faults.saturating_add(1);
+                Err(Failed)
+            }
         }
-        answer
     }
 }

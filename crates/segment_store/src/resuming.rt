@@ -33,8 +33,9 @@ fn length_of(field: &[u8]) -> u32
     u32::from_be_bytes([field[0], field[1], field[2], field[3]])
 }
 
-// Reads the body whose open gate stands there, and tells the next gate's place too.
-fn next_body<K: Station>(
+// Reads the body whose open gate stands there in a store of this size, and tells the next gate's
+// place too.
+fn stored_body<K: Station>(
     alloc: Global,
     station: &mut K,
     layout: Layout,
@@ -87,6 +88,92 @@ fn next_body<K: Station>(
     match check(alloc, layout, setup, held, body, kept, found) {
         Ok(segment) => Ok((segment, at + FRAME_LENGTH as u64 + len as u64)),
         Err(stop) => Err(stop),
+    }
+}
+
+// The same in a store of the size that it has by now.
+fn body_by_now<K: Station>(
+    alloc: Global,
+    station: &mut K,
+    layout: Layout,
+    setup: &Setup,
+    limit: usize,
+    held: &Held,
+    at: u64,
+    buf: &mut [u8],
+) -> Result<(Segment, u64), Stop>
+    requires narrow { layout ≡ One → setup.now.grid.classes ≤ MAX_CLASSES_ONE }
+    requires gauges { length held.now ≡ length setup.now.gains }
+    requires few { limit < 2 ^ 32 }
+    requires room { limit ≤ length buf.old }
+    ensures finds { K.tells → TellsAs (λ x. parts_of x.0)
+        (Finds layout setup.now limit (K.seen station.old) (ends_of held.now) at) result }
+    ensures gate { K.tells → IfOk result (λ x.
+        x.1 ≡ at + length_at (K.seen station.old) at + FRAME_LENGTH) }
+    ensures ahead { IfOk result (λ x. at < x.1) }
+    ensures within { K.tells → IfOk result (λ x. x.1 < length (K.seen station.old)) }
+    ensures over { IfOk result (λ x. x.0.grid ≡ setup.now.grid) }
+    ensures gauge { IfOk result (λ x. x.0.gauge < length held.now) }
+    ensures joins { IfOk result (λ x. x.0.from ≡ slice_index (ends_of held.now) x.0.gauge) }
+    ensures cause { result ≡ Err Disk →
+        CountRose (K.faults station.old) (K.faults station.new) }
+    ensures step { IfOk result (λ x. IsStep (ends_of held.now) at (parts_of x.0) x.1) }
+    ensures quiet { K.tells → IsQuiet (K.clock station.old) (K.moments station.old)
+        (K.clock station.new) (K.moments station.new) (K.told station.old) (K.told station.new)
+        (K.seen station.old) (K.seen station.new) (K.leaves station.old) (K.leaves station.new) }
+    ensures later { K.faults station.old ≤ K.faults station.new }
+{
+    let size = station.size()?;
+    if size < at {
+        return Err(Stop::Damaged(Damage::Cut { size }));
+    }
+    stored_body(alloc, station, layout, setup, size, limit, held, at, buf)
+}
+
+// The body whose open gate stands there, and the next gate's place. Where the size that was asked at
+// the start doesn't reach to its end, the size is asked again before that is told: another program may
+// have stored the body since, and a gate is opened only when its body is there.
+fn next_body<K: Station>(
+    alloc: Global,
+    station: &mut K,
+    layout: Layout,
+    setup: &Setup,
+    size: u64,
+    limit: usize,
+    held: &Held,
+    at: u64,
+    buf: &mut [u8],
+) -> Result<(Segment, u64), Stop>
+    requires narrow { layout ≡ One → setup.now.grid.classes ≤ MAX_CLASSES_ONE }
+    requires gauges { length held.now ≡ length setup.now.gains }
+    requires size { K.tells → size ≡ length (K.seen station.old) }
+    requires few { limit < 2 ^ 32 }
+    requires room { limit ≤ length buf.old }
+    ensures finds { K.tells → TellsAs (λ x. parts_of x.0)
+        (Finds layout setup.now limit (K.seen station.old) (ends_of held.now) at) result }
+    ensures gate { K.tells → IfOk result (λ x.
+        x.1 ≡ at + length_at (K.seen station.old) at + FRAME_LENGTH) }
+    ensures ahead { IfOk result (λ x. at < x.1) }
+    ensures within { K.tells → IfOk result (λ x. x.1 < size) }
+    ensures over { IfOk result (λ x. x.0.grid ≡ setup.now.grid) }
+    ensures gauge { IfOk result (λ x. x.0.gauge < length held.now) }
+    ensures joins { IfOk result (λ x. x.0.from ≡ slice_index (ends_of held.now) x.0.gauge) }
+    ensures cause { result ≡ Err Disk →
+        CountRose (K.faults station.old) (K.faults station.new) }
+    ensures step { IfOk result (λ x. IsStep (ends_of held.now) at (parts_of x.0) x.1) }
+    ensures quiet { K.tells → IsQuiet (K.clock station.old) (K.moments station.old)
+        (K.clock station.new) (K.moments station.new) (K.told station.old) (K.told station.new)
+        (K.seen station.old) (K.seen station.new) (K.leaves station.old) (K.leaves station.new) }
+    ensures later { K.faults station.old ≤ K.faults station.new }
+{
+    if size < at {
+        return body_by_now(alloc, station, layout, setup, limit, held, at, buf);
+    }
+    match stored_body(alloc, station, layout, setup, size, limit, held, at, buf) {
+        Err(Stop::Damaged(Damage::Cut { .. })) => {
+            body_by_now(alloc, station, layout, setup, limit, held, at, buf)
+        }
+        found => found,
     }
 }
 

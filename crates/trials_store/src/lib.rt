@@ -1,7 +1,7 @@
 //! Tests of the outside in memory, of recordings, rounds and whole stores, beside what their
 //! contracts prove: faults of sources, sinks and stations, the bytes of a store against a
 //! written example, every moment of making and of putting, and stores that were changed, cut,
-//! padded, or put together from others. There is no code but the tests.
+//! padded, put together from others, or grow while they are read. There is no code but the tests.
 #![tactic(auto)]
 
 #[cfg(test)]
@@ -14,6 +14,8 @@ mod changes;
 mod collectors;
 #[cfg(test)]
 mod deposits;
+#[cfg(test)]
+mod growing;
 #[cfg(test)]
 mod lane_ends;
 #[cfg(test)]

@@ -1,4 +1,5 @@
 use super::FolderSite;
+use crate::reasons::Reasons;
 use outside::{Site, Source};
 use std::test::Fail;
 
@@ -6,7 +7,7 @@ use std::test::Fail;
 // when it is given back.
 #[test]
 fn a_site_counts_what_is_missing_and_what_fails(rt: HostRuntime) -> Result<(), Fail> {
-    let mut site = FolderSite::new(&rt);
+    let mut site = FolderSite::new(&rt, Reasons::new(rt.alloc(), Vec::new(rt.alloc())));
     assert!(rt; site.fetch("no_file_of_this_name").is_err());
     assert_eq!(rt; (site.out, site.faults), (0, 1));
     let Ok(mut folder) = site.fetch(".") else {

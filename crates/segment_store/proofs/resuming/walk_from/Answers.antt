@@ -28,7 +28,7 @@ bodies-init g c =
       );
       quiet = λ tells. quiet_starts (k.clock c.args.station.now) (k.moments c.args.station.now) (k.told c.args.station.now)
           (k.seen c.args.station.now) (k.leaves c.args.station.now) (g.met.K.Station.only_now tells c.args.station.now);
-      within = c.requires.start;
+      within = λ tells. c.requires.start;
       few = omega arith;
       later = omega arith;
       near = c.requires.near;
@@ -43,7 +43,7 @@ returns-then-gate-ne1-clause-walks g c tells =
     let byte = on_ok c.read_at.result _ (sym c.is_err.ensures.value ∙ c.if-is_err.false) (c.read_at.ensures.bytes tells) in
     let same = (i.quiet tells).seen_same in
     let gate = gate_is (k.seen c.args.station.now) (k.seen c.bodies.station) c.read_at.new.buf c.bodies.at same
-    (omega (arith, i.within, c.requires.size tells)) byte in
+    (omega (arith, i.within tells, c.requires.size tells)) byte in
     i.walks tells _ (shut (λ e. c.if-gate-ne1.true (gate ∙ e)))
 
 pub returns-then-gate-ne1-clause-found : goal.returns-then-gate-ne1-clause-found
@@ -58,9 +58,9 @@ returns-then-gate-ne1-clause-found g c =
           let byte = on_ok c.read_at.result _ (sym c.is_err.ensures.value ∙ c.if-is_err.false) (c.read_at.ensures.bytes tells) in
           let same = (i.quiet tells).seen_same in
           let gate = gate_is (k.seen c.args.station.now) (k.seen c.bodies.station) c.read_at.new.buf c.bodies.at same
-          (omega (arith, i.within, c.requires.size tells)) byte in
+          (omega (arith, i.within tells, c.requires.size tells)) byte in
           passed_all c.args.layout c.args.setup.now c.args.limit c.requires.few (k.seen c.args.station.now) c.args.start c.bodies.at
-          (ends_of c.args.held.now) (ends_of c.bodies.held) p.0 (omega (arith, i.within, c.requires.size tells))
+          (ends_of c.args.held.now) (ends_of c.bodies.held) p.0 (omega (arith, i.within tells, c.requires.size tells))
           (λ e. c.if-gate-ne1.true (gate ∙ e)) (p.3 tells),
     )
 
@@ -78,7 +78,7 @@ bodies-preserved g c =
           let byte = on_ok c.read_at.result _ (sym c.is_err.ensures.value ∙ c.if-is_err.false) (c.read_at.ensures.bytes tells) in
           let same = (i.quiet tells).seen_same in
           let gate = gate_is image (k.seen c.bodies.station) c.read_at.new.buf c.bodies.at same
-          (omega (arith, i.within, c.requires.size tells)) byte in
+          (omega (arith, i.within tells, c.requires.size tells)) byte in
           let is_one : get_or image c.bodies.at 0 ≡ 1 = omega (arith, gate, c.if-gate-ne1.false) in
           i.walks tells r (step c.args.layout setup c.args.limit c.args.limit image (k.seen c.read_at.new.self) (ends_of c.bodies.held)
           (ends_of c.bodies.held) c.bodies.index c.bodies.at (c.read_at.ensures.seen tells
@@ -93,7 +93,7 @@ bodies-preserved g c =
             let byte = on_ok c.read_at.result _ (sym c.is_err.ensures.value ∙ c.if-is_err.false) (c.read_at.ensures.bytes tells) in
             let same = (i.quiet tells).seen_same in
             let gate = gate_is image (k.seen c.bodies.station) c.read_at.new.buf c.bodies.at same
-            (omega (arith, i.within, c.requires.size tells)) byte in
+            (omega (arith, i.within tells, c.requires.size tells)) byte in
             let is_one : get_or image c.bodies.at 0 ≡ 1 = omega (arith, gate, c.if-gate-ne1.false) in
             let image_same = c.read_at.ensures.seen tells ∙ same in
             let finds = subst (λ m. Finds c.args.layout setup c.args.limit m (ends_of c.bodies.held) c.bodies.at (Ok v)) image_same
@@ -108,7 +108,7 @@ bodies-preserved g c =
       );
       quiet = λ tells. quiet_then (quiet_on (c.bodies.invariant.quiet tells) (c.read_at.ensures.time tells) (c.read_at.ensures.told tells)
           (c.read_at.ensures.seen tells) (c.read_at.ensures.crash tells).none_new) (c.next_body.ensures.quiet tells);
-      within = omega (arith, c.in-Ok.ensures.ahead);
+      within = λ tells. c.in-Ok.ensures.within tells;
       few = omega (arith, c.in-Ok.ensures.ahead, c.bodies.invariant.few);
       gauges = c.join.ensures.gauges ∙ i.gauges;
       near = subst (λ e. IsNear c.in-Ok.next e) (sym c.join.ensures.ends)
@@ -126,7 +126,7 @@ returns-in-Err-clause-walks g c tells =
     let byte = on_ok c.read_at.result _ (sym c.is_err.ensures.value ∙ c.if-is_err.false) (c.read_at.ensures.bytes tells) in
     let same = (i.quiet tells).seen_same in
     let gate = gate_is (k.seen c.args.station.now) (k.seen c.bodies.station) c.read_at.new.buf c.bodies.at same
-    (omega (arith, i.within, c.requires.size tells)) byte in
+    (omega (arith, i.within tells, c.requires.size tells)) byte in
     let is_one : get_or (k.seen c.args.station.now) c.bodies.at 0 ≡ 1 = omega (arith, gate, c.if-gate-ne1.false) in
     stops_here c.args.layout setup c.args.limit c.args.limit (k.seen c.args.station.now) (k.seen c.read_at.new.self)
     (ends_of c.bodies.held) (ends_of c.bodies.held) c.bodies.index c.bodies.at (c.read_at.ensures.seen tells

@@ -1,4 +1,4 @@
-use Rattle.std.proofs.Common.{◌≡◌, ◌≤◌, ◌<◌, ◌-◌, ℕ, List, length}
+use Rattle.std.proofs.Common.{◌≡◌, ◌≤◌, ◌<◌, ◌-◌, ◌^◌, ℕ, List, length}
 use Rattle.std.specs.Prelude.{Result}
 use Rattle.segment.specs.segment_rules.Parts.{PartsValue}
 use Rattle.segment_store.specs.declared.damage.Damage.{Damage}
@@ -21,7 +21,7 @@ invariant-bodies g l =
       quiet : k.tells → IsQuiet (k.clock l.fn.station) (k.moments l.fn.station) (k.clock l.station) (k.moments l.station)
           (k.told l.fn.station)
           (k.told l.station) (k.seen l.fn.station) (k.seen l.station) (k.leaves l.fn.station) (k.leaves l.station);
-      within : l.at < l.fn.size;
+      within : k.tells → l.at < l.fn.size;
       few : l.index ≤ l.at;
       later : k.faults l.fn.station ≤ k.faults l.station;
       near : IsNear l.at (ends_of l.held);
@@ -30,4 +30,4 @@ invariant-bodies g l =
     }
 
 abbrev pub decreases-bodies : goal.decreases-bodies
-decreases-bodies g l = l.fn.size - l.at
+decreases-bodies g l = 2 ^ 64 - l.at

@@ -2,8 +2,8 @@ use Rattle.std.proofs.Common.{◌∙◌}
 use Rattle.adapters.proofs.Known.{kept, none_written, prefix}
 use Rattle.adapters.proofs.streams.OutputSink.write.Goals as goal
 
-pub returns-after-loop-clause-failed : goal.returns-after-loop-clause-failed
-returns-after-loop-clause-failed g c = λ t. let s = c.loop.invariant.so_far t in prefix _ _ _ s.0 _ s.1 s.2
+pub returns-clause-failed : goal.returns-clause-failed
+returns-clause-failed g c = λ t. let s = c.loop.invariant.so_far t in prefix _ _ _ s.0 _ s.1 s.2
 
 pub returns-in-Ok-eq0-clause-failed : goal.returns-in-Ok-eq0-clause-failed
 returns-in-Ok-eq0-clause-failed g c = λ t.

@@ -14,7 +14,7 @@ use Rattle.calibration.specs.declared.setup.Setup.{Setup}
 use Rattle.segment_store.specs.Resuming.{field_at, length_at, bytes_at, kept_at, found_at, Checks, Finds, TellsAs, IsWhole, no_length, too_long, no_gate, whole}
 use Rattle.segment_store.proofs.Nearness.{step_is}
 use Rattle.segment_store.proofs.Quiet.{quiet_starts, quiet_on}
-use Rattle.segment_store.proofs.resuming.next_body.Goals as goal
+use Rattle.segment_store.proofs.resuming.stored_body.Goals as goal
 
 field_is : (image : Image) (at : ℕ) (field : List ℕ) → field ≡ slice_range image (at + 1) (at + 1 + 4) → field ≡ field_at image at
 field_is image at field is = let e : at + 1 + 4 ≡ at + 5 = omega arith in is ∙ ap (λ n. slice_range image (at + 1) n) e

@@ -1,0 +1,244 @@
+#!/usr/bin/env python3
+"""Starts commands of the program beside each other over one store.
+
+beside.py PROGRAM [SEED [TRIALS]]
+
+- Two and three `count` at once, TRIALS times (60 where it is left out), over recordings that grow between and during them. Each ends with the report of what it read, or
+  is refused since another holds the store. Afterwards the report is that of all the samples.
+- `report` and `repeat` beside a `count` with a backlog, until TRIALS of them began and ended while it ran. Each prints what is held of a front
+  of each recording, with at least what was acknowledged before it began.
+- Two `init` at once, half as often. One makes the store, the other is refused.
+- `count`, `init` and the readers beside a program that holds the store.
+What is expected comes from an independent count (model.py). Last line: beside: N passed, M failed
+"""
+
+import fcntl
+import os
+import random
+import re
+import subprocess
+import sys
+import tempfile
+import threading
+import time
+
+# No folder is made in the checkout.
+sys.dont_write_bytecode = True
+
+from model import Count, Grid, recording, repeat, report
+
+IN_USE = "monitor: monitor.store: in use by another monitor\nstation fault\n"
+GRID = Grid(16, 2, -8000, 8)
+GAIN = (1000, 1, 0)
+NAMES = ["north", "south"]
+
+
+def configuration(block):
+    lines = ["[grid]", "classes = 16", "width = 2", "low = -8000", "reference = 8"]
+    lines += ["[count]", "block = %d" % block, "workers = 2"]
+    for name in NAMES:
+        lines += ["[[gauge]]", 'name = "%s"' % name, 'file = "%s.sgrc"' % name, "num = 1000"]
+    return "\n".join(lines) + "\n"
+
+
+def held(told):
+    """The last number that was acknowledged for each name."""
+    return {name: int(n) for name, n in re.findall(r"^held (\S+) (\d+)$", told, re.M)}
+
+
+def samples(text):
+    """How many samples each gauge of a report has."""
+    return [int(n) for n in re.findall(r"^samples (\d+) used", text, re.M)]
+
+
+class Run:
+    """A command that runs, whose lines are read as they come."""
+
+    def __init__(self, program, *words):
+        self.child = subprocess.Popen([program, *words], stdout=subprocess.PIPE, stderr=subprocess.PIPE, text=True)
+        self.told, self.printed = "", ""
+        self.readers = [threading.Thread(target=read) for read in (self.read_lines, self.read_text)]
+        for reader in self.readers:
+            reader.start()
+
+    def read_lines(self):
+        for line in self.child.stderr:
+            self.told += line
+
+    def read_text(self):
+        self.printed = self.child.stdout.read()
+
+    def is_running(self):
+        return self.child.poll() is None
+
+    def end(self):
+        self.child.wait()
+        for reader in self.readers:
+            reader.join()
+        self.child.stdout.close()
+        self.child.stderr.close()
+        return self.child.returncode, self.printed, self.told
+
+
+class Trials:
+    def __init__(self, program, seed):
+        self.program, self.rng = program, random.Random(seed)
+        self.passed = self.failed = 0
+        self.raws = [[] for _ in NAMES]
+
+    def check(self, what, got, due):
+        if got == due:
+            self.passed += 1
+            return
+        self.failed += 1
+        print("beside: %s: %.300r, due %.300r" % (what, got, due))
+
+    def run(self, *words):
+        return Run(self.program, *words).end()
+
+    def grow(self, most):
+        """Each recording gets up to so many samples more."""
+        for raws, name, number in zip(self.raws, NAMES, (1, 2)):
+            more = [self.rng.randint(-9, 8) for _ in range(self.rng.randint(most // 2, most))]
+            is_new = not raws
+            raws += more
+            with open(name + ".sgrc", "wb" if is_new else "ab") as out:
+                out.write(recording(more, number)[0 if is_new else 32 :])
+
+    def begin(self, block):
+        """A new site with a store."""
+        self.raws = [[] for _ in NAMES]
+        for name in os.listdir("."):
+            os.remove(name)
+        with open("monitor.toml", "w") as out:
+            out.write(configuration(block))
+        self.grow(4)
+        self.check("init", self.run("init"), (0, "", "init 2\n"))
+
+    def counts(self, lengths):
+        return [Count(GRID, GAIN, raws[:n]) for raws, n in zip(self.raws, lengths)]
+
+    def report(self, lengths):
+        return report(NAMES, self.counts(lengths), [])
+
+    def repeat(self, lengths):
+        return repeat(NAMES, self.counts(lengths))
+
+    def end_of_one(self, run, before):
+        """What a `count` beside others acknowledged. Its recordings had these lengths when it was started."""
+        status, printed, told = run.end()
+        if status == 8:
+            self.check("a second writer", (printed, told), ("", IN_USE))
+            return {}, 1
+        self.check("status of count", status, 0)
+        there = samples(printed)
+        grown = [low <= n <= len(raws) for low, n, raws in zip(before, there, self.raws)]
+        self.check("how much was counted", grown, [True] * len(NAMES))
+        self.check("report of count", printed, self.report(there))
+        self.check("lines of count", [line for line in told.splitlines() if line[:5] != "held "], [])
+        return held(told), 0
+
+    def count_at_once(self, writers):
+        """So many `count` over recordings that have grown, and some that grow on."""
+        self.grow(300)
+        before = [len(raws) for raws in self.raws]
+        runs = []
+        for _ in range(writers):
+            runs.append(Run(self.program, "count"))
+            time.sleep(self.rng.choice((0, 0, 0.001, 0.004)))
+        if self.rng.random() < 0.5:
+            self.grow(60)
+        refused, acknowledged = 0, {}
+        for run in runs:
+            last, was_refused = self.end_of_one(run, before)
+            refused += was_refused
+            for name, n in last.items():
+                acknowledged[name] = max(n, acknowledged.get(name, 0))
+        self.check("one of them counted", refused < writers, True)
+        status, printed, told = self.run("report")
+        self.check("report", (status, told), (0, ""))
+        there = samples(printed)
+        self.check("all that was acknowledged", [acknowledged.get(name, 0) <= n for name, n in zip(NAMES, there)], [True] * len(NAMES))
+        self.check("report of a front", printed, self.report(there))
+        lengths = [len(raws) for raws in self.raws]
+        status, printed, _ = self.run("count")
+        self.check("a further count", (status, printed), (0, self.report(lengths)))
+        return refused
+
+    def read_beside(self, due):
+        """`report` and `repeat` until so many ran beside a `count`. How many did."""
+        beside = grown = 0
+        while beside < due and grown < 40:
+            grown += 1
+            self.grow(4000)
+            run = Run(self.program, "count")
+            while run.is_running() and beside < due:
+                acknowledged = held(run.told)
+                word = self.rng.choice(("report", "report", "repeat"))
+                status, printed, told = self.run(word)
+                beside += run.is_running()
+                self.check("%s beside count" % word, (status, told), (0, ""))
+                if word == "report":
+                    there = samples(printed)
+                    enough = [acknowledged.get(name, 0) <= n for name, n in zip(NAMES, there)]
+                    self.check("what was acknowledged", enough, [True] * len(NAMES))
+                    self.check("report of a front", printed, self.report(there))
+            status, printed, _ = run.end()
+            lengths = [len(raws) for raws in self.raws]
+            self.check("count with readers", (status, printed), (0, self.report(lengths)))
+            self.check("repeat", self.run("repeat"), (0, self.repeat(lengths), ""))
+        return beside
+
+    def init_at_once(self, store):
+        """Two `init`, of which one makes these bytes."""
+        os.remove("monitor.store")
+        runs = [Run(self.program, "init"), Run(self.program, "init")]
+        ends = sorted(run.end() for run in runs)
+        self.check("one init", ends[0], (0, "", "init 2\n"))
+        others = [(3, "", "store: not empty, %d bytes\n" % len(store)), (8, "", IN_USE)]
+        self.check("the other init", ends[1] in others or ends[1], True)
+        with open("monitor.store", "rb") as there:
+            self.check("the store", there.read(), store)
+        return ends[1][0] == 8
+
+    def hold(self):
+        """Each command beside a program that holds the store."""
+        lengths = [len(raws) for raws in self.raws]
+        with open("monitor.store", "r+b") as store:
+            fcntl.flock(store, fcntl.LOCK_EX)
+            self.check("count of a store in use", self.run("count"), (8, "", IN_USE))
+            self.check("init of a store in use", self.run("init"), (8, "", IN_USE))
+            self.check("report of a store in use", self.run("report"), (0, self.report(lengths), ""))
+            self.check("repeat of a store in use", self.run("repeat"), (0, self.repeat(lengths), ""))
+            same = "".join("audit %s same\n" % name for name in NAMES)
+            self.check("audit of a store in use", self.run("audit"), (0, same, ""))
+        self.check("count of a store that was let go", self.run("count")[0], 0)
+
+
+def main():
+    program = os.path.abspath(sys.argv[1])
+    seed, due = [int(word) for word in (sys.argv[2:] + ["1", "60"][len(sys.argv) - 2 :])]
+    trials = Trials(program, seed)
+    with tempfile.TemporaryDirectory() as room:
+        os.chdir(room)
+        refused = 0
+        for number in range(due):
+            if number % 12 == 0:
+                trials.begin(trials.rng.choice((1, 4)))
+            refused += trials.count_at_once(2 + number % 2)
+        trials.hold()
+        trials.begin(1)
+        beside = trials.read_beside(due)
+        trials.check("readers beside a count", beside, due)
+        trials.begin(4)
+        with open("monitor.store", "rb") as there:
+            store = there.read()
+        refused_inits = sum(trials.init_at_once(store) for _ in range(due // 2))
+        os.chdir("/")
+    print("beside: %d writers and %d makers were refused, %d readers ran beside a writer" % (refused, refused_inits, beside))
+    print("beside: %d passed, %d failed" % (trials.passed, trials.failed))
+    return 1 if trials.failed else 0
+
+
+if __name__ == "__main__":
+    sys.exit(main())

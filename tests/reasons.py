@@ -1,0 +1,320 @@
+#!/usr/bin/env python3
+"""Lets calls of the system fail, and compares how the program ends, and the reason that it tells.
+
+reasons.py PROGRAM
+
+What is wrong is: no configuration, no recording, a folder in the place of either, of the store or of a CSV file, files that may not be read
+or written, a file that may not grow, a file system that is full, and standard streams that are closed. After each the store is as it was,
+or holds what was acknowledged, and a further `count` prints the whole report. On a store, a folder and a file system that can only be read,
+`report`, `repeat` and `audit` end as ever, and change neither bytes nor times.
+Where this is run by root, what a user may not do is tried as another user, and file systems are mounted. What can't be tried is told.
+What is expected comes from an independent count (model.py). Last line: reasons: N passed, M failed
+"""
+
+import os
+import random
+import re
+import resource
+import shutil
+import signal
+import subprocess
+import sys
+import tempfile
+
+# No folder is made in the checkout.
+sys.dont_write_bytecode = True
+
+from model import Count, Grid, recording, repeat, report
+
+CONFIGURATION = """[grid]
+classes = 16
+width = 2
+low = -8000
+reference = 8
+[count]
+block = 4
+workers = 2
+[[gauge]]
+name = "G1"
+file = "g1.sgrc"
+num = 1000
+"""
+GRID = Grid(16, 2, -8000, 8)
+RNG = random.Random(5)
+RAWS = [RNG.randint(-8, 7) for _ in range(600)]
+NOBODY = 65534
+DOING = {2: "config", 6: "read fault", 7: "write fault", 8: "station fault"}
+
+
+def reason(name, text, status):
+    """What is told of a call that failed."""
+    return "monitor: %s: %s\n%s\n" % (name, text, DOING[status])
+
+
+def text_of(samples):
+    return report(["G1"], [Count(GRID, (1000, 1, 0), RAWS[:samples])], [])
+
+
+def write(name, data):
+    with open(name, "wb") as out:
+        out.write(data)
+
+
+def read(name):
+    with open(name, "rb") as file:
+        return file.read()
+
+
+def limit(size):
+    """For a program: no file grows past this size, and a write that would is refused."""
+
+    def apply():
+        signal.signal(signal.SIGXFSZ, signal.SIG_IGN)
+        resource.setrlimit(resource.RLIMIT_FSIZE, (size, size))
+
+    return apply
+
+
+def close(*streams):
+    """For a program: these standard streams are closed."""
+
+    def apply():
+        for stream in streams:
+            os.close(stream)
+
+    return apply
+
+
+def marks(folder):
+    """The bytes and the times of change of a folder and of its files."""
+    names = [os.path.join(folder, name) for name in sorted(os.listdir(folder))]
+    times = [(os.stat(name).st_mtime_ns, os.stat(name).st_ctime_ns) for name in [folder, *names]]
+    return times, [read(name) for name in names]
+
+
+class Trial:
+    def __init__(self, program, room):
+        self.program, self.room = program, room
+        self.passed = self.failed = 0
+
+    def check(self, what, got, due):
+        if got == due:
+            self.passed += 1
+            return
+        self.failed += 1
+        print("reasons: %s: %.300r, due %.300r" % (what, got, due))
+
+    def run(self, *words, before=None, user=None):
+        others = {} if user is None else {"user": user, "group": user, "extra_groups": []}
+        done = subprocess.run([self.program, *words], capture_output=True, text=True, preexec_fn=before, **others)
+        return done.returncode, done.stdout, done.stderr
+
+    def fails(self, what, words, status, name, text, **how):
+        self.check(what, self.run(*words, **how), (status, "", reason(name, text, status)))
+
+    def enter(self, name):
+        """A new folder with a configuration and a recording of 300 samples."""
+        folder = os.path.join(self.room, name)
+        os.makedirs(folder, exist_ok=True)
+        os.chdir(folder)
+        write("monitor.toml", CONFIGURATION.encode())
+        write("g1.sgrc", recording(RAWS[:300]))
+        return folder
+
+    def begin(self, name):
+        """A new folder, with a store that holds them."""
+        folder = self.enter(name)
+        self.check("init", self.run("init"), (0, "", "init 1\n"))
+        self.check("count", self.run("count")[:2], (0, text_of(300)))
+        return folder
+
+    def goes_on(self, what):
+        """Nothing that was held is lost, and the rest is counted."""
+        status, printed, told = self.run("report")
+        held = int((re.findall(r"^samples (\d+) used", printed, re.M) or [-1])[0])
+        self.check(what + ": report", (status, printed, told, held >= 300), (0, text_of(held), "", True))
+        self.check(what + ": count", self.run("count")[:2], (0, text_of(600)))
+
+
+def missing(trial):
+    none = "No such file or directory"
+    os.makedirs("empty")
+    os.chdir("empty")
+    for word in ("init", "count", "report", "repeat", "audit", "sheet"):
+        trial.fails("%s without a configuration" % word, (word,), 6, "monitor.toml", none)
+    trial.fails("no table", ("table", "none\tthere"), 6, "none?there", none)
+    trial.fails("no column", ("column", "none.csv", "a", "0" * 32, "1"), 6, "none.csv", none)
+    trial.begin("no-recording")
+    os.remove("g1.sgrc")
+    for word in ("count", "audit", "sheet"):
+        trial.fails("%s without a recording" % word, (word,), 6, "g1.sgrc", none)
+    os.remove("monitor.store")
+    trial.fails("init without a recording", ("init",), 6, "g1.sgrc", none)
+    trial.check("no store was made", os.path.exists("monitor.store"), False)
+
+
+def folders(trial):
+    folder = "Is a directory"
+    trial.begin("folders")
+    os.remove("g1.sgrc")
+    os.mkdir("g1.sgrc")
+    store = read("monitor.store")
+    for word in ("count", "audit", "sheet"):
+        trial.fails("%s of a folder" % word, (word,), 6, "g1.sgrc", folder)
+    trial.fails("table of a folder", ("table", "g1.sgrc"), 6, "g1.sgrc", folder)
+    trial.fails("column of a folder", ("column", "g1.sgrc", "a", "0" * 32, "1"), 6, "g1.sgrc", folder)
+    trial.check("the store as it was", read("monitor.store"), store)
+    os.remove("monitor.store")
+    trial.fails("init of a folder", ("init",), 6, "g1.sgrc", folder)
+    os.mkdir("monitor.store")
+    os.rmdir("g1.sgrc")
+    write("g1.sgrc", recording(RAWS[:300]))
+    for word in ("init", "count", "report", "repeat", "audit"):
+        trial.fails("%s with a folder for a store" % word, (word,), 8, "monitor.store", folder)
+    os.remove("monitor.toml")
+    os.mkdir("monitor.toml")
+    trial.fails("a folder for a configuration", ("report",), 6, "monitor.toml", folder)
+
+
+def limits(trial):
+    """A file that may not grow."""
+    text = "File too large"
+    trial.begin("limit")
+    write("g1.sgrc", recording(RAWS))
+    size = os.path.getsize("monitor.store")
+    for more in (1, 40, 200, 3000):
+        status, printed, told = trial.run("count", before=limit(size + more))
+        told = "".join(line + "\n" for line in told.splitlines() if line[:5] != "held ")
+        due = (8, "", reason("monitor.store", text, 8))
+        trial.check("count with a limit of %d bytes more" % more, (status, printed, told), due)
+    trial.goes_on("after a limit")
+    trial.enter("limit-of-init")
+    trial.fails("init with a limit of no bytes", ("init",), 8, "monitor.store", text, before=limit(0))
+    trial.check("init again", trial.run("init"), (0, "", "init 1\n"))
+    os.remove("monitor.store")
+    trial.fails("init with a limit of 20 bytes", ("init",), 8, "monitor.store", text, before=limit(20))
+    trial.check("no store", trial.run("report"), (3, "", "store: not a store\n"))
+
+
+def streams(trial):
+    """Standard streams that are closed. The system gives a file that is opened then the number of one of them."""
+    text = "Bad file descriptor"
+    trial.begin("streams")
+    trial.fails("table", ("table", "g1.sgrc"), 7, "standard output", text, before=close(1))
+    trial.fails("report", ("report",), 7, "standard output", text, before=close(1))
+    trial.fails("audit", ("audit",), 7, "standard output", text, before=close(1))
+    store = read("monitor.store")
+    for closed in ((1,), (2,), (0, 1), (0, 2), (1, 2), (0, 1, 2)):
+        for word in ("report", "count", "repeat", "audit", "init"):
+            trial.run(word, before=close(*closed))
+            trial.check("the store after %s without %s" % (word, closed), read("monitor.store"), store)
+    write("g1.sgrc", recording(RAWS))
+    trial.run("count", before=close(0, 1, 2))
+    trial.goes_on("without streams")
+    if os.path.exists("/dev/full"):
+        with open("/dev/full", "w") as full:
+            done = subprocess.run([trial.program, "report"], stdout=full, stderr=subprocess.PIPE, text=True)
+        due = (7, reason("standard output", "No space left on device", 7))
+        trial.check("a full output", (done.returncode, done.stderr), due)
+
+
+def readers(trial, folder, what, **how):
+    """The readers end as ever, and change nothing."""
+    before = marks(folder)
+    trial.check("report of " + what, trial.run("report", **how), (0, text_of(300), ""))
+    due = repeat(["G1"], [Count(GRID, (1000, 1, 0), RAWS[:300])])
+    trial.check("repeat of " + what, trial.run("repeat", **how), (0, due, ""))
+    trial.check("audit of " + what, trial.run("audit", **how), (0, "audit G1 same\n", ""))
+    trial.check("what is there of " + what, marks(folder), before)
+
+
+def permissions(trial):
+    """What a user may not do."""
+    text = "Permission denied"
+    how = {"user": NOBODY} if os.geteuid() == 0 else {}
+    folder = trial.begin("permissions")
+    os.chmod("monitor.store", 0o444)
+    os.chmod(folder, 0o555)
+    readers(trial, folder, "what can only be read", **how)
+    trial.fails("count of a store that can only be read", ("count",), 8, "monitor.store", text, **how)
+    trial.fails("init of a store that can only be read", ("init",), 8, "monitor.store", text, **how)
+    os.chmod(folder, 0o755)
+    os.remove("monitor.store")
+    os.chmod(folder, 0o555)
+    trial.fails("init in a folder that can only be read", ("init",), 8, "monitor.store", text, **how)
+    os.chmod(folder, 0o755)
+    os.chmod("g1.sgrc", 0)
+    trial.fails("table of a secret recording", ("table", "g1.sgrc"), 6, "g1.sgrc", text, **how)
+    trial.fails("sheet of a secret recording", ("sheet",), 6, "g1.sgrc", text, **how)
+    trial.fails("init over a secret recording", ("init",), 6, "g1.sgrc", text, **how)
+    os.chmod("monitor.toml", 0)
+    trial.fails("a secret configuration", ("report",), 6, "monitor.toml", text, **how)
+
+
+def mounts(trial):
+    """A small file system that gets full, and one that can only be read."""
+    disk = os.path.join(trial.room, "disk")
+    os.makedirs(disk)
+    mounted = subprocess.run(["mount", "-t", "tmpfs", "-o", "size=64k,mode=755", "none", disk], capture_output=True)
+    if mounted.returncode != 0:
+        print("reasons: skipped: no file system can be mounted here")
+        return
+    try:
+        folder = trial.begin("disk/site")
+        readers_only = ["mount", "-o", "remount,ro", disk]
+        if subprocess.run(readers_only, capture_output=True).returncode == 0:
+            readers(trial, folder, "a file system that can only be read")
+            text = "Read-only file system"
+            trial.fails("count on it", ("count",), 8, "monitor.store", text)
+            subprocess.run(["mount", "-o", "remount,rw", disk], check=True)
+        text = "No space left on device"
+        write("g1.sgrc", recording(RAWS))
+        fill(os.path.join(disk, "rest"))
+        status, printed, told = trial.run("count")
+        told = "".join(line + "\n" for line in told.splitlines() if line[:5] != "held ")
+        trial.check("count on a full disk", (status, printed, told), (8, "", reason("monitor.store", text, 8)))
+        store = read("monitor.store")
+        os.remove("monitor.store")
+        fill(os.path.join(disk, "more"))
+        trial.fails("init on a full disk", ("init",), 8, "monitor.store", text)
+        os.remove(os.path.join(disk, "rest"))
+        write("monitor.store", store)
+        trial.goes_on("after a full disk")
+    finally:
+        os.chdir("/")
+        subprocess.run(["umount", disk], check=True)
+
+
+def fill(name):
+    """A file that takes what is left of its file system."""
+    with open(name, "wb", buffering=0) as out:
+        try:
+            while True:
+                out.write(bytes(512))
+        except OSError:
+            pass
+
+
+def main():
+    with tempfile.TemporaryDirectory() as room:
+        # Another user may run it there.
+        os.chmod(room, 0o755)
+        program = os.path.join(room, "program")
+        shutil.copy(sys.argv[1], program)
+        os.chmod(program, 0o755)
+        trial = Trial(program, room)
+        for part in (missing, folders, limits, streams, permissions):
+            os.chdir(room)
+            part(trial)
+        os.chdir(room)
+        if os.geteuid() == 0:
+            mounts(trial)
+        else:
+            print("reasons: skipped: file systems are mounted by root alone")
+        os.chdir("/")
+    print("reasons: %d passed, %d failed" % (trial.passed, trial.failed))
+    return 1 if trial.failed else 0
+
+
+if __name__ == "__main__":
+    sys.exit(main())
