@@ -19,7 +19,7 @@ fn store_of<R: Abort + AllocGlobal + Threads + Wait + Sync>(
     let mut bytes = made(rt, alloc)?;
     assert!(rt; bytes.len() == 63);
     bytes[5] = version;
-    let run = count(rt, recording_of(alloc, 0x11, &EXAMPLE)?, bytes)?;
+    let run = count(rt, recording_of(alloc, 0x11, EXAMPLE)?, bytes)?;
     assert_eq!(rt; run.status, Status::Done);
     assert_eq!(rt; run.out.written(), EXAMPLE_REPORT.as_bytes());
     let store = image(alloc, &run.station)?;
@@ -55,7 +55,7 @@ fn check_turned<R: Abort + AllocGlobal + Threads + Wait + Sync>(
     let mut bytes = store.to_vec(alloc)?;
     assert!(rt; place < bytes.len());
     bytes[place] = !bytes[place];
-    let run = count(rt, recording_of(alloc, 0x11, &EXAMPLE)?, bytes)?;
+    let run = count(rt, recording_of(alloc, 0x11, EXAMPLE)?, bytes)?;
     assert_eq!(rt;
         run.status,
         Status::Recording { gauge: 0, fault },
@@ -100,7 +100,7 @@ fn audit(
 fn a_held_sample_is_rewritten(rt: HostRuntime) -> Result<(), Fail> {
     let alloc = rt.alloc();
     let store = store_of(&rt, 2)?;
-    let (status, station, out) = audit(alloc, &EXAMPLE, store.as_slice().to_vec(alloc)?)?;
+    let (status, station, out) = audit(alloc, EXAMPLE, store.as_slice().to_vec(alloc)?)?;
     assert_eq!(rt; status, Status::Done);
     assert_eq!(rt; station.told(), b"".as_slice());
     assert_eq!(rt; out.written(), b"audit G1 same\n".as_slice());

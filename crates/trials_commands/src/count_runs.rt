@@ -32,22 +32,22 @@ gamma = 100
 ";
 
 // The head of a recording, whose raw value `r` has level `r + 8`.
-const RECORDING: [u8; 32] = [
+const RECORDING: &[u8] = &[
     83, 71, 82, 67, 1, 0, 0, 0, 17, 17, 17, 17, 17, 17, 17, 17, 17, 17, 17, 17, 17, 17, 17, 17, 16,
     39, 0, 0, 0, 0, 0, 0,
 ];
 
-const RAWS: [i32; 4] = [0, 5, 0, 5];
+const RAWS: &[i32] = &[0, 5, 0, 5];
 
 // A store of version 1 up to its first gate, for that recording with the gain 1000/1.
-const HEAD: [u8; 62] = [
+const HEAD: &[u8] = &[
     1, 83, 71, 83, 84, 1, 0, 1, 0, 16, 0, 2, 255, 255, 255, 255, 255, 255, 224, 192, 0, 8, 17, 17,
     17, 17, 17, 17, 17, 17, 17, 17, 17, 17, 17, 17, 17, 17, 0, 0, 39, 16, 0, 0, 0, 0, 0, 0, 3, 232,
     0, 0, 0, 1, 0, 0, 0, 0, 0, 0, 0, 0,
 ];
 
 // The levels 8 13 8 13, with length and digest.
-const BODY: [u8; 194] = [
+const BODY: &[u8] = &[
     0, 0, 0, 158, 0, 0, 0, 0, 0, 0, 0, 0, 0, 0, 0, 0, 0, 0, 0, 0, 0, 4, 0, 0, 0, 0, 0, 0, 0, 4, 0,
     0, 0, 0, 0, 0, 0, 0, 0, 0, 0, 0, 0, 0, 0, 0, 0, 0, 0, 0, 0, 0, 0, 4, 0, 8, 0, 13, 0, 8, 0, 13,
     0, 2, 0, 8, 0, 13, 0, 0, 0, 1, 0, 8, 0, 13, 0, 0, 0, 0, 0, 0, 0, 1, 0, 5, 0, 9, 0, 0, 0, 0, 0,
@@ -83,7 +83,7 @@ fn site_of(alloc: Global, torn: usize, failing: &[u64]) -> Result<MapSite, Alloc
     ensures { IfOk result (λ site. site.out ≡ 0) }
 {
     let mut bytes = RECORDING.to_vec(alloc)?;
-    for raw in RAWS {
+    for &raw in RAWS {
         bytes.extend_from_slice(&raw.to_le_bytes())?;
     }
     for _ in 0..torn {
@@ -110,7 +110,7 @@ fn config_of(alloc: Global) -> Result<BytesSource, AllocError> {
 #[test]
 fn what_is_new_is_stored_and_printed(rt: HostRuntime) -> Result<(), Fail> {
     let alloc = rt.alloc();
-    let mut image = image_of(alloc, &[&HEAD, &[0]])?;
+    let mut image = image_of(alloc, &[HEAD, &[0]])?;
     for (workers, line) in [(Some(3), "held G1 4\n"), (None, "")] {
         let mut station = MomentStation::new(alloc, image, Vec::new(alloc));
         let mut out = VecSink::new(alloc, 1000, Vec::new(alloc))?;
@@ -129,7 +129,7 @@ fn what_is_new_is_stored_and_printed(rt: HostRuntime) -> Result<(), Fail> {
         image = station.crash(alloc, station.calls(), Torn::Old)?;
         assert_eq!(rt;
             image.as_slice(),
-            image_of(alloc, &[&HEAD, &[1], &BODY, &[0]])?.as_slice()
+            image_of(alloc, &[HEAD, &[1], BODY, &[0]])?.as_slice()
         );
     }
     Ok(())
@@ -165,7 +165,7 @@ fn what_is_answered(rt: HostRuntime) -> Result<(), Fail> {
     for (odd, fetch, call, put, answer, told) in table {
         let mut station = MomentStation::new(
             alloc,
-            image_of(alloc, &[&HEAD, &[0]])?,
+            image_of(alloc, &[HEAD, &[0]])?,
             [call].to_vec(alloc)?,
         );
         let mut out = VecSink::new(alloc, 1000, [put].to_vec(alloc)?)?;
@@ -190,7 +190,7 @@ fn a_store_that_is_cut_is_refused(rt: HostRuntime) -> Result<(), Fail> {
     let alloc = rt.alloc();
     let mut station = MomentStation::new(
         alloc,
-        image_of(alloc, &[&HEAD, &[1], &[0]])?,
+        image_of(alloc, &[HEAD, &[1], &[0]])?,
         Vec::new(alloc),
     );
     let mut out = VecSink::new(alloc, 0, Vec::new(alloc))?;

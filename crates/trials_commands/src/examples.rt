@@ -36,7 +36,7 @@ fn check_quiet<R: Abort + AllocGlobal + Threads + Wait + Sync>(
 
 #[test]
 fn the_standards_example(rt: HostRuntime) -> Result<(), Fail> {
-    let file = recording_of(rt.alloc(), 0x11, &EXAMPLE)?;
+    let file = recording_of(rt.alloc(), 0x11, EXAMPLE)?;
     let run = count(&rt, file, made(&rt, rt.alloc())?)?;
     check(&rt, &run, "held G1 9\n", EXAMPLE_REPORT);
     Ok(())
@@ -84,7 +84,7 @@ detail W1 G1 0 0/100431314774943243998824192000000000 0.000000000
 #[test]
 fn workers_count_beside_each_other(rt: HostRuntime) -> Result<(), Fail> {
     let gate = HoldGate::new(50_000_000);
-    let file = recording_of(rt.alloc(), 0x11, &EXAMPLE)?;
+    let file = recording_of(rt.alloc(), 0x11, EXAMPLE)?;
     let image = made(&rt, rt.alloc())?;
     let run = count_at(&rt, file, image, Vec::new(rt.alloc()), 2000, &gate)?;
     check(&rt, &run, "held G1 9\n", EXAMPLE_REPORT);

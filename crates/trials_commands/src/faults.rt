@@ -8,7 +8,7 @@ use std::test::Fail;
 #[test]
 fn an_output_without_room(rt: HostRuntime) -> Result<(), Fail> {
     let alloc = rt.alloc();
-    let file = recording_of(alloc, 0x11, &EXAMPLE)?;
+    let file = recording_of(alloc, 0x11, EXAMPLE)?;
     let run = count_at(&rt, file, made(&rt, alloc)?, Vec::new(alloc), 20, &OpenGate)?;
     assert_eq!(rt; run.status, Status::WriteFault);
     assert_eq!(rt; run.station.told(), b"held G1 9\nwrite fault\n".as_slice());
@@ -21,7 +21,7 @@ fn an_output_without_room(rt: HostRuntime) -> Result<(), Fail> {
 fn every_call_of_the_station_may_fail(rt: HostRuntime) -> Result<(), Fail> {
     let alloc = rt.alloc();
     for call in 0..100u64 {
-        let file = recording_of(alloc, 0x11, &EXAMPLE)?;
+        let file = recording_of(alloc, 0x11, EXAMPLE)?;
         let failing = vec![in alloc; call]?;
         let run = count_at(&rt, file, made(&rt, alloc)?, failing, 2000, &OpenGate)?;
         if run.status == Status::Done {
@@ -31,7 +31,7 @@ fn every_call_of_the_station_may_fail(rt: HostRuntime) -> Result<(), Fail> {
         }
         assert_eq!(rt; run.status, Status::DiskFault, "call {call}");
         // What was left is counted to its end.
-        let file = recording_of(alloc, 0x11, &EXAMPLE)?;
+        let file = recording_of(alloc, 0x11, EXAMPLE)?;
         let again = count(&rt, file, image(alloc, &run.station)?)?;
         assert_eq!(rt;
             again.out.written(),

@@ -24,13 +24,13 @@ fn with_four<R: Abort + AllocGlobal + Threads + Wait + Sync>(rt: &R) -> Result<V
 #[test]
 fn a_stop_before_the_gate_is_opened(rt: HostRuntime) -> Result<(), Fail> {
     let alloc = rt.alloc();
-    let whole = count(&rt, recording_of(alloc, 0x11, &EXAMPLE)?, with_four(&rt)?)?;
+    let whole = count(&rt, recording_of(alloc, 0x11, EXAMPLE)?, with_four(&rt)?)?;
     assert_eq!(rt; whole.station.told(), b"held G1 9\n".as_slice());
     assert!(rt; whole.station.calls() >= 3);
     let left = whole
         .station
         .crash(alloc, whole.station.calls() - 3, Torn::New)?;
-    let again = count(&rt, recording_of(alloc, 0x11, &EXAMPLE)?, left)?;
+    let again = count(&rt, recording_of(alloc, 0x11, EXAMPLE)?, left)?;
     assert_eq!(rt; again.status, Status::Done);
     assert_eq!(rt; again.station.told(), b"held G1 9\n".as_slice());
     assert_eq!(rt; again.out.written(), EXAMPLE_REPORT.as_bytes());
@@ -40,10 +40,10 @@ fn a_stop_before_the_gate_is_opened(rt: HostRuntime) -> Result<(), Fail> {
 #[test]
 fn nothing_new_tells_nothing(rt: HostRuntime) -> Result<(), Fail> {
     let alloc = rt.alloc();
-    let whole = count(&rt, recording_of(alloc, 0x11, &EXAMPLE)?, with_four(&rt)?)?;
+    let whole = count(&rt, recording_of(alloc, 0x11, EXAMPLE)?, with_four(&rt)?)?;
     let again = count(
         &rt,
-        recording_of(alloc, 0x11, &EXAMPLE)?,
+        recording_of(alloc, 0x11, EXAMPLE)?,
         image(alloc, &whole.station)?,
     )?;
     assert_eq!(rt; again.status, Status::Done);
@@ -83,7 +83,7 @@ fn check_refused<R: Abort + AllocGlobal + Threads + Wait + Sync>(
     told: &str,
 ) -> Result<(), Fail> {
     let alloc = rt.alloc();
-    let whole = count(rt, recording_of(alloc, 0x11, &EXAMPLE)?, made(rt, alloc)?)?;
+    let whole = count(rt, recording_of(alloc, 0x11, EXAMPLE)?, made(rt, alloc)?)?;
     let store = image(alloc, &whole.station)?;
     let run = count(rt, file, store)?;
     assert_eq!(rt; run.status, Status::Recording { gauge: 0, fault });
@@ -102,7 +102,7 @@ fn another_recording_or_a_shorter_one(rt: HostRuntime) -> Result<(), Fail> {
     };
     check_refused(
         &rt,
-        recording_of(alloc, 0x22, &EXAMPLE)?,
+        recording_of(alloc, 0x22, EXAMPLE)?,
         id,
         "recording G1: id was 11111111111111111111111111111111, is 22222222222222222222222222222222\n",
     )?;

@@ -10,13 +10,13 @@ use std::test::Fail;
 const CONFIG: &str = "[grid]\nclasses = 16\nwidth = 2\nlow = -8000\nreference = 8\n\
     [count]\nblock = 4\nworkers = 2\n[[gauge]]\nname = \"G1\"\nfile = \"g1.sgrc\"\nnum = 1000\n";
 
-const HEAD: [u8; 32] = [
+const HEAD: &[u8] = &[
     b'S', b'G', b'R', b'C', 1, 0, 0, 0, 0x11, 0x11, 0x11, 0x11, 0x11, 0x11, 0x11, 0x11, 0x11, 0x11,
     0x11, 0x11, 0x11, 0x11, 0x11, 0x11, 0x10, 0x27, 0, 0, 0, 0, 0, 0,
 ];
 
 // The store of this configuration and recording, byte for byte.
-const STORE: [u8; 63] = [
+const STORE: &[u8] = &[
     1, b'S', b'G', b'S', b'T', 2, 0, 1, 0, 16, 0, 2, 0xff, 0xff, 0xff, 0xff, 0xff, 0xff, 0xe0,
     0xc0, 0, 8, 0x11, 0x11, 0x11, 0x11, 0x11, 0x11, 0x11, 0x11, 0x11, 0x11, 0x11, 0x11, 0x11, 0x11,
     0x11, 0x11, 0, 0, 0x27, 0x10, 0, 0, 0, 0, 0, 0, 3, 0xe8, 0, 0, 0, 1, 0, 0, 0, 0, 0, 0, 0, 0, 0,
@@ -46,10 +46,10 @@ fn init(
 fn a_store_is_made_and_told(rt: HostRuntime) -> Result<(), Fail> {
     let alloc = rt.alloc();
     let mut station = station_of(alloc, &[], &[])?;
-    assert_eq!(rt; init(alloc, CONFIG, &HEAD, &mut station)?, Status::Done);
+    assert_eq!(rt; init(alloc, CONFIG, HEAD, &mut station)?, Status::Done);
     assert_eq!(rt; station.told(), b"init 1\n".as_slice());
     let left = station.crash(alloc, station.calls(), Torn::Old)?;
-    assert_eq!(rt; left.as_slice(), STORE.as_slice());
+    assert_eq!(rt; left.as_slice(), STORE);
     Ok(())
 }
 
@@ -68,13 +68,13 @@ fn what_is_refused_is_told(rt: HostRuntime) -> Result<(), Fail> {
     };
     let missing = Status::Config(ConfigFault::Missing(key));
     let rows: [(&str, &[u8], &[u8], Status, &str); 4] = [
-        (CONFIG, &HEAD, &STORE, full, "store: not empty, 63 bytes\n"),
-        (CONFIG, &STORE, &STORE, magic, "recording G1: no SGRC\n"),
-        ("", &STORE, &STORE, missing, "config: missing grid\n"),
+        (CONFIG, HEAD, STORE, full, "store: not empty, 63 bytes\n"),
+        (CONFIG, STORE, STORE, magic, "recording G1: no SGRC\n"),
+        ("", STORE, STORE, missing, "config: missing grid\n"),
         (
             "[grid",
-            &STORE,
-            &STORE,
+            STORE,
+            STORE,
             Status::Config(ConfigFault::NotToml),
             "config: not TOML\n",
         ),
@@ -93,7 +93,7 @@ fn a_disk_that_fails(rt: HostRuntime) -> Result<(), Fail> {
     let alloc = rt.alloc();
     for call in 0..8u64 {
         let mut station = station_of(alloc, &[], &[call])?;
-        let status = init(alloc, CONFIG, &HEAD, &mut station)?;
+        let status = init(alloc, CONFIG, HEAD, &mut station)?;
         assert_eq!(rt; status, Status::DiskFault);
         assert_eq!(rt; station.told(), b"station fault\n".as_slice());
     }

@@ -24,7 +24,7 @@ fn check_cut<R: Abort + AllocGlobal + Threads + Wait + Sync>(
     length: u64,
 ) -> Result<(), Fail> {
     let alloc = rt.alloc();
-    let mut file = recording_of(alloc, 0x11, &EXAMPLE)?;
+    let mut file = recording_of(alloc, 0x11, EXAMPLE)?;
     assert_eq!(rt; file.len(), 68);
     file.truncate(length as usize);
     let run = count(rt, file, made(rt, alloc)?)?;

@@ -11,13 +11,13 @@ use std::sync::Wait;
 use std::test::Fail;
 use std::thread::Threads;
 
-const HEAD: [u8; 32] = [
+const HEAD: &[u8] = &[
     b'S', b'G', b'R', b'C', 1, 0, 0, 0, 0x11, 0x11, 0x11, 0x11, 0x11, 0x11, 0x11, 0x11, 0x11, 0x11,
     0x11, 0x11, 0x11, 0x11, 0x11, 0x11, 0x10, 0x27, 0, 0, 0, 0, 0, 0,
 ];
 
 // The levels of the standard's own example.
-const EXAMPLE: [i32; 9] = [6, 9, 5, 13, 7, 11, 4, 12, 6];
+const EXAMPLE: &[i32] = &[6, 9, 5, 13, 7, 11, 4, 12, 6];
 
 const EXAMPLE_TABLE: &str = "rainflow\n9.0 0.5\n8.0 1.0\n6.0 0.5\n4.0 1.5\n3.0 0.5\n";
 
@@ -82,7 +82,7 @@ fn table<R: AllocGlobal + Threads + Wait + Sync>(
 // hand, from the steps of the standard.
 const TABLES: &[(&[i32], &str, &str)] = &[
     (
-        &EXAMPLE,
+        EXAMPLE,
         "samples 9 used 9 missing 0 refused 0\n",
         EXAMPLE_TABLE,
     ),
@@ -179,7 +179,7 @@ fn refusals_print_nothing(rt: HostRuntime) -> Result<(), Fail> {
         (0, b'S', 67, Status::Torn { gauge: 0, bytes: 3 }),
     ];
     for (place, byte, length, status) in cases {
-        let mut bytes = file_of(alloc, &EXAMPLE)?;
+        let mut bytes = file_of(alloc, EXAMPLE)?;
         bytes.truncate(length);
         if place < bytes.len() {
             bytes[place] = byte;
@@ -195,7 +195,7 @@ fn refusals_print_nothing(rt: HostRuntime) -> Result<(), Fail> {
 fn an_output_without_room(rt: HostRuntime) -> Result<(), Fail> {
     let alloc = rt.alloc();
     let mut out = VecSink::new(alloc, 0, Vec::new(alloc))?;
-    let status = table(&rt, file_of(alloc, &EXAMPLE)?, 5, &mut out)?;
+    let status = table(&rt, file_of(alloc, EXAMPLE)?, 5, &mut out)?;
     assert_eq!(rt; status, Status::WriteFault);
     assert_eq!(rt; out.written().len(), 0);
     Ok(())
@@ -207,7 +207,7 @@ fn check_failing<R: AllocGlobal + Abort + Threads + Wait + Sync>(
     failing: u64,
 ) -> Result<(), Fail> {
     let alloc = rt.alloc();
-    let site = site_of(alloc, file_of(alloc, &EXAMPLE)?, 7)?;
+    let site = site_of(alloc, file_of(alloc, EXAMPLE)?, 7)?;
     let name = String::from_str(alloc, "t")?;
     let mut site = site.failing_reads(name, vec![in alloc; failing]?);
     let mut station = empty_station(alloc);
@@ -247,7 +247,7 @@ fn words(rt: HostRuntime) -> Result<(), Fail> {
         (&["table", "u"], Status::ReadFault, "read fault"),
     ];
     for (words, status, line) in cases {
-        let mut site = site_of(alloc, file_of(alloc, &EXAMPLE)?, 5)?;
+        let mut site = site_of(alloc, file_of(alloc, EXAMPLE)?, 5)?;
         let mut out = VecSink::new(alloc, 200, Vec::new(alloc))?;
         let mut station = empty_station(alloc);
         let words = words_of(alloc, words)?;
@@ -275,7 +275,7 @@ fn a_store_is_made(rt: HostRuntime) -> Result<(), Fail> {
         ("repeat", Status::Done),
     ] {
         let words = words_of(alloc, &[word])?;
-        let mut site = site_of(alloc, file_of(alloc, &EXAMPLE)?, 5)?;
+        let mut site = site_of(alloc, file_of(alloc, EXAMPLE)?, 5)?;
         let mut config = SteadySource::new(CONFIG.as_bytes().to_vec(alloc)?);
         let answer = monitor(
             &rt,

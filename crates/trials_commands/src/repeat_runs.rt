@@ -19,14 +19,14 @@ num = 1000
 ";
 
 // A store of version 1 up to its first gate, for one gauge with the gain 1000/1.
-const HEAD: [u8; 62] = [
+const HEAD: &[u8] = &[
     1, 83, 71, 83, 84, 1, 0, 1, 0, 16, 0, 2, 255, 255, 255, 255, 255, 255, 224, 192, 0, 8, 17, 17,
     17, 17, 17, 17, 17, 17, 17, 17, 17, 17, 17, 17, 17, 17, 0, 0, 39, 16, 0, 0, 0, 0, 0, 0, 3, 232,
     0, 0, 0, 1, 0, 0, 0, 0, 0, 0, 0, 0,
 ];
 
 // The levels 8 13 8 13, with length and digest.
-const BODY: [u8; 194] = [
+const BODY: &[u8] = &[
     0, 0, 0, 158, 0, 0, 0, 0, 0, 0, 0, 0, 0, 0, 0, 0, 0, 0, 0, 0, 0, 4, 0, 0, 0, 0, 0, 0, 0, 4, 0,
     0, 0, 0, 0, 0, 0, 0, 0, 0, 0, 0, 0, 0, 0, 0, 0, 0, 0, 0, 0, 0, 0, 4, 0, 8, 0, 13, 0, 8, 0, 13,
     0, 2, 0, 8, 0, 13, 0, 0, 0, 1, 0, 8, 0, 13, 0, 0, 0, 0, 0, 0, 0, 1, 0, 5, 0, 9, 0, 0, 0, 0, 0,
@@ -53,7 +53,7 @@ fn station_of(
 fn what_is_held_is_printed(rt: HostRuntime) -> Result<(), Fail> {
     let alloc = rt.alloc();
     let mut config = BytesSource::new(CONFIG.as_bytes().to_vec(alloc)?, 7, Vec::new(alloc));
-    let mut station = station_of(alloc, &[&HEAD, &[1], &BODY, &[0]], &[])?;
+    let mut station = station_of(alloc, &[HEAD, &[1], BODY, &[0]], &[])?;
     let mut out = VecSink::new(alloc, 100, Vec::new(alloc))?;
     let status = repeat_command(alloc, &mut config, &mut station, &mut out);
     assert_eq!(rt; status, Status::Done);
@@ -80,21 +80,21 @@ fn what_is_refused(rt: HostRuntime) -> Result<(), Fail> {
             "store: not a store\n",
         ),
         (
-            &[&HEAD, &[1], &[0]],
+            &[HEAD, &[1], &[0]],
             none,
             none,
             Status::Store(cut),
             "store: damaged at 0\n",
         ),
         (
-            &[&HEAD, &[1], &BODY, &[0]],
+            &[HEAD, &[1], BODY, &[0]],
             1,
             none,
             Status::DiskFault,
             "station fault\n",
         ),
         (
-            &[&HEAD, &[1], &BODY, &[0]],
+            &[HEAD, &[1], BODY, &[0]],
             none,
             0,
             Status::WriteFault,

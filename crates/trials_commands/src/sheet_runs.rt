@@ -25,14 +25,14 @@ file = \"g2\"
 num = 1000
 ";
 
-const HEAD: [u8; 32] = [
+const HEAD: &[u8] = &[
     b'S', b'G', b'R', b'C', 1, 0, 0, 0, 0x11, 0x11, 0x11, 0x11, 0x11, 0x11, 0x11, 0x11, 0x11, 0x11,
     0x11, 0x11, 0x11, 0x11, 0x11, 0x11, 0x10, 0x27, 0, 0, 0, 0, 0, 0,
 ];
 
-const FIRST: [u8; 8] = [1, 0, 0, 0, 0xfe, 0xff, 0xff, 0xff];
+const FIRST: &[u8] = &[1, 0, 0, 0, 0xfe, 0xff, 0xff, 0xff];
 
-const SECOND: [u8; 4] = [7, 0, 0, 0];
+const SECOND: &[u8] = &[7, 0, 0, 0];
 
 // What a run answers, what it writes and what it tells.
 #[derive(Drop)]
@@ -63,7 +63,7 @@ fn site_of(alloc: Global, second: &[&[u8]], take: u64) -> Result<MapSite, AllocE
     let mut files = BTreeMap::new(alloc);
     files.insert(
         String::from_str(alloc, "g1")?,
-        joined(alloc, &[&HEAD, &FIRST])?,
+        joined(alloc, &[HEAD, FIRST])?,
     )?;
     files.insert(String::from_str(alloc, "g2")?, joined(alloc, second)?)?;
     let site = MapSite::new(alloc, files, 3, Vec::new(alloc));
@@ -82,7 +82,7 @@ const NONE: u64 = 99_999;
 
 #[test]
 fn a_site_is_a_sheet(rt: HostRuntime) -> Result<(), Fail> {
-    let ran = run(rt.alloc(), &[&HEAD, &SECOND], NONE, NONE)?;
+    let ran = run(rt.alloc(), &[HEAD, SECOND], NONE, NONE)?;
     assert_eq!(rt; ran.status, Status::Done);
     assert_eq!(rt; ran.out.written(), b"G1,G2\n1,7\n-2,NaN\n".as_slice());
     assert_eq!(rt; ran.station.told(), b"".as_slice());
@@ -100,21 +100,15 @@ fn what_is_refused(rt: HostRuntime) -> Result<(), Fail> {
     let table: [(&[&[u8]], u64, u64, Status, &str); 5] = [
         (&[b"SGRC"], NONE, NONE, short, "recording G2: short\n"),
         (
-            &[&HEAD, &SECOND, b"x"],
+            &[HEAD, SECOND, b"x"],
             NONE,
             NONE,
             torn,
             "recording G2: ends in 1 odd bytes\n",
         ),
-        (&[&HEAD], 4, NONE, Status::ReadFault, "read fault\n"),
-        (
-            &[&HEAD, &SECOND],
-            12,
-            NONE,
-            Status::ReadFault,
-            "read fault\n",
-        ),
-        (&[&HEAD], NONE, 0, Status::WriteFault, "write fault\n"),
+        (&[HEAD], 4, NONE, Status::ReadFault, "read fault\n"),
+        (&[HEAD, SECOND], 12, NONE, Status::ReadFault, "read fault\n"),
+        (&[HEAD], NONE, 0, Status::WriteFault, "write fault\n"),
     ];
     for (second, take, put, status, line) in table {
         let ran = run(rt.alloc(), second, take, put)?;
@@ -128,7 +122,7 @@ fn what_is_refused(rt: HostRuntime) -> Result<(), Fail> {
 #[test]
 fn a_wrong_configuration(rt: HostRuntime) -> Result<(), Fail> {
     let alloc = rt.alloc();
-    let mut site = site_of(alloc, &[&HEAD], NONE)?;
+    let mut site = site_of(alloc, &[HEAD], NONE)?;
     let mut config = BytesSource::new(b"[[".to_vec(alloc)?, 7, Vec::new(alloc));
     let mut station = MomentStation::new(alloc, Vec::new(alloc), Vec::new(alloc));
     let mut out = VecSink::new(alloc, 100, Vec::new(alloc))?;

@@ -39,7 +39,7 @@ gamma = 100
 "#;
 
 /// The standard's own example.
-pub const EXAMPLE: [i32; 9] = [-2, 1, -3, 5, -1, 3, -4, 4, -2];
+pub const EXAMPLE: &[i32] = &[-2, 1, -3, 5, -1, 3, -4, 4, -2];
 
 /// Its report.
 pub const EXAMPLE_REPORT: &str = "gauge G1

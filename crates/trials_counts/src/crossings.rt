@@ -10,13 +10,13 @@ use tally::Bin;
 use turning_points::ends_of;
 
 // The standard's own example, on 16 classes of 1 N/mm² from -8 N/mm², with the reference at 0.
-const LEVELS: [u16; 9] = [6, 9, 5, 13, 7, 11, 4, 12, 6];
+const LEVELS: &[u16] = &[6, 9, 5, 13, 7, 11, 4, 12, 6];
 
 // Its counts at each boundary: from 8 on upwards, below 8 downwards.
-const COUNTS: [u64; 16] = [0, 0, 0, 0, 0, 1, 2, 3, 4, 4, 3, 3, 2, 1, 0, 0];
+const COUNTS: &[u64] = &[0, 0, 0, 0, 0, 1, 2, 3, 4, 4, 3, 3, 2, 1, 0, 0];
 
 // Its peaks from the reference on, and its valleys below it.
-const EXTREMES: [u64; 16] = [0, 0, 0, 0, 1, 1, 0, 1, 0, 1, 0, 1, 1, 1, 0, 0];
+const EXTREMES: &[u64] = &[0, 0, 0, 0, 1, 1, 0, 1, 0, 1, 0, 1, 1, 1, 0, 0];
 
 // The crossings of levels that come one at a time; a level that the grid doesn't have is left out.
 fn counted(alloc: Global, grid: &Grid, levels: &[u16]) -> Result<Crossings, AllocError>
@@ -34,9 +34,10 @@ fn counted(alloc: Global, grid: &Grid, levels: &[u16]) -> Result<Crossings, Allo
     Ok(crossings)
 }
 
-fn assert_counts(rt: &impl Abort, crossings: &Crossings, counts: &[u64; 16])
+fn assert_counts(rt: &impl Abort, crossings: &Crossings, counts: &[u64])
     requires classes { crossings.now.classes ≡ 16 }
 {
+    assert_eq!(rt; counts.len(), 16);
     for boundary in 0..16u16 {
         let expected = counts[usize::from(boundary)];
         assert_eq!(rt; crossings.at(boundary), expected, "at {boundary}");
@@ -55,8 +56,8 @@ fn assert_same(rt: &impl Abort, one: &Crossings, other: &Crossings, classes: u16
 #[test]
 fn the_standards_example(rt: HostRuntime) -> Result<(), Fail> {
     let grid = Grid::new(16, 2, -8000, 8)?;
-    let crossings = counted(rt.alloc(), &grid, &LEVELS)?;
-    assert_counts(&rt, &crossings, &COUNTS);
+    let crossings = counted(rt.alloc(), &grid, LEVELS)?;
+    assert_counts(&rt, &crossings, COUNTS);
     Ok(())
 }
 
@@ -81,7 +82,7 @@ fn assert_joined(
 fn joined_at_any_cut(rt: HostRuntime) -> Result<(), Fail> {
     let grid = Grid::new(1024, 1, 0, 8)?;
     let histories = [
-        LEVELS.as_slice(),
+        LEVELS,
         [8, 13, 13, 13, 8].as_slice(),
         [8, 13, 11, 9, 14].as_slice(),
         [0, 1023, 1023, 0].as_slice(),
@@ -113,16 +114,25 @@ fn loaded_from_bins(rt: HostRuntime) -> Result<(), Fail> {
     Ok(())
 }
 
-// The points of a history at once, and after `clear` again.
+// The points of a history at once.
 #[test]
 fn taken_from_points(rt: HostRuntime) -> Result<(), Fail> {
     let grid = Grid::new(16, 2, -8000, 8)?;
     let mut crossings = Crossings::new(rt.alloc(), &grid)?;
     let mut extremes = vec![in rt.alloc(); 9; 16]?;
-    crossings.take_points(&LEVELS, &mut extremes);
-    assert_eq!(rt; extremes.as_slice(), EXTREMES.as_slice());
-    assert_counts(&rt, &crossings, &COUNTS);
+    crossings.take_points(LEVELS, &mut extremes);
+    assert_eq!(rt; extremes.as_slice(), EXTREMES);
+    assert_counts(&rt, &crossings, COUNTS);
+    Ok(())
+}
+
+#[test]
+fn cleared(rt: HostRuntime) -> Result<(), Fail> {
+    let grid = Grid::new(16, 2, -8000, 8)?;
+    let mut crossings = counted(rt.alloc(), &grid, LEVELS)?;
     crossings.clear();
-    assert_counts(&rt, &crossings, &[0; 16]);
+    for boundary in 0..16 {
+        assert_eq!(rt; crossings.at(boundary), 0, "at {boundary}");
+    }
     Ok(())
 }

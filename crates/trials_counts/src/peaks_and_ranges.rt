@@ -10,14 +10,14 @@ use tally::Bin;
 use turning_points::ends_of;
 
 // The standard's own example, on 16 classes of 1 N/mm² from -8 N/mm², with the reference at 0.
-const LEVELS: [u16; 9] = [6, 9, 5, 13, 7, 11, 4, 12, 6];
+const LEVELS: &[u16] = &[6, 9, 5, 13, 7, 11, 4, 12, 6];
 
 // Its peaks and valleys at each level, and its ranges.
-const PEAKS: [u64; 16] = [0, 0, 0, 0, 0, 0, 0, 0, 0, 1, 0, 1, 1, 1, 0, 0];
+const PEAKS: &[u64] = &[0, 0, 0, 0, 0, 0, 0, 0, 0, 1, 0, 1, 1, 1, 0, 0];
 
-const VALLEYS: [u64; 16] = [0, 0, 0, 0, 1, 1, 0, 1, 0, 0, 0, 0, 0, 0, 0, 0];
+const VALLEYS: &[u64] = &[0, 0, 0, 0, 1, 1, 0, 1, 0, 0, 0, 0, 0, 0, 0, 0];
 
-const RANGES: [u64; 16] = [0, 0, 0, 1, 2, 0, 2, 1, 2, 0, 0, 0, 0, 0, 0, 0];
+const RANGES: &[u64] = &[0, 0, 0, 1, 2, 0, 2, 1, 2, 0, 0, 0, 0, 0, 0, 0];
 
 // The counts of levels that come one at a time; a level that the grid doesn't have is left out.
 fn counted(alloc: Global, grid: &Grid, levels: &[u16]) -> Result<Simple, AllocError>
@@ -33,15 +33,10 @@ fn counted(alloc: Global, grid: &Grid, levels: &[u16]) -> Result<Simple, AllocEr
     Ok(simple)
 }
 
-fn assert_counts(
-    rt: &impl Abort,
-    simple: &Simple,
-    peaks: &[u64; 16],
-    valleys: &[u64; 16],
-    ranges: &[u64; 16],
-)
+fn assert_counts(rt: &impl Abort, simple: &Simple, peaks: &[u64], valleys: &[u64], ranges: &[u64])
     requires classes { simple.now.classes ≡ 16 }
 {
+    assert_eq!(rt; (peaks.len(), valleys.len(), ranges.len()), (16, 16, 16));
     for k in 0..16u16 {
         let place = usize::from(k);
         assert_eq!(rt; simple.peaks(k), peaks[place], "peaks at {k}");
@@ -65,9 +60,9 @@ fn assert_same(rt: &impl Abort, one: &Simple, other: &Simple, classes: u16)
 #[test]
 fn the_standards_example(rt: HostRuntime) -> Result<(), Fail> {
     let grid = Grid::new(16, 2, -8000, 8)?;
-    let simple = counted(rt.alloc(), &grid, &LEVELS)?;
-    assert_eq!(rt; simple.ends(), ends_of(&LEVELS));
-    assert_counts(&rt, &simple, &PEAKS, &VALLEYS, &RANGES);
+    let simple = counted(rt.alloc(), &grid, LEVELS)?;
+    assert_eq!(rt; simple.ends(), ends_of(LEVELS));
+    assert_counts(&rt, &simple, PEAKS, VALLEYS, RANGES);
     Ok(())
 }
 
@@ -94,7 +89,7 @@ fn assert_joined(
 fn joined_at_any_cut(rt: HostRuntime) -> Result<(), Fail> {
     let grid = Grid::new(1024, 1, 0, 8)?;
     let histories = [
-        LEVELS.as_slice(),
+        LEVELS,
         [8, 13, 13, 13, 8].as_slice(),
         [8, 13, 11, 9, 14].as_slice(),
         [0, 1023, 1023, 0].as_slice(),
@@ -108,20 +103,32 @@ fn joined_at_any_cut(rt: HostRuntime) -> Result<(), Fail> {
     Ok(())
 }
 
-// The points of a history at once, and after `clear` again.
+// The points of a history at once.
 #[test]
 fn taken_from_points(rt: HostRuntime) -> Result<(), Fail> {
     let grid = Grid::new(16, 2, -8000, 8)?;
     let mut simple = Simple::new(rt.alloc(), &grid)?;
     let mut crossings = Crossings::new(rt.alloc(), &grid)?;
-    simple.take_points(&LEVELS, &mut crossings);
+    simple.take_points(LEVELS, &mut crossings);
     for (boundary, count) in [(4, 0), (5, 1), (7, 3), (8, 4), (13, 1), (14, 0)] {
         assert_eq!(rt; crossings.at(boundary), count, "crossings of {boundary}");
     }
-    assert_counts(&rt, &simple, &PEAKS, &VALLEYS, &RANGES);
+    assert_counts(&rt, &simple, PEAKS, VALLEYS, RANGES);
+    Ok(())
+}
+
+#[test]
+fn cleared(rt: HostRuntime) -> Result<(), Fail> {
+    let grid = Grid::new(16, 2, -8000, 8)?;
+    let mut simple = counted(rt.alloc(), &grid, LEVELS)?;
     simple.clear();
     assert_eq!(rt; simple.ends(), ends_of(&[]));
-    assert_counts(&rt, &simple, &[0; 16], &[0; 16], &[0; 16]);
+    for k in 0..16 {
+        assert_eq!(rt;
+            (simple.peaks(k), simple.valleys(k), simple.half_ranges(k)),
+            (0, 0, 0)
+        );
+    }
     Ok(())
 }
 
@@ -129,7 +136,7 @@ fn taken_from_points(rt: HostRuntime) -> Result<(), Fail> {
 #[test]
 fn loaded_from_bins(rt: HostRuntime) -> Result<(), Fail> {
     let grid = Grid::new(16, 2, -8000, 8)?;
-    let mut simple = counted(rt.alloc(), &grid, &LEVELS)?;
+    let mut simple = counted(rt.alloc(), &grid, LEVELS)?;
     let ranges = [Bin { key: 3, n: 1 }, Bin { key: 5, n: 1 }];
     simple.load(
         &ends_of(&[8, 13, 10]),

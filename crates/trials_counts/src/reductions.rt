@@ -47,11 +47,11 @@ fn counts_cycles_and_keeps_the_residue(rt: HostRuntime) -> Result<(), AllocError
     Ok(())
 }
 
-const RESIDUE: [u16; 7] = [6, 9, 5, 13, 4, 12, 6];
+const RESIDUE: &[u16] = &[6, 9, 5, 13, 4, 12, 6];
 
 // A plateau, a level on the way, an end that is no point, a cycle, a cycle at a tie, and a level
 // outside the classes.
-const REFUSED: [&[u16]; 6] = [
+const REFUSED: &[&[u16]] = &[
     &[5, 5],
     &[1, 2, 3],
     &[3, 7, 4, 4],
@@ -63,11 +63,11 @@ const REFUSED: [&[u16]; 6] = [
 #[test]
 fn a_residue_is_loaded_and_pushed_onto(rt: HostRuntime) -> Result<(), AllocError> {
     let mut reducer = Reducer::new(rt.alloc(), 16)?;
-    assert!(rt; reducer.load(&RESIDUE));
-    assert_eq!(rt; reducer.residue(), RESIDUE.as_slice());
-    for list in REFUSED {
+    assert!(rt; reducer.load(RESIDUE));
+    assert_eq!(rt; reducer.residue(), RESIDUE);
+    for &list in REFUSED {
         assert!(rt; !reducer.load(list), "of {list:?}");
-        assert_eq!(rt; reducer.residue(), RESIDUE.as_slice());
+        assert_eq!(rt; reducer.residue(), RESIDUE);
     }
     assert!(rt; !reducer.load(&[0; 33]));
     assert!(rt; reducer.load(&[8, 13, 8]));

@@ -20,7 +20,7 @@ struct Row {
 }
 
 // The standard's own example.
-const EXAMPLE: [i32; 9] = [-2, 1, -3, 5, -1, 3, -4, 4, -2];
+const EXAMPLE: &[i32] = &[-2, 1, -3, 5, -1, 3, -4, 4, -2];
 
 const POINTS: &[u16] = &[6, 9, 5, 13, 7, 11, 4, 12, 6];
 

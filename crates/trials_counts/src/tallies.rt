@@ -44,7 +44,7 @@ fn cells_come_in_order(rt: HostRuntime) -> Result<(), AllocError> {
     Ok(())
 }
 
-const LEFT: [Cell; 2] = [
+const LEFT: &[Cell] = &[
     Cell {
         lo: 1022,
         hi: 1023,
@@ -53,7 +53,7 @@ const LEFT: [Cell; 2] = [
     Cell { lo: 0, hi: 1, n: 1 },
 ];
 
-const RIGHT: [Cell; 2] = [
+const RIGHT: &[Cell] = &[
     Cell {
         lo: 1022,
         hi: 1023,
@@ -84,8 +84,8 @@ const BOTH: [Cell; 3] = [
 #[test]
 fn tallies_merge_and_clear(rt: HostRuntime) -> Result<(), AllocError> {
     for (left_room, right_room) in [(GREATEST, GREATEST), (GREATEST, 2), (4, GREATEST), (4, 2)] {
-        let mut left = counted(&rt, rt.alloc(), left_room, &LEFT)?;
-        let right = counted(&rt, rt.alloc(), right_room, &RIGHT)?;
+        let mut left = counted(&rt, rt.alloc(), left_room, LEFT)?;
+        let right = counted(&rt, rt.alloc(), right_room, RIGHT)?;
         assert!(rt; left.classes() == right.classes());
         assert!(rt; left.total() < 1000 && right.total() < 1000);
         assert!(rt; left.cells() < 100 && right.cells() < 100);

@@ -70,7 +70,7 @@ fn details(rt: HostRuntime) -> Result<(), Fail> {
     Ok(())
 }
 
-const EXAMPLE: [i32; 9] = [-2, 1, -3, 5, -1, 3, -4, 4, -2];
+const EXAMPLE: &[i32] = &[-2, 1, -3, 5, -1, 3, -4, 4, -2];
 
 const EXAMPLE_TEXT: &str = "\
 gauge north
@@ -158,7 +158,7 @@ fn check_gauge(
 // The standard's own example, and a gauge without a reading: every section has its heading.
 #[test]
 fn gauges(rt: HostRuntime) -> Result<(), Fail> {
-    check_gauge(&rt, rt.alloc(), "north", &EXAMPLE, EXAMPLE_TEXT)?;
+    check_gauge(&rt, rt.alloc(), "north", EXAMPLE, EXAMPLE_TEXT)?;
     check_gauge(&rt, rt.alloc(), "A", &[i32::MIN], EMPTY_TEXT)
 }
 
@@ -193,7 +193,7 @@ fn check_repeat(
 fn repeating_gauges(rt: HostRuntime) -> Result<(), Fail> {
     let alloc = rt.alloc();
     let expected = "repeat G1\n9.0 1.0\n7.0 1.0\n4.0 1.0\n3.0 1.0\n";
-    check_repeat(&rt, alloc, "G1", &EXAMPLE, expected)?;
+    check_repeat(&rt, alloc, "G1", EXAMPLE, expected)?;
     check_repeat(&rt, alloc, "north", &[0, 5], "repeat north\n5.0 1.0\n")?;
     check_repeat(&rt, alloc, "A", &[2, 2, 2], "repeat A\n")
 }

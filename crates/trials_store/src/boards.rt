@@ -116,9 +116,9 @@ type Part = (u16, u64, u64);
 // Two gauges, whose windows begin at 3 and 8; the last block of each has two samples.
 const STARTS: [u64; 2] = [3, 8];
 
-const FOUR_BLOCKS: [Part; 4] = [(0, 3, 7), (0, 7, 9), (1, 8, 12), (1, 12, 14)];
+const FOUR_BLOCKS: &[Part] = &[(0, 3, 7), (0, 7, 9), (1, 8, 12), (1, 12, 14)];
 
-const SIXTEEN_BLOCKS: [Part; 16] = [
+const SIXTEEN_BLOCKS: &[Part] = &[
     (0, 3, 7),
     (0, 7, 11),
     (0, 11, 15),
@@ -232,7 +232,7 @@ fn assert_order(
 fn four_blocks_make_the_same_fronts_in_any_order(rt: HostRuntime) -> Result<(), Fail> {
     let mut table = Table::new(&rt, rt.alloc(), 2)?;
     let grid = table.grid;
-    let units = all_counted(&rt, rt.alloc(), &grid, &FOUR_BLOCKS)?;
+    let units = all_counted(&rt, rt.alloc(), &grid, FOUR_BLOCKS)?;
     let wholes = all_counted(&rt, rt.alloc(), &grid, &[(0, 3, 9), (1, 8, 14)])?;
     for order in &ORDERS_OF_FOUR {
         assert_order(&rt, &mut table, &units, order, &wholes)?;
@@ -256,7 +256,7 @@ fn shuffle(order: &mut [usize; 16], seed: u64) -> u64 {
 fn sixteen_blocks_make_the_same_fronts_in_200_orders(rt: HostRuntime) -> Result<(), Fail> {
     let mut table = Table::new(&rt, rt.alloc(), 2)?;
     let grid = table.grid;
-    let units = all_counted(&rt, rt.alloc(), &grid, &SIXTEEN_BLOCKS)?;
+    let units = all_counted(&rt, rt.alloc(), &grid, SIXTEEN_BLOCKS)?;
     let wholes = all_counted(&rt, rt.alloc(), &grid, &[(0, 3, 33), (1, 8, 38)])?;
     let mut order = [0, 1, 2, 3, 4, 5, 6, 7, 8, 9, 10, 11, 12, 13, 14, 15];
     let mut state = 14;

@@ -6,7 +6,7 @@ use std::test::Fail;
 use store_bytes::segment_bytes::{BytesFault, Layout, decode, encode, max_body};
 
 // The raw values of the levels 8 13 8 13.
-const LEVELS: [i32; 4] = [0, 5, 0, 5];
+const LEVELS: &[i32] = &[0, 5, 0, 5];
 
 // The body of these levels of gauge 0 from 0, in layout one.
 const VECTOR: [u8; 158] = [
@@ -106,13 +106,13 @@ fn in_rows() -> [u8; 158] {
 
 #[test]
 fn the_vector(rt: HostRuntime) -> Result<(), Fail> {
-    assert_written(&rt, rt.alloc(), Layout::One, &LEVELS, &VECTOR)?;
+    assert_written(&rt, rt.alloc(), Layout::One, LEVELS, &VECTOR)?;
     assert_read(&rt, rt.alloc(), Layout::One, &VECTOR)
 }
 
 #[test]
 fn the_vector_in_rows(rt: HostRuntime) -> Result<(), Fail> {
-    assert_written(&rt, rt.alloc(), Layout::Two, &LEVELS, &in_rows())?;
+    assert_written(&rt, rt.alloc(), Layout::Two, LEVELS, &in_rows())?;
     assert_read(&rt, rt.alloc(), Layout::Two, &in_rows())
 }
 

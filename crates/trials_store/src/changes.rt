@@ -18,9 +18,9 @@ fn damaged(index: u64, damage: Damage) -> Result<u64, ResumeFault> {
 }
 
 // So many bytes of a store in which a body is cut, and of others that have no head.
-const CUTS: [u64; 3] = [63, 66, 257];
+const CUTS: &[u64] = &[63, 66, 257];
 
-const NO_HEADS: [usize; 3] = [0, 21, 62];
+const NO_HEADS: &[usize] = &[0, 21, 62];
 
 fn sized(rt: &impl Abort, alloc: Global, size: usize) -> Result<Result<u64, ResumeFault>, Fail> {
     let mut bytes = stored(rt, alloc, 1, &[FOUR])?;
@@ -30,11 +30,11 @@ fn sized(rt: &impl Abort, alloc: Global, size: usize) -> Result<Result<u64, Resu
 
 #[test]
 fn a_store_is_cut_or_padded(rt: HostRuntime) -> Result<(), Fail> {
-    for size in NO_HEADS {
+    for &size in NO_HEADS {
         let found = sized(&rt, rt.alloc(), size)?;
         assert_eq!(rt; found, Err(ResumeFault::NotAStore), "{size} bytes");
     }
-    for size in CUTS {
+    for &size in CUTS {
         let found = sized(&rt, rt.alloc(), size as usize)?;
         assert_eq!(rt; found, damaged(0, Damage::Cut { size }), "{size} bytes");
     }

@@ -12,7 +12,7 @@ use store_bytes::segment_bytes::Layout;
 const TEARS: [Torn; 4] = [Torn::Old, Torn::New, Torn::Fill(1), Torn::Fill(255)];
 
 // The store of one gauge before its first body.
-const MADE: [u8; 63] = [
+const MADE: &[u8] = &[
     1, 0x53, 0x47, 0x53, 0x54, 2, 0, 1, 0, 16, 0, 2, // ready, SGST, version, gauges, classes, w2
     0xff, 0xff, 0xff, 0xff, 0xff, 0xff, 0xe0, 0xc0, 0, 8, // low, reference
     0x11, 0x11, 0x11, 0x11, 0x11, 0x11, 0x11, 0x11, 0x11, 0x11, 0x11, 0x11, 0x11, 0x11, 0x11, 0x11,
@@ -24,7 +24,7 @@ const MADE: [u8; 63] = [
 #[test]
 fn a_store_is_made_once(rt: HostRuntime) -> Result<(), Fail> {
     let station = made(rt.alloc(), 1)?;
-    assert_eq!(rt; image(rt.alloc(), &station)?.as_slice(), MADE.as_slice());
+    assert_eq!(rt; image(rt.alloc(), &station)?.as_slice(), MADE);
     Ok(())
 }
 
@@ -36,7 +36,7 @@ fn every_moment_of_making(rt: HostRuntime) -> Result<(), Fail> {
     for calls in 0..station.calls() + 1 {
         for torn in TEARS {
             let left = station.crash(alloc, calls, torn)?;
-            let expected = if left.as_slice() == MADE.as_slice() {
+            let expected = if left.as_slice() == MADE {
                 Ok(0)
             } else {
                 Err(ResumeFault::NotAStore)

@@ -6,7 +6,7 @@ use std::alloc::{AllocError, Global};
 use std::test::Fail;
 
 /// The samples -2, 1 and -3, and two bytes more.
-const BODY: [u8; 14] = [254, 255, 255, 255, 1, 0, 0, 0, 253, 255, 255, 255, 5, 0];
+const BODY: &[u8] = &[254, 255, 255, 255, 1, 0, 0, 0, 253, 255, 255, 255, 5, 0];
 
 /// The id of sixteen bytes 0x11 and the period 10000, as the format lays them out.
 const HEAD: [u8; 32] = [
@@ -44,7 +44,7 @@ fn skipped<S: Source>(source: &mut S, n: u64) -> (u64, FillEnd) {
 #[test]
 fn a_torn_body_ends_so_by_takes_of_any_size(rt: HostRuntime) -> Result<(), Fail> {
     for longest in [1, 2, 3, 7, 4096] {
-        let mut source = source_of(rt.alloc(), &BODY, longest, &[])?;
+        let mut source = source_of(rt.alloc(), BODY, longest, &[])?;
         assert_eq!(rt;
             filled(&mut source),
             (3, FillEnd::Torn(2), [-2, 1, -3, 0, 0])
@@ -56,7 +56,7 @@ fn a_torn_body_ends_so_by_takes_of_any_size(rt: HostRuntime) -> Result<(), Fail>
 #[test]
 fn samples_are_skipped_by_takes_of_any_size(rt: HostRuntime) -> Result<(), Fail> {
     for longest in [1, 2, 3, 7, 4096] {
-        let mut source = source_of(rt.alloc(), &BODY, longest, &[])?;
+        let mut source = source_of(rt.alloc(), BODY, longest, &[])?;
         assert_eq!(rt; skipped(&mut source, 1), (1, FillEnd::More));
         assert_eq!(rt; filled(&mut source), (2, FillEnd::More, [1, -3]));
         assert_eq!(rt; skipped(&mut source, 1), (0, FillEnd::Torn(2)));
@@ -66,7 +66,7 @@ fn samples_are_skipped_by_takes_of_any_size(rt: HostRuntime) -> Result<(), Fail>
 
 #[test]
 fn a_failed_take_loses_a_part_sample(rt: HostRuntime) -> Result<(), Fail> {
-    let mut source = source_of(rt.alloc(), &BODY, 3, &[2])?;
+    let mut source = source_of(rt.alloc(), BODY, 3, &[2])?;
     assert_eq!(rt; filled(&mut source), (1, FillEnd::Failed, [-2, 0, 0]));
     // The next samples are 00 00 fd ff and ff ff 05 00.
     assert_eq!(rt;
@@ -97,10 +97,10 @@ fn a_failed_take_after_a_whole_sample_loses_nothing(rt: HostRuntime) -> Result<(
 // Takes of seven bytes: the third one would find the end.
 #[test]
 fn the_take_that_finds_the_end_fails(rt: HostRuntime) -> Result<(), Fail> {
-    let mut source = source_of(rt.alloc(), &BODY, 7, &[2])?;
+    let mut source = source_of(rt.alloc(), BODY, 7, &[2])?;
     assert_eq!(rt; filled(&mut source), (3, FillEnd::Failed, [-2, 1, -3, 0]));
     assert_eq!(rt; filled(&mut source), (0, FillEnd::Ended, [0; 4]));
-    let mut source = source_of(rt.alloc(), &BODY, 7, &[2])?;
+    let mut source = source_of(rt.alloc(), BODY, 7, &[2])?;
     assert_eq!(rt; skipped(&mut source, 4), (3, FillEnd::Failed));
     assert_eq!(rt; skipped(&mut source, 4), (0, FillEnd::Ended));
     Ok(())

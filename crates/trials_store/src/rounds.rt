@@ -18,7 +18,7 @@ use std::test::Fail;
 use std::thread::Threads;
 
 // The standard's own example.
-const EXAMPLE: [i32; 9] = [-2, 1, -3, 5, -1, 3, -4, 4, -2];
+const EXAMPLE: &[i32] = &[-2, 1, -3, 5, -1, 3, -4, 4, -2];
 
 // Classes of 1 N/mm² from -8 on: a raw value `r` has level `r + 8`.
 fn plan(rt: &impl Abort, gauges: u16, block: u32, workers: u8) -> Plan
@@ -118,7 +118,7 @@ fn a_recording_ends_at_its_limit(rt: HostRuntime) -> Result<(), Fail> {
 
 #[test]
 fn a_source_is_back_after_a_fault(rt: HostRuntime) -> Result<(), Fail> {
-    let mut lanes = [lane(&rt, rt.alloc(), 0, 0, &EXAMPLE, 0, 4, &[5])?];
+    let mut lanes = [lane(&rt, rt.alloc(), 0, 0, EXAMPLE, 0, 4, &[5])?];
     let prepared = first_round(&rt, rt.alloc(), &plan(&rt, 1, 4, 2), &mut lanes)?;
     assert_eq!(rt; lanes[0].end, End::ReadFault);
     assert_eq!(rt; lanes[0].at, 5);
@@ -131,7 +131,7 @@ fn a_source_is_back_after_a_fault(rt: HostRuntime) -> Result<(), Fail> {
 #[test]
 fn two_workers_count_beside_each_other(rt: HostRuntime) -> Result<(), Fail> {
     let mut prepared = Prepared::new(rt.alloc(), &plan(&rt, 1, 4, 2))?;
-    let mut lanes = [lane(&rt, rt.alloc(), 0, 0, &EXAMPLE, 0, 64, &[])?];
+    let mut lanes = [lane(&rt, rt.alloc(), 0, 0, EXAMPLE, 0, 64, &[])?];
     let gate = HoldGate::new(50_000_000);
     prepared.round(&rt, &mut lanes, &gate);
     assert!(rt; !gate.gave_up());
@@ -153,7 +153,7 @@ fn two_lanes_go_through_three_workers(rt: HostRuntime) -> Result<(), Fail> {
     let mut prepared = Prepared::new(rt.alloc(), &plan(&rt, 2, 4, 3))?;
     let mut lanes = [
         lane(&rt, rt.alloc(), 0, 0, &samples, 0, 7, &[])?,
-        lane(&rt, rt.alloc(), 1, 0, &EXAMPLE, 2, 7, &[])?,
+        lane(&rt, rt.alloc(), 1, 0, EXAMPLE, 2, 7, &[])?,
     ];
     prepared.round(&rt, &mut lanes, &OpenGate);
     assert_eq!(rt; prepared.arrivals().len(), 19);
