@@ -141,6 +141,8 @@ def _read_line(checked: Checked, recording: Recording) -> str:
     grid = checked.site.grid if checked.site is not None else None
     if grid is not None:
         line += f", refused {facts.refused} ({percent(facts.refused, facts.read)})"
+    if checked.store is not None and gauge.number < len(checked.store.held):
+        line += f", held {checked.store.held[gauge.number].samples}"
     if facts.common is not None and facts.rest is not None:
         low, high = sorted(gauge.stress(raw) for raw in facts.common)
         line += f", rests at {n_mm2(gauge.stress(facts.rest))} N/mm², mostly {n_mm2(low)} to {n_mm2(high)}"

@@ -79,7 +79,7 @@ def head_fault(head: bytes) -> HeadFault | None:
     """Returns the first thing that is wrong with the bytes at a recording's front, in the program's order."""
     if len(head) < HEAD_LENGTH:
         what = "is empty" if not head else f"has {len(head)} bytes"
-        return HeadFault(f"{what}, and the head of a recording has {HEAD_LENGTH}", "short")
+        return HeadFault(f"{what}; the head of a recording has {HEAD_LENGTH} bytes", "short")
     if not head.startswith(MAGIC):
         return HeadFault(f"doesn't begin with SGRC{_meant(head)}", "no SGRC")
     if head[4] != 1:

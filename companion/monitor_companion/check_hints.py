@@ -75,7 +75,8 @@ def meant_number(key: str, value: object) -> str:
     number = number_of(value)
     if number is None:
         return ""
-    special = _meant_in_units(key, number)
+    in_units = isinstance(value, Decimal) or key in ("low", "gamma")
+    special = _meant_in_units(key, number) if in_units else ""
     if special:
         return special
     whole = _whole(number)
@@ -84,16 +85,13 @@ def meant_number(key: str, value: object) -> str:
 
 def _meant_in_units(key: str, number: Decimal) -> str:
     """Returns the whole number of a decimal one that was given in N/mm² or as a factor."""
-    whole = _whole(number)
     if key == "gamma" and number < 10 and _whole(number * 100) is not None:
         return f"gamma = {int(number * 100)} (hundredths)"
-    if whole is not None and key != "width":
-        return ""
-    if key in ("low", "offset") and _whole(number * 1000) is not None:
+    if key in ("low", "offset") and 0 < abs(number) < 1000 and _whole(number * 1000) is not None:
         return f"{key} = {int(number * 1000)} ({plain(number)} N/mm² in kPa)"
-    if key == "width" and whole is None and _whole(number * 2) is not None:
+    if key == "width" and number > 0 and _whole(number * 2) is not None:
         return f"width = {int(number * 2)} ({plain(number)} N/mm² in steps of 0.5 N/mm²)"
-    if key == "num" and whole is None:
+    if key == "num" and _whole(number) is None:
         return _meant_gain(number)
     return ""
 

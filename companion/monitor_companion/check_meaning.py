@@ -96,14 +96,14 @@ def _warn_gain(site: Site, grid: Grid, gauge: Gauge, findings: Findings) -> None
         findings.warn(place, f"{text}; on steel a microstrain is num = 210")
         return
     step = Fraction(abs(gauge.num), gauge.den)
-    text = f"{gauge.title}: num = {gauge.num}" + (f" and den = {gauge.den}" if gauge.den != 1 else "")
+    text = f"{gauge.title}: num = {gauge.num}" + (f", den = {gauge.den}" if gauge.den != 1 else "")
     if step > MANY_CLASSES * grid.step:
-        text += f" make a step of the logger {n_mm2(step)} N/mm², {_times(step / grid.step)} classes"
+        text += f": a step of the logger is {n_mm2(step)} N/mm², {_times(step / grid.step)} classes"
         if gauge.num % 1000 == 0 and step > 50 * KPA_PER_N_MM2:
             text += f"; num = {gauge.num // 1000} was probably meant (kPa)"
         findings.warn(place, text)
     elif step * 2**31 < grid.step:
-        findings.warn(place, f"{text} make the greatest reading less than a class")
+        findings.warn(place, f"{text}: no reading is as much as a class")
     if gauge.offset <= grid.low - 2**31 * step or gauge.offset >= grid.top + 2**31 * step:
         text = f"{gauge.title}: offset = {gauge.offset} leaves no reading in the classes; {span_text(grid)}"
         findings.warn(site.place(line_of(gauge.lines, "offset")), text)

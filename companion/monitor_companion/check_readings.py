@@ -63,6 +63,19 @@ def classes_for(low: int, high: int, width: int) -> tuple[int, int, int] | None:
     return None
 
 
+def wide_classes(low: int, high: int, grid: Grid) -> tuple[int, int, int] | None:
+    """Returns such classes with room at both ends: as many as there are, or a tenth more than needed."""
+    tight = classes_for(low, high, grid.width)
+    if tight is None:
+        return None
+    start, width, classes = tight
+    wanted = max(classes + classes // 10, grid.classes if width == grid.width else 0)
+    most = min(MAX_CLASSES, MAX_SPAN // width + 1)
+    wanted = max(classes, min(wanted, most))
+    start -= (wanted - classes) // 2 * KPA_PER_STEP * width
+    return (start, width, wanted) if abs(start) <= MAX_KPA else tight
+
+
 def warn_readings(
     site: Site, readings: Mapping[int, Readings], limits: Limits, findings: Findings
 ) -> None:
@@ -106,9 +119,9 @@ def _warn_gauge(
 
 def _warn_markers(facts: Readings, place: Place, front: str, findings: Findings) -> None:
     """A lowest or highest reading that loggers write for none, and that is far from all others."""
-    if facts.common is None:
+    if facts.inner is None:
         return
-    low, high = facts.common
+    low, high = facts.inner
     width = high - low
     ends = ((facts.lowest, facts.lowest_count, low), (facts.highest, facts.highest_count, high))
     for value, count, near in ends:
@@ -150,7 +163,7 @@ def _warn_refused(
     text = (
         f"{gauge.title}: {facts.refused} of {facts.read} readings are refused"
         f" ({percent(facts.refused, facts.read)}), so its table isn't that of the whole history;"
-        f" its stresses reach from {n_mm2(low)} to {n_mm2(high)} N/mm², {span_text(grid)[len('the '):]}"
+        f" its stresses reach from {n_mm2(low)} to {n_mm2(high)} N/mm²; {span_text(grid)}"
     )
     findings.warn(site.place(line_of(gauge.lines, "num")), text + _holding(site, readings))
 
@@ -163,7 +176,7 @@ def _holding(site: Site, readings: Mapping[int, Readings]) -> str:
         facts = readings.get(gauge.number)
         if facts is not None and facts.valid:
             ends += _stresses(gauge, facts)
-    held = classes_for(min(ends), max(ends), site.grid.width)
+    held = wide_classes(min(ends), max(ends), site.grid)
     if held is None:
         return "; no classes hold them all: look at what the logger wrote"
     low, width, classes = held
@@ -181,7 +194,9 @@ def _warn_rest(site: Site, grid: Grid, gauge: Gauge, facts: Readings, findings: 
     where = "outside the classes" if not 0 <= level < grid.classes else "at the edge of the classes"
     text = f"{gauge.title} rests at {n_mm2(rest)} N/mm², {where}; {span_text(grid)}"
     key = "offset" if "offset" in gauge.lines else "num"
-    findings.warn(site.place(line_of(gauge.lines, key)), text + _meant_offset(gauge, facts.rest))
+    # Where 0 N/mm² itself is at the edge, the classes are to be moved, and not the gauge.
+    meant = _meant_offset(gauge, facts.rest) if edge <= grid.level(0) < grid.classes - edge else ""
+    findings.warn(site.place(line_of(gauge.lines, key)), text + meant)
 
 
 def _meant_offset(gauge: Gauge, rest: int) -> str:
@@ -211,6 +226,6 @@ def _warn_span(site: Site, grid: Grid, gauge: Gauge, facts: Readings, findings: 
         f" and a class is {n_mm2(grid.step)} N/mm² wide"
     )
     gain = Fraction(gauge.num * KPA_PER_N_MM2, gauge.den)
-    if (high - low) * KPA_PER_N_MM2 < grid.top - grid.low and high > low and abs(gain) <= 10**6:
+    if 2 * grid.step <= (high - low) * KPA_PER_N_MM2 < grid.top - grid.low:
         text += f"; a gain of {gain} kPa a step was perhaps meant (N/mm² in kPa)"
     findings.warn(site.place(line_of(gauge.lines, "num")), text)

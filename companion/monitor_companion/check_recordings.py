@@ -21,11 +21,11 @@ def check_recordings(
     site: Site, recordings: Sequence[Recording], store: Store | None, findings: Findings
 ) -> None:
     """Tells in the order of the program what is wrong with the recordings."""
-    order = order_of(store.head, recordings) if store is not None and store.head is not None else ""
+    order = order_of(store.head, site, recordings) if store is not None and store.head is not None else ""
     for recording in recordings:
         number = recording.gauge.number
         if recording.fault is not None:
-            _tell_head(site, recording, findings)
+            _tell_head(site, recording, recordings, findings)
         elif store is not None and store.head is not None and number < len(store.head.gauges):
             _tell_other(site, recording, store.head.gauges[number], order, findings)
             held = store.held[number].samples
@@ -44,19 +44,21 @@ def _front(recording: Recording) -> str:
     return f"{recording.gauge.title}: {recording.gauge.file}"
 
 
-def _tell_head(site: Site, recording: Recording, findings: Findings) -> None:
+def _tell_head(
+    site: Site, recording: Recording, recordings: Sequence[Recording], findings: Findings
+) -> None:
     fault = recording.fault
     assert fault is not None
     text = f"{_front(recording)} {fault.text}"
     if fault.told == READ_FAULT:
-        text += _meant_file(recording)
+        text += _meant_file(recording, recordings)
         findings.fault(_place(site, recording), text, fault.status, READ_FAULT)
         return
     told = f"recording {recording.gauge.name}: {fault.told}"
     findings.fault(_place(site, recording), text, fault.status, told)
 
 
-def _meant_file(recording: Recording) -> str:
+def _meant_file(recording: Recording, recordings: Sequence[Recording]) -> str:
     """Returns which file was probably meant by one that isn't there."""
     file = recording.gauge.file
     if "\\" in file:
@@ -66,12 +68,17 @@ def _meant_file(recording: Recording) -> str:
         there = sorted(path.name for path in folder.iterdir() if path.is_file())
     except OSError:
         return f"; there is no folder {folder}"
-    wanted = [name for name in there if name.endswith(".sgrc")]
-    near = words.nearest(pathlib.PurePath(file).name, wanted)
-    if near is None:
-        exports = pathlib.PurePath(file).with_suffix(".csv").name
-        return f"; {exports} is there: import it" if exports in there else ""
-    return f'; file = "{pathlib.PurePath(file).with_name(near)}" was probably meant'
+    stem = pathlib.PurePath(file).stem
+    export = next((name for name in there if name.lower() in (f"{stem}.csv", f"{stem}.txt", f"{stem}.dat")), None)
+    if export is not None:
+        return f"; {export} is there: import it"
+    used = {other.path for other in recordings if other.fault is None}
+    free = [name for name in there if name.lower().endswith(".sgrc") and folder / name not in used]
+    near = words.nearest(stem, [pathlib.PurePath(name).stem for name in free])
+    meant = next((name for name in free if pathlib.PurePath(name).stem == near), None)
+    if meant is None:
+        return ""
+    return f'; file = "{pathlib.PurePath(file).with_name(meant)}" was probably meant'
 
 
 def _tell_other(
@@ -82,7 +89,7 @@ def _tell_other(
     if recording.id != kept.id:
         text = f"{_front(recording)} has the id {recording.id.hex()}, but monitor.store was made for {kept.id.hex()}"
         if order:
-            text += f"; put the gauges in the order of the store again: {order}"
+            text += f"; {order}"
         else:
             text += f"; put the recording of that id in its place, or {NEW_STORE}"
         told = f"recording {name}: id was {kept.id.hex()}, is {recording.id.hex()}"

@@ -6,6 +6,7 @@ megabytes. With a limit, pieces are taken evenly from the whole recording.
 
 from __future__ import annotations
 
+import bisect
 import io
 import mmap
 import pathlib
@@ -47,6 +48,8 @@ class Readings:
     rest: int | None = None
     # the lowest and the highest but for one in a thousand at each end, likewise
     common: tuple[int, int] | None = None
+    # the lowest above the lowest of all, and the highest below the highest of all, likewise
+    inner: tuple[int, int] | None = None
     # as many samples at the end are one value
     still_end: int = 0
     # as many samples at the end are the same as those before
@@ -155,6 +158,14 @@ def _settle(readings: Readings) -> None:
         readings.rest = picked[(len(picked) - 1) // 2]
         cut = len(picked) // 1000
         readings.common = picked[cut], picked[len(picked) - 1 - cut]
+        readings.inner = _inner(picked, readings.lowest, readings.highest)
+
+
+def _inner(picked: list[int], lowest: int | None, highest: int | None) -> tuple[int, int] | None:
+    """Returns the ends of the sorted readings without the lowest and the highest value."""
+    assert lowest is not None and highest is not None
+    first, end = bisect.bisect_right(picked, lowest), bisect.bisect_left(picked, highest)
+    return (picked[first], picked[end - 1]) if first < end else None
 
 
 def _look_at_end(readings: Readings, path: pathlib.Path, limit: int | None) -> None:

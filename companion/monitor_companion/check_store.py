@@ -12,7 +12,7 @@ from monitor_companion.site import Gauge, Site
 from monitor_companion.store_head import FILE_NAME, Store, StoreHead, read_store
 
 STORE_STATUS = 3
-NEW_STORE = f"keep {FILE_NAME} under another name, and run init and count, which read all recordings again"
+NEW_STORE = f"begin a new store (rename {FILE_NAME}, then init and count)"
 
 
 def load_store(folder: pathlib.Path, findings: Findings) -> Store | None:
@@ -25,14 +25,19 @@ def load_store(folder: pathlib.Path, findings: Findings) -> Store | None:
         return None
 
 
-def order_of(store: StoreHead, recordings: Sequence[Recording]) -> str:
-    """Returns the order of gauges that the store has, where the site's is another one of the same."""
+def order_of(store: StoreHead, site: Site, recordings: Sequence[Recording]) -> str:
+    """Returns what to do where the recordings are those of the store in another order, or nothing."""
     kept = [gauge.id for gauge in store.gauges]
-    names = {recording.id: recording.gauge.name for recording in recordings if recording.fault is None}
+    sound = {recording.id: recording for recording in recordings if recording.fault is None}
     ids = [recording.id for recording in recordings if recording.fault is None]
     if kept == ids or sorted(kept) != sorted(ids) or len(set(kept)) != len(kept):
         return ""
-    return ", ".join(f'"{names[id_]}"' for id_ in kept)
+    gains = [(gauge.num, gauge.den, gauge.offset) for gauge in site.gauges]
+    if gains == [(gauge.num, gauge.den, gauge.offset) for gauge in store.gauges]:
+        files = ", ".join(sound[id_].gauge.file for id_ in kept)
+        return f"put the gauges or their files in the order of the store again, by their files: {files}"
+    names = ", ".join(f'"{sound[id_].gauge.name}"' for id_ in kept)
+    return f"put the gauges in the order of the store again: {names}"
 
 
 def check_store(
@@ -53,7 +58,7 @@ def check_store(
     if head is None:
         return
     _check_grid(head, site, findings)
-    order = order_of(head, recordings)
+    order = order_of(head, site, recordings)
     for gauge in site.gauges:
         if gauge.number < len(head.gauges):
             _check_gain(head, gauge, site, order, findings)
@@ -68,7 +73,8 @@ def _check_gauge_count(
 ) -> None:
     if not site.gauge_tables or store.gauge_count == site.gauge_tables:
         return
-    text = f"{site.gauge_tables} gauges, but {FILE_NAME} was made for {store.gauge_count}"
+    plural = "" if site.gauge_tables == 1 else "s"
+    text = f"{site.gauge_tables} gauge{plural}, but {FILE_NAME} was made for {store.gauge_count}"
     if store.head is not None:
         kept = {gauge.id for gauge in store.head.gauges}
         new = [r.gauge for r in recordings if r.fault is None and r.id not in kept]
@@ -111,7 +117,7 @@ def _check_gain(head: StoreHead, gauge: Gauge, site: Site, order: str, findings:
             continue
         text = f"{gauge.title}: {key} = {now}, but {FILE_NAME} was made with {kept} for its gauge {gauge.number}"
         if order:
-            text += f"; put the gauges in the order of the store again: {order}"
+            text += f"; {order}"
         else:
             text += f"; put {key} = {kept} back, or {NEW_STORE}"
         line = _line(gauge.lines, key)

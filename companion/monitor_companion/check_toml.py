@@ -141,9 +141,11 @@ def _probable_value(key: str, value: str) -> str:
 
 
 def _probable_double(text: str, lines: list[str], line: int) -> str:
-    header = re.match(r"\s*\[\s*(gauge|detail)\s*\]", text)
+    header = re.match(r"\s*\[+\s*(gauge|detail)\s*\]", text)
     if header is not None:
-        return f"[[{header[1]}]] was probably meant"
+        single = re.compile(rf"\s*\[\s*{header[1]}\s*\]")
+        first = next(number for number, line in enumerate(lines, start=1) if single.match(line))
+        return f"[[{header[1]}]] was probably meant in line {first}"
     pair = _PAIR.match(text)
     for earlier in range(line - 1, 0, -1):
         if pair is None or lines[earlier - 1].lstrip().startswith("["):

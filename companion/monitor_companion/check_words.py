@@ -54,6 +54,13 @@ def header(part: str) -> str:
     return f"[[{part}]]" if part in ARRAYS else f"[{part}]"
 
 
+def header_of(key: str, value: object) -> str:
+    """Returns how a key outside all parts stands there."""
+    if isinstance(value, list):
+        return f"[[{key}]]"
+    return f"[{key}]" if isinstance(value, dict) else key
+
+
 def meant_key(part: str, word: str) -> str | None:
     """Returns what was probably meant by a key that a part doesn't have."""
     word = word.strip().replace("-", "_")

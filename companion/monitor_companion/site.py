@@ -182,15 +182,26 @@ def _table(root: Part, name: str, needed: bool) -> Part | None:
     node = root.node.members.get(name)
     if node is None:
         if needed:
-            near = next((key for key in root.node.members if words.meant_part(key) == title), None)
-            root.tell_part(f"missing {name}", None, f"{title} is missing", f"[{near}]" if near else "", title)
+            _tell_missing(root, name, f"missing {name}")
         return None
     if not isinstance(node.value, dict):
         meant = title if isinstance(node.value, list) else ""
         text = f"{title}: {name} is {hints.kind_of(node.value)}; a table belongs here"
-        root.tell_part(f"wrong kind {name}", node.line, text, "", meant)
+        root.tell_part(f"wrong kind {name}", node.line, text, meant)
         return None
     return Part(title, name, node, root.file, root.findings)
+
+
+def _tell_missing(root: Part, name: str, told: str) -> None:
+    """Tells that a part is missing, and what may stand in its place."""
+    title = words.header(name)
+    near = next((key for key in root.node.members if words.meant_part(key) == title), None)
+    text, line = f"{title} is missing", None
+    if near is not None:
+        node = root.node.members[near]
+        line = node.line
+        text += f", {words.header_of(near, node.value)} is there"
+    root.tell_part(told, line, text, "")
 
 
 def _grid(root: Part) -> Grid | None:
@@ -229,18 +240,17 @@ def _items(root: Part, name: str, least: int, most: int) -> list[Node]:
     node = root.node.members.get(name)
     if node is None:
         if least:
-            near = next((key for key in root.node.members if words.meant_part(key) == title), None)
-            root.tell_part(f"missing {name} 0", None, f"{title} is missing", f"[{near}]" if near else "", title)
+            _tell_missing(root, name, f"missing {name} 0")
         return []
     if not isinstance(node.value, list):
         meant = title if isinstance(node.value, dict) else ""
         text = f"{title}: {name} is {hints.kind_of(node.value)}; an array of tables belongs here"
-        root.tell_part(f"wrong kind {name} 0", node.line, text, "", meant)
+        root.tell_part(f"wrong kind {name} 0", node.line, text, meant)
         return []
     if not least <= len(node.items) <= most:
         text = f"there are {len(node.items)} {name}s; allowed are {least} to {most}"
         advice = "" if not node.items else "; part the site in two folders"
-        root.tell_part(f"out of range {name} 0", node.line, text + advice, "", "")
+        root.tell_part(f"out of range {name} 0", node.line, text + advice, "")
     return node.items
 
 
@@ -253,7 +263,7 @@ def _several(root: Part, name: str, least: int, most: int) -> Iterator[tuple[int
             yield number, Part(title, f"{name} {number}", node, root.file, root.findings)
         else:
             text = f"{name} {number} is {hints.kind_of(node.value)}; a table belongs here"
-            root.tell_part(f"wrong kind {name} {number}", node.line, text, "", "")
+            root.tell_part(f"wrong kind {name} {number}", node.line, text, "")
 
 
 def _gauges(root: Part) -> tuple[list[Gauge], dict[str, tuple[int, int | None]]]:
@@ -283,7 +293,8 @@ def _details(root: Part, gauges: Mapping[str, tuple[int, int | None]]) -> list[D
         kind = part.kind(tuple(CATEGORIES))
         category = part.category(kind, CATEGORIES)
         gamma = part.choice("gamma", FACTORS, meant=lambda value: hints.meant_gamma(value, FACTORS))
-        if gauge is not None and gauge not in gauges:
+        # Where a gauge's own name is wrong, that is the fault, and its details are right.
+        if gauge is not None and gauge not in gauges and 0 < len(gauges) == _tables(root.node, "gauge"):
             part.tell_no_gauge(number, gauge, gauges)
         if name is not None:
             name = part.unless_taken(name, number, names)

@@ -35,11 +35,9 @@ class Part:
     file: str
     findings: Findings
 
-    def tell_part(self, told: str, line: int | None, text: str, found: str, meant: str) -> None:
-        """Tells a fault of a part itself; `found` is what may stand in its place."""
-        if found:
-            text += f"; {meant} was probably meant by {found}"
-        elif meant and "is missing" not in text:
+    def tell_part(self, told: str, line: int | None, text: str, meant: str) -> None:
+        """Tells a fault of a part itself."""
+        if meant:
             text += f"; {meant} was probably meant"
         self.findings.fault(Place(self.file, line), text, CONFIG_STATUS, f"config: {told}")
 
@@ -152,7 +150,7 @@ class Part:
             return None
         length = len(value.encode())
         if not 1 <= length <= MAX_FILE_NAME:
-            self._tell("out of range", key, f"{key} has {length} bytes", allowed)
+            self._tell("out of range", key, f"{key} = {hints.shown(value)} has {length} bytes", allowed)
             return None
         return value
 
@@ -211,12 +209,9 @@ class Part:
 
     def tell_unknown(self, key: str, node: Node, title: str, meant: str | None) -> None:
         """Warns of a key that means nothing."""
-        shown = key if not isinstance(node.value, list | dict) else ""
-        if not title and not shown:
-            is_array = isinstance(node.value, list)
-            shown = f"[[{key}]]" if is_array else f"[{key}]"
+        shown = key if title else words.header_of(key, node.value)
         front = f"{title}: " if title else ""
-        kind = "key" if not shown.startswith("[") else "part"
+        kind = "part" if shown.startswith("[") else "key"
         tail = f"; {meant} was probably meant" if meant is not None else ""
-        text = f"{front}{shown or key} is no known {kind} and means nothing{tail}"
+        text = f"{front}{shown} is no known {kind} and means nothing{tail}"
         self.findings.warn(Place(self.file, node.line), text)

@@ -97,10 +97,10 @@ def _read_head(store: Store, file: BinaryIO) -> bool:
     front = file.read(FRONT_LENGTH)
     if len(front) < FRONT_LENGTH:
         store.not_a_store = f"has {store.size} bytes, fewer than a store's head"
-    elif front[0] != 1:
-        store.not_a_store = "was not finished by init"
     elif front[1:5] != MAGIC:
         store.not_a_store = "doesn't begin as a store"
+    elif front[0] != 1:
+        store.not_a_store = "was not finished by init"
     if store.not_a_store:
         return False
     version, gauges, classes, width, low, reference = struct.unpack(">BHHHqH", front[5:])
