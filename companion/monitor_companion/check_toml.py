@@ -110,6 +110,8 @@ _VALUE_HINTS = (
 def probable(what: str, lines: list[str], line: int) -> str:
     """Returns what was probably meant in a line that is no TOML, or nothing."""
     text = lines[line - 1]
+    if "\r" in text.rstrip("\r"):
+        return "its lines end in a carriage return alone: save the file with line feeds"
     if re.search("[“”„‘’«»]", text):
         return "texts stand in straight quotes: \""
     if "overwrite a value" in what or "twice" in what:

@@ -19,7 +19,7 @@ from monitor_companion.check_findings import Severity
 from monitor_companion.refusals import Refusal, Status
 from monitor_companion.site import read_site
 from tests import check_sites as sites
-from tests.program import ROOT, run
+from tests.program import ROOT, program, run
 
 EXAMPLES = ROOT / "examples"
 
@@ -86,6 +86,7 @@ class Configurations(unittest.TestCase):
                         self.assertTrue(lines[int(match[1]) - 1].startswith(f"{match[2]} ="))
 
     def test_the_program_tells_the_first_fault(self) -> None:
+        program()
         for mistake in mistakes():
             with self.subTest(mistake.name), tempfile.TemporaryDirectory() as name:
                 folder = pathlib.Path(name)
@@ -99,7 +100,7 @@ class Configurations(unittest.TestCase):
                     self.assertEqual((verdict.status, verdict.line), (done.returncode, told))
 
     def test_bytes_that_are_no_text(self) -> None:
-        for content, found in (
+        cases: tuple[tuple[bytes, list[str]], ...] = (
             (sites.CONFIGURATION.replace("span-2", "br\xfccke").encode("latin-1"),
              ["monitor.toml:12: fault: no TOML: byte fc is no UTF-8; the file is probably Latin-1: save it as UTF-8"]),
             (sites.CONFIGURATION.encode("utf-16"),
@@ -107,7 +108,8 @@ class Configurations(unittest.TestCase):
             (sites.CONFIGURATION.encode() + b"#" * 65536,
              ["monitor.toml: fault: has 66048 bytes; allowed are 65536"]),
             (b"\xef\xbb\xbf" + sites.CONFIGURATION.encode().replace(b"\n", b"\r\n"), []),
-        ):
+        )
+        for content, found in cases:
             with self.subTest(found=found), tempfile.TemporaryDirectory() as name:
                 folder = pathlib.Path(name)
                 sites.make(folder, content)

@@ -147,10 +147,11 @@ class ReadingsCase(SiteCase):
             'monitor.toml:25: warning: detail 0 "stiffener": its gauge 0 "span-2" has no reading in the classes:'
             " its damage is 0"
         )
-        for values, found in (
+        cases: tuple[tuple[list[int], str], ...] = (
             ([], f"{SPAN} has no samples"),
             ([MISSING] * 100, f"{SPAN}: all 100 readings are missing"),
-        ):
+        )
+        for values, found in cases:
             with self.subTest(found):
                 self.span.write_bytes(recording(values, 1))
                 self.finds(f"monitor.toml:13: warning: {found}", silent)

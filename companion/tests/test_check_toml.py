@@ -106,8 +106,9 @@ class Forms(unittest.TestCase):
     def test_later_forms(self) -> None:
         for text, value in LATER:
             with self.subTest(text):
-                with self.assertRaises(tomllib.TOMLDecodeError) if "'" not in text else self.subTest():
-                    tomllib.loads(text)
+                if "'" not in text:
+                    with self.assertRaises(tomllib.TOMLDecodeError):
+                        tomllib.loads(text)
                 self.assertEqual(read_toml(text.encode()).value, value)
 
     def test_numbers_keep_their_digits(self) -> None:
@@ -120,7 +121,8 @@ class Forms(unittest.TestCase):
             (b"a = 1e400\n", 1, None, "1E+400 is greater than any number of 64 bits"),
             (b"a = " + b"[" * 81 + b"]" * 81, 1, None, "values are nested deeper than 80"),
             (b"\na = [1\n", 2, None, "unclosed array"),
-            (b"a = 1\rb = 2\n", 1, 6, "expected newline or end of document after a statement"),
+            (b"a = 1\rb = 2\n", 1, 6, "expected newline or end of document after a statement;"
+             " its lines end in a carriage return alone: save the file with line feeds"),
             (b'a = 1\nb = "x\\q"\n', 2, 9, 'unescaped \'\\\' in a string; a path has slashes: b = "x/q" was probably meant'),
         ):
             with self.subTest(why), self.assertRaises(NotToml) as refused:
