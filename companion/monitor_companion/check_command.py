@@ -117,8 +117,14 @@ def _scan_all(checked: Checked, site: Site, limit: int | None) -> None:
 
 def summary(checked: Checked) -> list[str]:
     """Returns what was read, what the program would tell first, and how much was found."""
-    lines = [_read_line(checked, recording) for recording in checked.recordings
-             if recording.gauge.number in checked.readings]
+    lines = []
+    if checked.site is not None and checked.site.grid is not None:
+        grid = checked.site.grid
+        reference = grid.low + grid.reference * grid.step
+        lines.append(f"grid: {grid.classes} classes of {n_mm2(grid.step)} N/mm² from {n_mm2(grid.low)}"
+                     f" to {n_mm2(grid.top)} N/mm², reference at {n_mm2(reference)} N/mm²")
+    lines += [_read_line(checked, recording) for recording in checked.recordings
+              if recording.gauge.number in checked.readings]
     findings = checked.findings
     verdict = findings.verdict
     if verdict is not None:

@@ -15,6 +15,7 @@ SAMPLE_LENGTH = 4
 MAX_SAMPLES = 2**40 - 1
 MAGIC = b"SGRC"
 READ_FAULT = "read fault"
+NOT_TOLD = ""
 
 
 @dataclass(frozen=True)
@@ -59,9 +60,11 @@ def _read(folder: pathlib.Path, gauge: Gauge) -> Recording:
     path = folder / gauge.file
     try:
         state = path.stat()
+        if stat.S_ISDIR(state.st_mode):
+            return Recording(gauge, path, fault=HeadFault("is a folder", READ_FAULT, 6))
         if not stat.S_ISREG(state.st_mode):
-            what = "a folder" if stat.S_ISDIR(state.st_mode) else "no plain file"
-            return Recording(gauge, path, fault=HeadFault(f"is {what}", READ_FAULT, 6))
+            # The program may wait for it, or refuse it; it isn't read here.
+            return Recording(gauge, path, fault=HeadFault("is no plain file", NOT_TOLD))
         with path.open("rb") as file:
             head = file.read(HEAD_LENGTH)
     except (OSError, ValueError) as error:

@@ -53,6 +53,7 @@ def warn_meaning(site: Site, findings: Findings) -> None:
     for gauge in site.gauges:
         _warn_file(site, gauge, findings)
     _warn_kinds(site, findings)
+    _note_same_details(site, findings)
     _warn_block(site, findings)
     _note_details(site, findings)
 
@@ -150,6 +151,16 @@ def _warn_kinds(site: Site, findings: Findings) -> None:
         if other.kind != detail.kind:
             text = f'{detail.title}: kind = "{detail.kind}", but {other.title} on the same gauge has "{other.kind}"'
             findings.warn(site.place(line_of(detail.lines, "kind")), text)
+
+
+def _note_same_details(site: Site, findings: Findings) -> None:
+    """Two details that differ in their names alone have one damage."""
+    first: dict[tuple[int, str, int, int], Detail] = {}
+    for detail in site.details:
+        other = first.setdefault((detail.gauge, detail.kind, detail.category, detail.gamma), detail)
+        if other is not detail:
+            text = f"{detail.title} has the gauge, kind, category and gamma of {other.title}"
+            findings.note(site.place(line_of(detail.lines, "")), text)
 
 
 def _warn_block(site: Site, findings: Findings) -> None:

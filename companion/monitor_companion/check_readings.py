@@ -22,6 +22,8 @@ MARKERS = frozenset(
 )
 # a gauge that rests nearer to an end than this part of the classes is at the edge
 EDGE_PART = 20
+# a gauge that rests so many classes from 0 N/mm² needs another offset, where one was given
+FAR_CLASSES = 4
 STILL_SAMPLES, STILL_PART = 10_000, 10
 KPA_PER_N_MM2 = 1000
 
@@ -189,28 +191,34 @@ def _warn_rest(site: Site, grid: Grid, gauge: Gauge, facts: Readings, findings: 
     rest = gauge.stress(facts.rest)
     level = grid.level(rest)
     edge = max(1, grid.classes // EDGE_PART)
+    place = site.place(line_of(gauge.lines, "offset" if "offset" in gauge.lines else "num"))
+    meant = _meant_offset(gauge, facts.rest, grid.step)
+    text = f"{gauge.title} rests at {n_mm2(rest)} N/mm²"
     if edge <= level < grid.classes - edge:
+        if meant and abs(rest) >= FAR_CLASSES * grid.step:
+            findings.warn(place, text + meant)
         return
     where = "outside the classes" if not 0 <= level < grid.classes else "at the edge of the classes"
-    text = f"{gauge.title} rests at {n_mm2(rest)} N/mm², {where}; {span_text(grid)}"
-    key = "offset" if "offset" in gauge.lines else "num"
+    text += f", {where}; {span_text(grid)}{meant}"
+    zero = -(facts.rest * gauge.num // gauge.den)
     # Where 0 N/mm² itself is at the edge, the classes are to be moved, and not the gauge.
-    meant = _meant_offset(gauge, facts.rest) if edge <= grid.level(0) < grid.classes - edge else ""
-    findings.warn(site.place(line_of(gauge.lines, key)), text + meant)
+    if not meant and abs(zero) <= MAX_KPA and edge <= grid.level(0) < grid.classes - edge:
+        text += f"; offset = {zero} rests at 0 N/mm²"
+    findings.warn(place, text)
 
 
-def _meant_offset(gauge: Gauge, rest: int) -> str:
-    """Returns the offset that was probably meant, or the one that rests at 0 N/mm²."""
+def _meant_offset(gauge: Gauge, rest: int, step: int) -> str:
+    """Returns the offset that was probably meant: one that rests within a class and a twentieth of 0 N/mm²."""
     zero = -(rest * gauge.num // gauge.den)
-    tolerance = abs(zero) // 20 + KPA_PER_N_MM2
-    if gauge.offset and abs(gauge.offset * KPA_PER_N_MM2 - zero) <= tolerance:
-        return f"; offset = {gauge.offset * KPA_PER_N_MM2} was probably meant (N/mm² in kPa)"
-    steps = gauge.offset * gauge.num // gauge.den
-    if gauge.offset and abs(steps - zero) <= tolerance:
-        return f"; offset = {steps} was probably meant (steps of the logger in kPa)"
-    if gauge.offset and abs(-gauge.offset - zero) <= tolerance:
-        return f"; offset = {-gauge.offset} was probably meant (with its sign turned)"
-    return f"; offset = {zero} rests at 0 N/mm²" if abs(zero) <= MAX_KPA else ""
+    candidates = {
+        gauge.offset * KPA_PER_N_MM2: "N/mm² in kPa",
+        gauge.offset * gauge.num // gauge.den: "steps of the logger in kPa",
+        -gauge.offset: "with its sign turned",
+    }
+    for offset, why in candidates.items():
+        if gauge.offset and abs(offset - zero) <= abs(zero) // 20 + step:
+            return f"; offset = {offset} was probably meant ({why})"
+    return ""
 
 
 def _warn_span(site: Site, grid: Grid, gauge: Gauge, facts: Readings, findings: Findings) -> None:

@@ -6,8 +6,8 @@ import pathlib
 from collections.abc import Sequence
 
 from monitor_companion import check_words as words
-from monitor_companion.check_findings import Findings
-from monitor_companion.check_heads import MAX_SAMPLES, READ_FAULT, Recording
+from monitor_companion.check_findings import Finding, Findings, Severity
+from monitor_companion.check_heads import MAX_SAMPLES, NOT_TOLD, READ_FAULT, Recording
 from monitor_companion.check_store import NEW_STORE, order_of
 from monitor_companion.refusals import Place
 from monitor_companion.site import Site
@@ -53,6 +53,9 @@ def _tell_head(
     if fault.told == READ_FAULT:
         text += _meant_file(recording, recordings)
         findings.fault(_place(site, recording), text, fault.status, READ_FAULT)
+        return
+    if fault.told == NOT_TOLD:
+        findings.found.append(Finding(Severity.FAULT, _place(site, recording), text))
         return
     told = f"recording {recording.gauge.name}: {fault.told}"
     findings.fault(_place(site, recording), text, fault.status, told)
@@ -136,7 +139,18 @@ def warn_recordings(
     if len(periods) > 1:
         shown = ", ".join(f"{period} µs" for period in sorted(periods))
         findings.note(site.place(), f"the recordings have several periods: {shown}")
+    _note_shorter(site, sound, findings)
     _note_unused(folder, site, recordings, findings)
+
+
+def _note_shorter(site: Site, recordings: Sequence[Recording], findings: Findings) -> None:
+    """Notes recordings that have a tenth fewer samples than the longest of the same period."""
+    for recording in recordings:
+        alike = [other for other in recordings if other.period == recording.period]
+        longest = max(alike, key=lambda other: other.samples)
+        if 0 < recording.samples * 10 <= longest.samples * 9:
+            text = f"{_front(recording)} has {recording.samples} samples, {longest.gauge.file} {longest.samples}"
+            findings.note(_place(site, recording), text)
 
 
 def _warn_shared(site: Site, recordings: Sequence[Recording], findings: Findings) -> None:
@@ -179,6 +193,9 @@ def _note_unused(
         return
     used = {recording.identity for recording in recordings}
     for path in sorted(folder.glob("*.sgrc")):
-        state = path.stat()
+        try:
+            state = path.stat()
+        except OSError:
+            continue
         if (state.st_dev, state.st_ino) not in used:
             findings.note(site.place(), f"no gauge counts {path.name}")

@@ -180,10 +180,14 @@ class Words(unittest.TestCase):
             sites.make(folder)
             values = [sites.MISSING] * 3 + [1000] * 2 + list(range(-10, 11)) * 5
             (folder / "span2.sgrc").write_bytes(sites.recording(values, 1))
+            (folder / "pier3.sgrc").write_bytes(sites.recording(sites.noise(2, len(values), -600, 600), 2))
             status, lines = self.run_check("--site", name, "--refused", "10", "--missing", "10%")
             self.assertEqual(status, Status.DONE)
             self.assertEqual(
-                lines[0],
+                lines[0], "grid: 128 classes of 1 N/mm² from -64 to 64 N/mm², reference at 0 N/mm²"
+            )
+            self.assertEqual(
+                lines[1],
                 "read span-2: 110 of 110 samples (472 bytes), missing 3 (2.7 %), refused 2 (1.8 %),"
                 " rests at 0 N/mm², mostly -2.1 to 210",
             )

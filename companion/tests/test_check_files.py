@@ -31,6 +31,12 @@ class SiteCase(unittest.TestCase):
         self.span = self.folder / "span2.sgrc"
         self.store = self.folder / "monitor.store"
 
+    def put(self, values: Sequence[int]) -> None:
+        """Puts these readings in the first recording, and as many sound ones in the second."""
+        self.span.write_bytes(recording(values, 1))
+        pier = recording(noise(2, len(values), -600, 600), 2)
+        (self.folder / "pier3.sgrc").write_bytes(pier)
+
     def change(self, *edits: tuple[str, str]) -> None:
         text = CONFIGURATION
         for old, new in edits:
@@ -124,6 +130,12 @@ class Recordings(SiteCase):
             'monitor.toml:18: warning: gauge 1 "pier-3": pier3.sgrc is the recording of gauge 0 "span-2" too'
         )
 
+    def test_a_shorter_one(self) -> None:
+        self.span.write_bytes(recording(noise(1, 450), 1))
+        self.finds(f"monitor.toml:13: note: {SPAN} has 450 samples, pier3.sgrc 500")
+        self.span.write_bytes(recording(noise(1, 451), 1))
+        self.finds()
+
     def test_periods(self) -> None:
         for period, found in (
             (0, "; 50000 µs are 20 samples a second"),
@@ -147,40 +159,36 @@ class ReadingsCase(SiteCase):
             'monitor.toml:25: warning: detail 0 "stiffener": its gauge 0 "span-2" has no reading in the classes:'
             " its damage is 0"
         )
-        cases: tuple[tuple[list[int], str], ...] = (
-            ([], f"{SPAN} has no samples"),
-            ([MISSING] * 100, f"{SPAN}: all 100 readings are missing"),
-        )
-        for values, found in cases:
-            with self.subTest(found):
-                self.span.write_bytes(recording(values, 1))
-                self.finds(f"monitor.toml:13: warning: {found}", silent)
+        self.span.write_bytes(recording([], 1))
+        self.finds(f"monitor.toml:13: warning: {SPAN} has no samples", silent)
+        self.put([MISSING] * 100)
+        self.finds(f"monitor.toml:13: warning: {SPAN}: all 100 readings are missing", silent)
 
     def test_missing_and_dead(self) -> None:
-        self.span.write_bytes(recording([MISSING] * 30 + noise(1), 1))
+        self.put([MISSING] * 30 + noise(1))
         self.finds(f"monitor.toml:13: warning: {SPAN}: 30 of 530 readings are missing (5.6 %)")
-        self.span.write_bytes(recording([MISSING] + [5] * 100, 1))
+        self.put([MISSING] + [5] * 100)
         self.finds(f"monitor.toml:13: warning: {SPAN}: all 100 readings are 5: the gauge is dead")
 
     def test_marks_of_no_reading(self) -> None:
-        self.span.write_bytes(recording(noise(1, 2000) + [-9999], 1))
+        self.put(noise(1, 2000) + [-9999])
         self.finds(
             f"monitor.toml:13: warning: {SPAN}: -9999 stands there once, far from all others:"
             " is it the logger's mark for no reading?"
         )
-        self.span.write_bytes(recording([32767] * 2 + noise(1, 3000), 1))
+        self.put([32767] * 2 + noise(1, 3000))
         self.finds(
             f"monitor.toml:13: warning: {SPAN}: 32767 stands there 2 times, far from all others:"
             " is it the logger's mark for no reading?"
         )
 
     def test_the_end(self) -> None:
-        self.span.write_bytes(recording(noise(1) + [7] * 12000, 1))
+        self.put(noise(1) + [7] * 12000)
         self.finds(
             f"monitor.toml:13: warning: {SPAN}: the last 12000 samples (96 %) are one value: did the gauge fail?"
         )
         day = noise(3, 1000)
-        self.span.write_bytes(recording(noise(1) + day + day, 1))
+        self.put(noise(1) + day + day)
         self.finds(
             f"monitor.toml:13: warning: {SPAN}: the last 1000 samples are the same as the 1000 before them:"
             " were they appended twice?"
@@ -188,7 +196,7 @@ class ReadingsCase(SiteCase):
 
     def test_refused(self) -> None:
         # 21 of 521 lie at 77.7 N/mm², above the classes
-        self.span.write_bytes(recording(noise(1) + [370] * 21, 1))
+        self.put(noise(1) + [370] * 21)
         self.finds(
             'monitor.toml:14: warning: gauge 0 "span-2": 21 of 521 readings are refused (4 %), so its table'
             " isn't that of the whole history; its stresses reach from -12.6 to 77.7 N/mm²; the classes reach from"
@@ -196,7 +204,7 @@ class ReadingsCase(SiteCase):
         )
 
     def test_no_classes_hold_a_spike(self) -> None:
-        self.span.write_bytes(recording(noise(1) + [9_000_000] * 2, 1))
+        self.put(noise(1) + [9_000_000] * 2)
         self.finds(
             'monitor.toml:14: warning: gauge 0 "span-2": 2 of 502 readings are refused (0.39 %), so its table'
             " isn't that of the whole history; its stresses reach from -12.6 to 1890000 N/mm²; the classes reach"
@@ -204,7 +212,7 @@ class ReadingsCase(SiteCase):
         )
 
     def rests(self, values: Sequence[int], offset: str, place: str, found: str) -> None:
-        self.span.write_bytes(recording(values, 1))
+        self.put(values)
         self.change(("num = 210", f"num = 210{offset}"))
         due = f'monitor.toml:{place}: warning: gauge 0 "span-2" rests at {found}'
         self.assertIn(due, sites.lines(self.folder))
@@ -222,6 +230,8 @@ class ReadingsCase(SiteCase):
         self.rests([value - 1000 for value in still], "\noffset = -210000", "15",
                    f"-420 N/mm², outside the classes; {reach}; offset = 210000 was probably meant"
                    " (with its sign turned)")
+        self.rests([value + 57 for value in still], "\noffset = -12", "15",
+                   "11.958 N/mm²; offset = -12000 was probably meant (N/mm² in kPa)")
         self.rests([value + 290 for value in still], "", "14",
                    f"60.9 N/mm², at the edge of the classes; {reach}; offset = -60900 rests at 0 N/mm²")
 
@@ -238,7 +248,7 @@ class Stores(SiteCase):
         checked = check_folder(self.folder)
         assert checked.store is not None
         self.assertEqual([held.samples for held in checked.store.held], [500, 500])
-        self.assertIn(", held 500,", summary(checked)[0])
+        self.assertIn(", held 500,", summary(checked)[1])
 
     def test_the_grid(self) -> None:
         self.change(("classes = 128", "classes = 160"), ("width = 2", "width = 3"), ("low = -64000", "low = -120000"),
