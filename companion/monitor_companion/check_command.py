@@ -9,7 +9,13 @@ from dataclasses import dataclass, field
 from decimal import Decimal, InvalidOperation
 
 from monitor_companion.check_findings import Finding, Findings, Severity
-from monitor_companion.check_heads import HEAD_LENGTH, READ_FAULT, Recording, read_heads
+from monitor_companion.check_heads import (
+    HEAD_LENGTH,
+    READ_FAULT,
+    SAMPLE_LENGTH,
+    Recording,
+    read_heads,
+)
 from monitor_companion.check_meaning import n_mm2, warn_meaning
 from monitor_companion.check_readings import Limits, percent, warn_readings
 from monitor_companion.check_recordings import check_recordings, warn_recordings
@@ -37,14 +43,33 @@ class Checked:
 
 def add_arguments(parser: argparse.ArgumentParser) -> None:
     """Adds the words of the command."""
-    parser.add_argument("--site", type=pathlib.Path, default=pathlib.Path(), metavar="DIR",
-                        help="the folder with monitor.toml (the current one)")
-    parser.add_argument("--limit", type=_megabytes, metavar="MB",
-                        help="read at most so many megabytes of each recording, evenly (all)")
-    parser.add_argument("--refused", type=_share, default=Limits().refused, metavar="PERCENT",
-                        help="warn where more readings than this are refused (0.1)")
-    parser.add_argument("--missing", type=_share, default=Limits().missing, metavar="PERCENT",
-                        help="warn where more readings than this are missing (5)")
+    parser.add_argument(
+        "--site",
+        type=pathlib.Path,
+        default=pathlib.Path(),
+        metavar="DIR",
+        help="the folder with monitor.toml (the current one)",
+    )
+    parser.add_argument(
+        "--limit",
+        type=_megabytes,
+        metavar="MB",
+        help="read at most so many megabytes of each recording, evenly (all)",
+    )
+    parser.add_argument(
+        "--refused",
+        type=_share,
+        default=Limits().refused,
+        metavar="PERCENT",
+        help="warn where more readings than this are refused (0.1)",
+    )
+    parser.add_argument(
+        "--missing",
+        type=_share,
+        default=Limits().missing,
+        metavar="PERCENT",
+        help="warn where more readings than this are missing (5)",
+    )
 
 
 def _megabytes(word: str) -> int:
@@ -83,7 +108,9 @@ def run(arguments: argparse.Namespace) -> Status:
     return checked.findings.status
 
 
-def check_folder(folder: pathlib.Path, limits: Limits | None = None, limit: int | None = None) -> Checked:
+def check_folder(
+    folder: pathlib.Path, limits: Limits | None = None, limit: int | None = None
+) -> Checked:
     """Checks a folder; at most `limit` bytes of each recording are read."""
     checked = Checked()
     findings = checked.findings
@@ -111,7 +138,9 @@ def _scan_all(checked: Checked, site: Site, limit: int | None) -> None:
             checked.readings[recording.gauge.number] = scan(recording, site.grid, limit)
         except OSError as error:
             place = site.place(recording.gauge.lines.get("file"))
-            text = f"{recording.gauge.title}: {recording.gauge.file} can't be read: {error.strerror}"
+            text = (
+                f"{recording.gauge.title}: {recording.gauge.file} can't be read: {error.strerror}"
+            )
             checked.findings.fault(place, text, 6, READ_FAULT)
 
 
@@ -121,10 +150,15 @@ def summary(checked: Checked) -> list[str]:
     if checked.site is not None and checked.site.grid is not None:
         grid = checked.site.grid
         reference = grid.low + grid.reference * grid.step
-        lines.append(f"grid: {grid.classes} classes of {n_mm2(grid.step)} N/mm² from {n_mm2(grid.low)}"
-                     f" to {n_mm2(grid.top)} N/mm², reference at {n_mm2(reference)} N/mm²")
-    lines += [_read_line(checked, recording) for recording in checked.recordings
-              if recording.gauge.number in checked.readings]
+        lines.append(
+            f"grid: {grid.classes} classes of {n_mm2(grid.step)} N/mm² from {n_mm2(grid.low)}"
+            f" to {n_mm2(grid.top)} N/mm², reference at {n_mm2(reference)} N/mm²"
+        )
+    lines += [
+        _read_line(checked, recording)
+        for recording in checked.recordings
+        if recording.gauge.number in checked.readings
+    ]
     findings = checked.findings
     verdict = findings.verdict
     if verdict is not None:
@@ -140,7 +174,8 @@ def _counted(count: int, word: str) -> str:
 
 def _read_line(checked: Checked, recording: Recording) -> str:
     gauge, facts = recording.gauge, checked.readings[recording.gauge.number]
-    line = f"read {gauge.name}: {facts.read} of {facts.samples} samples ({4 * facts.read + HEAD_LENGTH} bytes)"
+    size = SAMPLE_LENGTH * facts.read + HEAD_LENGTH
+    line = f"read {gauge.name}: {facts.read} of {facts.samples} samples ({size} bytes)"
     if not facts.valid:
         return f"{line}, none a reading"
     line += f", missing {facts.missing} ({percent(facts.missing, facts.read)})"
@@ -151,7 +186,8 @@ def _read_line(checked: Checked, recording: Recording) -> str:
         line += f", held {checked.store.held[gauge.number].samples}"
     if facts.common is not None and facts.rest is not None:
         low, high = sorted(gauge.stress(raw) for raw in facts.common)
-        line += f", rests at {n_mm2(gauge.stress(facts.rest))} N/mm², mostly {n_mm2(low)} to {n_mm2(high)}"
+        line += f", rests at {n_mm2(gauge.stress(facts.rest))} N/mm²"
+        line += f", mostly {n_mm2(low)} to {n_mm2(high)}"
     return line
 
 

@@ -40,7 +40,7 @@ class Finding:
 
 @dataclass
 class Findings:
-    """All findings in order: those that the program would tell stand in the order of the program."""
+    """All findings; those that the program would tell stand in its order."""
 
     found: list[Finding] = field(default_factory=list)
 

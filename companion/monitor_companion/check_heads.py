@@ -79,7 +79,7 @@ def _read(folder: pathlib.Path, gauge: Gauge) -> Recording:
 
 
 def head_fault(head: bytes) -> HeadFault | None:
-    """Returns the first thing that is wrong with the bytes at a recording's front, in the program's order."""
+    """Returns the first thing that is wrong with a recording's front, in the program's order."""
     if len(head) < HEAD_LENGTH:
         what = "is empty" if not head else f"has {len(head)} bytes"
         return HeadFault(f"{what}; the head of a recording has {HEAD_LENGTH} bytes", "short")
@@ -89,7 +89,9 @@ def head_fault(head: bytes) -> HeadFault | None:
         return HeadFault(f"is of version {head[4]}; allowed is 1", f"version {head[4]}")
     for place in (5, 6, 7, 28, 29, 30, 31):
         if head[place]:
-            return HeadFault(f"has {head[place]:02x} in byte {place}, which is 0 in a recording", "not zero")
+            return HeadFault(
+                f"has {head[place]:02x} in byte {place}, which is 0 in a recording", "not zero"
+            )
     return None
 
 

@@ -150,7 +150,14 @@ def meant_category(value: int, allowed: Sequence[int]) -> str:
 
 def meant_name(value: str) -> str:
     """Returns a name that is allowed and like this one."""
-    for letter, plain_letters in (("ä", "ae"), ("ö", "oe"), ("ü", "ue"), ("ß", "ss"), ("é", "e"), ("è", "e")):
+    for letter, plain_letters in (
+        ("ä", "ae"),
+        ("ö", "oe"),
+        ("ü", "ue"),
+        ("ß", "ss"),
+        ("é", "e"),
+        ("è", "e"),
+    ):
         value = value.replace(letter, plain_letters)
     name = re.sub(r"[^A-Za-z0-9_-]+", "-", value).strip("-")[:32]
     return f'name = "{name}"' if name else ""

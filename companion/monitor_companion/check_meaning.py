@@ -31,7 +31,7 @@ def span_text(grid: Grid) -> str:
 
 
 def cut_off(detail: Detail) -> Fraction:
-    """Returns the cut-off limit of a detail in kPa, divided by the partial factor (EN 1993-1-9, 7.1)."""
+    """Returns a detail's cut-off limit in kPa, divided by its factor (EN 1993-1-9, 7.1)."""
     share = Fraction(457, 1000) if detail.kind == "shear" else Fraction(549 * 737, 10**6)
     return share * detail.category * KPA_PER_N_MM2 * 100 / detail.gamma
 
@@ -67,10 +67,14 @@ def _warn_grid(site: Site, grid: Grid, findings: Findings) -> None:
         findings.warn(place, f"[grid]: low = {low}: {span_text(grid)}, and 0 N/mm² has no class")
     elif low > -grid.step:
         text = f"[grid]: low = {low}: {span_text(grid)}; stresses below are refused"
-        findings.warn(place, f"{text}; low = {-grid.classes * grid.step // 2} puts 0 N/mm² in the middle")
+        findings.warn(
+            place, f"{text}; low = {-grid.classes * grid.step // 2} puts 0 N/mm² in the middle"
+        )
     elif grid.top < 2 * grid.step:
         text = f"[grid]: low = {low}: {span_text(grid)}; stresses above are refused"
-        findings.warn(place, f"{text}; low = {-grid.classes * grid.step // 2} puts 0 N/mm² in the middle")
+        findings.warn(
+            place, f"{text}; low = {-grid.classes * grid.step // 2} puts 0 N/mm² in the middle"
+        )
     if grid.classes < 8:
         text = f"[grid]: classes = {grid.classes} are very few; {span_text(grid)}"
         findings.warn(site.place(line_of(grid.lines, "classes")), text)
@@ -106,8 +110,8 @@ def _warn_gain(site: Site, grid: Grid, gauge: Gauge, findings: Findings) -> None
     elif step * 2**31 < grid.step:
         findings.warn(place, f"{text}: no reading is as much as a class")
     if gauge.offset <= grid.low - 2**31 * step or gauge.offset >= grid.top + 2**31 * step:
-        text = f"{gauge.title}: offset = {gauge.offset} leaves no reading in the classes; {span_text(grid)}"
-        findings.warn(site.place(line_of(gauge.lines, "offset")), text)
+        text = f"{gauge.title}: offset = {gauge.offset} leaves no reading in the classes"
+        findings.warn(site.place(line_of(gauge.lines, "offset")), f"{text}; {span_text(grid)}")
 
 
 def _times(ratio: Fraction) -> str:
@@ -116,7 +120,7 @@ def _times(ratio: Fraction) -> str:
 
 def _warn_file(site: Site, gauge: Gauge, findings: Findings) -> None:
     file, place = gauge.file, site.place(line_of(gauge.lines, "file"))
-    front = f"{gauge.title}: file = \"{file}\""
+    front = f'{gauge.title}: file = "{file}"'
     if file != file.strip():
         findings.warn(place, f"{front} has a blank at its end")
     elif pathlib.PurePath(file).is_absolute():
@@ -132,10 +136,16 @@ def _warn_detail(site: Site, grid: Grid, detail: Detail, findings: Findings) -> 
     widest = (grid.classes - 1) * grid.step
     if widest < limit:
         text = f"{detail.title}: the widest range of the classes is {n_mm2(widest)} N/mm²"
-        findings.warn(place, f"{text}, below its cut-off limit of {n_mm2(limit)}: its damage is always 0")
+        findings.warn(
+            place, f"{text}, below its cut-off limit of {n_mm2(limit)}: its damage is always 0"
+        )
     elif grid.step * 4 > limit:
-        text = f"{detail.title}: a class of {n_mm2(grid.step)} N/mm² is wide beside its cut-off limit"
-        findings.warn(place, f"{text} of {n_mm2(limit)}; width = {_finer(limit)} tells ranges apart")
+        text = (
+            f"{detail.title}: a class of {n_mm2(grid.step)} N/mm² is wide beside its cut-off limit"
+        )
+        findings.warn(
+            place, f"{text} of {n_mm2(limit)}; width = {_finer(limit)} tells ranges apart"
+        )
 
 
 def _finer(limit: Fraction) -> int:
@@ -149,8 +159,9 @@ def _warn_kinds(site: Site, findings: Findings) -> None:
     for detail in site.details:
         other = first.setdefault(detail.gauge, detail)
         if other.kind != detail.kind:
-            text = f'{detail.title}: kind = "{detail.kind}", but {other.title} on the same gauge has "{other.kind}"'
-            findings.warn(site.place(line_of(detail.lines, "kind")), text)
+            text = f'{detail.title}: kind = "{detail.kind}", but {other.title} on the same gauge'
+            place = site.place(line_of(detail.lines, "kind"))
+            findings.warn(place, f'{text} has "{other.kind}"')
 
 
 def _note_same_details(site: Site, findings: Findings) -> None:
@@ -165,7 +176,8 @@ def _note_same_details(site: Site, findings: Findings) -> None:
 
 def _warn_block(site: Site, findings: Findings) -> None:
     if site.block < SMALL_BLOCK:
-        text = f"[count]: block = {site.block} has the store written after each {site.block * ROUND_BLOCKS} samples"
+        samples = site.block * ROUND_BLOCKS
+        text = f"[count]: block = {site.block} has the store written after each {samples} samples"
         findings.warn(site.place(line_of(site.lines, "block")), f"{text}; 1024 is the usual block")
 
 

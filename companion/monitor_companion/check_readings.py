@@ -18,7 +18,20 @@ from monitor_companion.site import MAX_CLASSES, MAX_KPA, MAX_SPAN, Gauge, Grid, 
 MARKERS = frozenset(
     sign * value
     for sign in (1, -1)
-    for value in (999, 6999, 7999, 9999, 99999, 999999, 9999999, 32767, 32768, 8388607, 8388608, 2**31 - 1)
+    for value in (
+        999,
+        6999,
+        7999,
+        9999,
+        99999,
+        999999,
+        9999999,
+        32767,
+        32768,
+        8388607,
+        8388608,
+        2**31 - 1,
+    )
 )
 # a gauge that rests nearer to an end than this part of the classes is at the edge
 EDGE_PART = 20
@@ -66,7 +79,7 @@ def classes_for(low: int, high: int, width: int) -> tuple[int, int, int] | None:
 
 
 def wide_classes(low: int, high: int, grid: Grid) -> tuple[int, int, int] | None:
-    """Returns such classes with room at both ends: as many as there are, or a tenth more than needed."""
+    """Returns such classes with room at both ends: as many as there are, or a tenth more."""
     tight = classes_for(low, high, grid.width)
     if tight is None:
         return None
@@ -89,8 +102,8 @@ def warn_readings(
     for detail in site.details:
         facts = readings.get(detail.gauge)
         if facts is not None and facts.valid - facts.refused == 0:
-            text = f"{detail.title}: its {names[detail.gauge].title} has no reading in the classes: its damage is 0"
-            findings.warn(site.place(line_of(detail.lines, "gauge")), text)
+            text = f"{detail.title}: its {names[detail.gauge].title} has no reading in the classes"
+            findings.warn(site.place(line_of(detail.lines, "gauge")), f"{text}: its damage is 0")
 
 
 def _warn_gauge(
@@ -107,9 +120,13 @@ def _warn_gauge(
         return
     if _exceeds(facts.missing, facts.read, limits.missing):
         share = percent(facts.missing, facts.read)
-        findings.warn(place, f"{front}: {facts.missing} of {facts.read} readings are missing ({share})")
+        findings.warn(
+            place, f"{front}: {facts.missing} of {facts.read} readings are missing ({share})"
+        )
     if facts.lowest == facts.highest:
-        findings.warn(place, f"{front}: all {facts.valid} readings are {facts.lowest}: the gauge is dead")
+        findings.warn(
+            place, f"{front}: all {facts.valid} readings are {facts.lowest}: the gauge is dead"
+        )
         return
     _warn_markers(facts, place, front, findings)
     _warn_end(facts, place, front, findings)
@@ -140,7 +157,9 @@ def _warn_end(facts: Readings, place: Place, front: str, findings: Findings) -> 
     still = facts.still_end
     if still >= STILL_SAMPLES and still * STILL_PART >= facts.samples:
         share = percent(still, facts.samples)
-        findings.warn(place, f"{front}: the last {still} samples ({share}) are one value: did the gauge fail?")
+        findings.warn(
+            place, f"{front}: the last {still} samples ({share}) are one value: did the gauge fail?"
+        )
     elif facts.repeated_end:
         count = facts.repeated_end
         text = f"{front}: the last {count} samples are the same as the {count} before them"
@@ -208,7 +227,7 @@ def _warn_rest(site: Site, grid: Grid, gauge: Gauge, facts: Readings, findings: 
 
 
 def _meant_offset(gauge: Gauge, rest: int, step: int) -> str:
-    """Returns the offset that was probably meant: one that rests within a class and a twentieth of 0 N/mm²."""
+    """Returns the offset that was probably meant, where one rests near to 0 N/mm²."""
     zero = -(rest * gauge.num // gauge.den)
     candidates = {
         gauge.offset * KPA_PER_N_MM2: "N/mm² in kPa",

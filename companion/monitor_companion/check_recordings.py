@@ -21,7 +21,11 @@ def check_recordings(
     site: Site, recordings: Sequence[Recording], store: Store | None, findings: Findings
 ) -> None:
     """Tells in the order of the program what is wrong with the recordings."""
-    order = order_of(store.head, site, recordings) if store is not None and store.head is not None else ""
+    order = (
+        order_of(store.head, site, recordings)
+        if store is not None and store.head is not None
+        else ""
+    )
     for recording in recordings:
         number = recording.gauge.number
         if recording.fault is not None:
@@ -72,7 +76,10 @@ def _meant_file(recording: Recording, recordings: Sequence[Recording]) -> str:
     except OSError:
         return f"; there is no folder {folder}"
     stem = pathlib.PurePath(file).stem
-    export = next((name for name in there if name.lower() in (f"{stem}.csv", f"{stem}.txt", f"{stem}.dat")), None)
+    export = next(
+        (name for name in there if name.lower() in (f"{stem}.csv", f"{stem}.txt", f"{stem}.dat")),
+        None,
+    )
     if export is not None:
         return f"; {export} is there: import it"
     used = {other.path for other in recordings if other.fault is None}
@@ -90,7 +97,8 @@ def _tell_other(
     """Tells where the recording is not the one that the store was made for."""
     name = recording.gauge.name
     if recording.id != kept.id:
-        text = f"{_front(recording)} has the id {recording.id.hex()}, but monitor.store was made for {kept.id.hex()}"
+        text = f"{_front(recording)} has the id {recording.id.hex()}"
+        text += f", but monitor.store was made for {kept.id.hex()}"
         if order:
             text += f"; {order}"
         else:
@@ -99,8 +107,9 @@ def _tell_other(
         findings.fault(_place(site, recording), text, RECORDING_STATUS, told)
     if recording.period != kept.period:
         text = (
-            f"{_front(recording)} has a period of {recording.period} µs, but monitor.store was made for"
-            f" {kept.period} µs; put that recording in its place, or {NEW_STORE}"
+            f"{_front(recording)} has a period of {recording.period} µs,"
+            f" but monitor.store was made for {kept.period} µs;"
+            f" put that recording in its place, or {NEW_STORE}"
         )
         told = f"recording {name}: period was {kept.period}, is {recording.period}"
         findings.fault(_place(site, recording), text, RECORDING_STATUS, told)
@@ -108,8 +117,8 @@ def _tell_other(
 
 def _tell_fewer(site: Site, recording: Recording, held: int, findings: Findings) -> None:
     text = (
-        f"{_front(recording)} has {recording.samples} samples, but {held} are held in monitor.store;"
-        " a recording may only grow: put the longer one back"
+        f"{_front(recording)} has {recording.samples} samples,"
+        f" but {held} are held in monitor.store; a recording may only grow: put the longer one back"
     )
     told = f"recording {recording.gauge.name}: {held} held, {recording.samples} there"
     findings.fault(_place(site, recording), text, RECORDING_STATUS, told)
@@ -118,11 +127,15 @@ def _tell_fewer(site: Site, recording: Recording, held: int, findings: Findings)
 def _tell_end(site: Site, recording: Recording, findings: Findings) -> None:
     name = recording.gauge.name
     if recording.samples > MAX_SAMPLES:
-        text = f"{_front(recording)} has {recording.samples} samples; allowed are {MAX_SAMPLES}: begin a new one"
-        findings.fault(_place(site, recording), text, TOO_LONG_STATUS, f"recording {name}: too long")
+        text = f"{_front(recording)} has {recording.samples} samples"
+        text += f"; allowed are {MAX_SAMPLES}: begin a new one"
+        findings.fault(
+            _place(site, recording), text, TOO_LONG_STATUS, f"recording {name}: too long"
+        )
     elif recording.odd_bytes:
         odd = recording.odd_bytes
-        text = f"{_front(recording)} ends with {odd} of the 4 bytes of a sample; wait until the rest is written"
+        text = f"{_front(recording)} ends with {odd} of the 4 bytes of a sample"
+        text += "; wait until the rest is written"
         told = f"recording {name}: ends in {odd} odd bytes"
         findings.fault(_place(site, recording), text, TORN_STATUS, told)
 
@@ -130,7 +143,7 @@ def _tell_end(site: Site, recording: Recording, findings: Findings) -> None:
 def warn_recordings(
     folder: pathlib.Path, site: Site, recordings: Sequence[Recording], findings: Findings
 ) -> None:
-    """Warns of what the program takes in silence: one file or id for two, odd periods, unused files."""
+    """Warns of one file or id for two gauges, odd periods, and files that no gauge counts."""
     sound = [recording for recording in recordings if recording.fault is None]
     _warn_shared(site, sound, findings)
     for recording in sound:
@@ -149,8 +162,9 @@ def _note_shorter(site: Site, recordings: Sequence[Recording], findings: Finding
         alike = [other for other in recordings if other.period == recording.period]
         longest = max(alike, key=lambda other: other.samples)
         if 0 < recording.samples * 10 <= longest.samples * 9:
-            text = f"{_front(recording)} has {recording.samples} samples, {longest.gauge.file} {longest.samples}"
-            findings.note(_place(site, recording), text)
+            text = f"{_front(recording)} has {recording.samples} samples"
+            other = f"{longest.gauge.file} {longest.samples}"
+            findings.note(_place(site, recording), f"{text}, {other}")
 
 
 def _warn_shared(site: Site, recordings: Sequence[Recording], findings: Findings) -> None:
@@ -166,8 +180,8 @@ def _warn_shared(site: Site, recordings: Sequence[Recording], findings: Findings
         other = ids.setdefault(recording.id, recording)
         if other is not recording:
             text = (
-                f"{_front(recording)} has the id {recording.id.hex()} of {other.gauge.title} ({other.gauge.file});"
-                " each recording has an id of its own"
+                f"{_front(recording)} has the id {recording.id.hex()} of {other.gauge.title}"
+                f" ({other.gauge.file}); each recording has an id of its own"
             )
             findings.warn(_place(site, recording), text)
 
@@ -179,7 +193,9 @@ def _warn_period(site: Site, recording: Recording, findings: Findings) -> None:
         findings.warn(_place(site, recording), f"{text}; 50000 µs are 20 samples a second")
     elif period < 100:
         hertz = f"{SECOND // period} µs ({period} samples a second) was probably meant"
-        findings.warn(_place(site, recording), f"{text}, {SECOND // period} samples a second; {hertz}")
+        findings.warn(
+            _place(site, recording), f"{text}, {SECOND // period} samples a second; {hertz}"
+        )
     elif period > SECOND:
         text += "; between samples more than a second apart vehicles pass unseen"
         findings.warn(_place(site, recording), text)

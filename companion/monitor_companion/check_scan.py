@@ -1,7 +1,7 @@
 """Reads the samples of a recording in pieces, and counts what a check has to know of them.
 
-Only `array` and built-in functions over whole pieces look at each sample, so a second reads some tens of
-megabytes. With a limit, pieces are taken evenly from the whole recording.
+Only `array` and built-in functions over whole pieces look at each sample, so some tens of megabytes
+are read a second. With a limit, pieces are taken evenly from the whole recording.
 """
 
 from __future__ import annotations
@@ -96,7 +96,7 @@ def scan(recording: Recording, grid: Grid | None, limit: int | None) -> Readings
 
 
 def _places(samples: int, limit: int | None) -> tuple[list[int], int]:
-    """Returns the first sample of each piece that is read, and the length of a piece, in samples."""
+    """Returns the first sample of each piece that is read, and a piece's length in samples."""
     length = PIECE_SAMPLES
     pieces = -(-samples // length)
     if limit is None or samples * SAMPLE_LENGTH <= limit:
@@ -139,7 +139,9 @@ def _count(readings: Readings, samples: array[int], limits: tuple[int, int], str
     readings._picked.extend(values[::stride])
 
 
-def _keep_ends(readings: Readings, values: array[int] | list[int], lowest: int, highest: int) -> None:
+def _keep_ends(
+    readings: Readings, values: array[int] | list[int], lowest: int, highest: int
+) -> None:
     if readings.lowest is None or lowest < readings.lowest:
         readings.lowest, readings.lowest_count = lowest, 0
     if lowest == readings.lowest:
@@ -194,7 +196,10 @@ def _repeated_end(content: mmap.mmap, first: int, end: int) -> int:
     if start < first:
         return 0
     needle = content[start:end]
-    if len({needle[at : at + SAMPLE_LENGTH] for at in range(0, len(needle), SAMPLE_LENGTH)}) < NEEDLE_VALUES:
+    if (
+        len({needle[at : at + SAMPLE_LENGTH] for at in range(0, len(needle), SAMPLE_LENGTH)})
+        < NEEDLE_VALUES
+    ):
         return 0
     for at in _earlier(content, needle, first, start):
         length = start - at
@@ -223,6 +228,9 @@ def _same(content: mmap.mmap, at: int, length: int) -> bool:
     step = 1 << 20
     for done in range(0, length, step):
         size = min(step, length - done)
-        if content[at + done : at + done + size] != content[at - length + done : at - length + done + size]:
+        if (
+            content[at + done : at + done + size]
+            != content[at - length + done : at - length + done + size]
+        ):
             return False
     return True

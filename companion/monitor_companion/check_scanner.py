@@ -1,8 +1,8 @@
 """Finds the lines of the keys of a TOML text, which `tomllib` doesn't tell.
 
-The scanner knows only where keys and values begin and end. What they mean is `tomllib`'s matter, and
-`check_toml` compares the keys that both found. On its way the scanner notes how the few forms that
-TOML 1.1 has and `tomllib` doesn't know are written in TOML 1.0.
+The scanner knows only where keys and values begin and end. What they mean is `tomllib`'s matter,
+and `check_toml` compares the keys that both found. On its way the scanner notes how the few forms
+that TOML 1.1 has and `tomllib` doesn't know are written in TOML 1.0.
 """
 
 from __future__ import annotations
@@ -62,7 +62,7 @@ def _older_escape(match: re.Match[str]) -> str:
 
 
 def _older_time(token: str) -> str:
-    """Returns a date or time with seconds, and without the year 0 and leap seconds, which Python lacks."""
+    """Returns a date or time with seconds, and without the year 0 and leap seconds."""
     token = _NO_SECONDS.sub(r"\1:00\2", token) if _NO_SECONDS.fullmatch(token) else token
     return re.sub(r"^0000-", "2000-", re.sub(r"(:\d\d):60", r"\1:59", token))
 

@@ -26,7 +26,7 @@ def load_store(folder: pathlib.Path, findings: Findings) -> Store | None:
 
 
 def order_of(store: StoreHead, site: Site, recordings: Sequence[Recording]) -> str:
-    """Returns what to do where the recordings are those of the store in another order, or nothing."""
+    """Returns what to do where the recordings are the store's in another order, or nothing."""
     kept = [gauge.id for gauge in store.gauges]
     sound = {recording.id: recording for recording in recordings if recording.fault is None}
     ids = [recording.id for recording in recordings if recording.fault is None]
@@ -35,7 +35,8 @@ def order_of(store: StoreHead, site: Site, recordings: Sequence[Recording]) -> s
     gains = [(gauge.num, gauge.den, gauge.offset) for gauge in site.gauges]
     if gains == [(gauge.num, gauge.den, gauge.offset) for gauge in store.gauges]:
         files = ", ".join(sound[id_].gauge.file for id_ in kept)
-        return f"put the gauges or their files in the order of the store again, by their files: {files}"
+        order = "put the gauges or their files in the order of the store again"
+        return f"{order}, by their files: {files}"
     names = ", ".join(f'"{sound[id_].gauge.name}"' for id_ in kept)
     return f"put the gauges in the order of the store again: {names}"
 
@@ -50,7 +51,9 @@ def check_store(
         findings.fault(place, text, STORE_STATUS, "store: not a store")
         return
     if store.unknown_version is not None:
-        text = f"is of version {store.unknown_version}; allowed are 1 and 2; is it of a later monitor?"
+        text = (
+            f"is of version {store.unknown_version}; allowed are 1 and 2; is it of a later monitor?"
+        )
         findings.fault(place, text, STORE_STATUS, f"store: version {store.unknown_version}")
         return
     _check_gauge_count(store, site, recordings, findings)
@@ -64,7 +67,8 @@ def check_store(
             _check_gain(head, gauge, site, order, findings)
     if store.damage is not None:
         damage = store.damage
-        text = f"body {damage.body} is damaged: {damage.why}; take the last copy of the store, and count on"
+        text = f"body {damage.body} is damaged: {damage.why}"
+        text += "; take the last copy of the store, and count on"
         findings.fault(place, text, STORE_STATUS, f"store: damaged at {damage.body}{damage.told}")
 
 
@@ -100,7 +104,8 @@ def _check_grid(head: StoreHead, site: Site, findings: Findings) -> None:
     }
     for key, (kept, now) in pairs.items():
         if kept != now:
-            text = f"[grid]: {key} = {now}, but {FILE_NAME} was made with {kept}; put {key} = {kept} back, or {NEW_STORE}"
+            text = f"[grid]: {key} = {now}, but {FILE_NAME} was made with {kept}"
+            text += f"; put {key} = {kept} back, or {NEW_STORE}"
             told = f"store: {key} was {kept}, is {now}"
             findings.fault(site.place(grid.lines.get(key)), text, STORE_STATUS, told)
 
@@ -115,7 +120,8 @@ def _check_gain(head: StoreHead, gauge: Gauge, site: Site, order: str, findings:
     for key, (kept, now) in pairs.items():
         if kept == now:
             continue
-        text = f"{gauge.title}: {key} = {now}, but {FILE_NAME} was made with {kept} for its gauge {gauge.number}"
+        text = f"{gauge.title}: {key} = {now}, but {FILE_NAME} was made with {kept}"
+        text += f" for its gauge {gauge.number}"
         if order:
             text += f"; {order}"
         else:

@@ -1,4 +1,4 @@
-"""Reads a TOML file with the line of each key, as the program `monitor` reads it: TOML 1.1, UTF-8."""
+"""Reads a TOML file with the line of each key, as the program reads it: TOML 1.1, UTF-8."""
 
 from __future__ import annotations
 
@@ -113,7 +113,7 @@ def probable(what: str, lines: list[str], line: int) -> str:
     if "\r" in text.rstrip("\r"):
         return "its lines end in a carriage return alone: save the file with line feeds"
     if re.search("[“”„‘’«»]", text):
-        return "texts stand in straight quotes: \""
+        return 'texts stand in straight quotes: "'
     if "overwrite a value" in what or "twice" in what:
         return _probable_double(text, lines, line)
     if text.lstrip().startswith((";", "//")):
@@ -146,8 +146,8 @@ def _probable_double(text: str, lines: list[str], line: int) -> str:
     header = re.match(r"\s*\[+\s*(gauge|detail)\s*\]", text)
     if header is not None:
         single = re.compile(rf"\s*\[\s*{header[1]}\s*\]")
-        first = next(number for number, line in enumerate(lines, start=1) if single.match(line))
-        return f"[[{header[1]}]] was probably meant in line {first}"
+        places = [number for number, line in enumerate(lines, start=1) if single.match(line)]
+        return f"[[{header[1]}]] was probably meant in line {places[0]}" if places else ""
     pair = _PAIR.match(text)
     for earlier in range(line - 1, 0, -1):
         if pair is None or lines[earlier - 1].lstrip().startswith("["):
@@ -159,7 +159,7 @@ def _probable_double(text: str, lines: list[str], line: int) -> str:
 
 
 def joined(value: object, mark: Mark) -> Node | None:
-    """Returns the value with the lines of the marks, or None where the two have other keys or items."""
+    """Returns the value with the lines of the marks, or None where keys or items differ."""
     node = Node(value, mark.line)
     if isinstance(value, dict):
         if set(value) != set(mark.members) or mark.items:

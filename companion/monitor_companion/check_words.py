@@ -17,25 +17,66 @@ ARRAYS = ("gauge", "detail")
 # Other words for a key, as people write them.
 _OTHER_WORDS = {
     "grid": {
-        "bins": "classes", "levels": "classes", "number": "classes", "step": "width",
-        "class_width": "width", "lower": "low", "min": "low", "minimum": "low", "start": "low",
-        "ref": "reference", "boundary": "reference", "zero": "reference",
+        "bins": "classes",
+        "levels": "classes",
+        "number": "classes",
+        "step": "width",
+        "class_width": "width",
+        "lower": "low",
+        "min": "low",
+        "minimum": "low",
+        "start": "low",
+        "ref": "reference",
+        "boundary": "reference",
+        "zero": "reference",
     },
-    "count": {"threads": "workers", "jobs": "workers", "cpus": "workers", "size": "block", "samples": "block"},
+    "count": {
+        "threads": "workers",
+        "jobs": "workers",
+        "cpus": "workers",
+        "size": "block",
+        "samples": "block",
+    },
     "gauge": {
-        "label": "name", "path": "file", "filename": "file", "recording": "file", "gain": "num",
-        "factor": "num", "scale": "num", "numerator": "num", "nom": "num", "denominator": "den",
-        "divisor": "den", "denom": "den", "zero": "offset", "shift": "offset",
+        "label": "name",
+        "path": "file",
+        "filename": "file",
+        "recording": "file",
+        "gain": "num",
+        "factor": "num",
+        "scale": "num",
+        "numerator": "num",
+        "nom": "num",
+        "denominator": "den",
+        "divisor": "den",
+        "denom": "den",
+        "zero": "offset",
+        "shift": "offset",
     },
     "detail": {
-        "label": "name", "sensor": "gauge", "channel": "gauge", "stress": "kind", "type": "kind",
-        "class": "category", "cat": "category", "fat": "category", "factor": "gamma",
-        "partial_factor": "gamma", "safety": "gamma", "gamma_mf": "gamma",
+        "label": "name",
+        "sensor": "gauge",
+        "channel": "gauge",
+        "stress": "kind",
+        "type": "kind",
+        "class": "category",
+        "cat": "category",
+        "fat": "category",
+        "factor": "gamma",
+        "partial_factor": "gamma",
+        "safety": "gamma",
+        "gamma_mf": "gamma",
     },
 }
 _KINDS = {
-    "sigma": "normal", "axial": "normal", "bending": "normal", "direct": "normal", "tension": "normal",
-    "compression": "normal", "tau": "shear", "torsion": "shear",
+    "sigma": "normal",
+    "axial": "normal",
+    "bending": "normal",
+    "direct": "normal",
+    "tension": "normal",
+    "compression": "normal",
+    "tau": "shear",
+    "torsion": "shear",
 }
 
 
@@ -81,7 +122,12 @@ def meant_part(word: str) -> str | None:
     for other, keys in KEYS.items():
         if word.lower() in keys:
             return f"{word.lower()} of {header(other)}"
-    plain = {"classes": "[grid]", "sensor": "[[gauge]]", "channel": "[[gauge]]", "weld": "[[detail]]"}
+    plain = {
+        "classes": "[grid]",
+        "sensor": "[[gauge]]",
+        "channel": "[[gauge]]",
+        "weld": "[[detail]]",
+    }
     near = nearest(word, plain)
     return plain[near] if near is not None else None
 

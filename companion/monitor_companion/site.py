@@ -1,6 +1,6 @@
-"""The configuration of a site, `monitor.toml`, by all rules of the program, with the lines of its keys.
+"""The configuration of a site, `monitor.toml`, by all rules of the program, with its keys' lines.
 
-The faults stand in the order in which the program looks for them, so the first one is what it tells.
+The faults stand in the order in which the program looks for them, so the first is what it tells.
 """
 
 from __future__ import annotations
@@ -31,7 +31,7 @@ FACTORS = (100, 115, 135)
 
 @dataclass(frozen=True)
 class Grid:
-    """The stress classes: `width` in steps of 500 kPa, `low` in kPa, `reference` a boundary's number."""
+    """The stress classes: `width` in steps of 500 kPa, `low` in kPa, `reference` a boundary."""
 
     classes: int
     width: int
@@ -138,8 +138,15 @@ def check_site(folder: pathlib.Path, findings: Findings) -> Site | None:
     details = _details(root, gauge_names)
     _tell_unknown(root)
     return Site(
-        path, grid, block, workers, tuple(gauges), tuple(details), _lines(node.members.get("count")),
-        _tables(node, "gauge"), _tables(node, "detail"),
+        path,
+        grid,
+        block,
+        workers,
+        tuple(gauges),
+        tuple(details),
+        _lines(node.members.get("count")),
+        _tables(node, "gauge"),
+        _tables(node, "detail"),
     )
 
 
@@ -259,7 +266,11 @@ def _several(root: Part, name: str, least: int, most: int) -> Iterator[tuple[int
     for number, node in enumerate(_items(root, name, least, most)):
         if isinstance(node.value, dict):
             own = node.value.get("name")
-            title = f"{name} {number} {hints.shown(own)}" if isinstance(own, str) else f"{name} {number}"
+            title = (
+                f"{name} {number} {hints.shown(own)}"
+                if isinstance(own, str)
+                else f"{name} {number}"
+            )
             yield number, Part(title, f"{name} {number}", node, root.file, root.findings)
         else:
             text = f"{name} {number} is {hints.kind_of(node.value)}; a table belongs here"
@@ -275,7 +286,9 @@ def _gauges(root: Part) -> tuple[list[Gauge], dict[str, tuple[int, int | None]]]
         file = part.file_name("file")
         num = part.whole("num", -MAX_NUM, MAX_NUM)
         den = part.whole("den", 1, MAX_DEN, 1)
-        offset = part.whole("offset", -MAX_KPA, MAX_KPA, 0, meant=lambda value: hints.meant_kpa("offset", value))
+        offset = part.whole(
+            "offset", -MAX_KPA, MAX_KPA, 0, meant=lambda value: hints.meant_kpa("offset", value)
+        )
         if name is not None:
             name = part.unless_taken(name, number, names)
         if name is None or file is None or num is None or den is None or offset is None:
@@ -294,7 +307,11 @@ def _details(root: Part, gauges: Mapping[str, tuple[int, int | None]]) -> list[D
         category = part.category(kind, CATEGORIES)
         gamma = part.choice("gamma", FACTORS, meant=lambda value: hints.meant_gamma(value, FACTORS))
         # Where a gauge's own name is wrong, that is the fault, and its details are right.
-        if gauge is not None and gauge not in gauges and 0 < len(gauges) == _tables(root.node, "gauge"):
+        if (
+            gauge is not None
+            and gauge not in gauges
+            and 0 < len(gauges) == _tables(root.node, "gauge")
+        ):
             part.tell_no_gauge(number, gauge, gauges)
         if name is not None:
             name = part.unless_taken(name, number, names)

@@ -51,7 +51,9 @@ class Part:
             tail += " was probably meant"
         line = f"config: {what} {self.told} {key}"
         place = Place(self.file, self._line(key))
-        self.findings.fault(place, f"{self.title}: {text}; allowed is {allowed}{tail}", CONFIG_STATUS, line)
+        self.findings.fault(
+            place, f"{self.title}: {text}; allowed is {allowed}{tail}", CONFIG_STATUS, line
+        )
 
     def _missing(self, key: str, allowed: str) -> None:
         part = self.told.split(" ")[0]
@@ -81,7 +83,9 @@ class Part:
         text = f"{key} = {hints.shown(value)}"
         if not isinstance(value, int) or isinstance(value, bool):
             kind = hints.kind_of(value)
-            self._tell("wrong kind", key, f"{text} is {kind}", allowed, hints.meant_number(key, value))
+            self._tell(
+                "wrong kind", key, f"{text} is {kind}", allowed, hints.meant_number(key, value)
+            )
             return None
         if not low <= value <= high:
             self._tell("out of range", key, f"{text} is out of range", allowed, meant(value))
@@ -101,7 +105,9 @@ class Part:
         text = f"{key} = {hints.shown(value)}"
         if not isinstance(value, int) or isinstance(value, bool):
             kind = hints.kind_of(value)
-            self._tell("wrong kind", key, f"{text} is {kind}", allowed, hints.meant_number(key, value))
+            self._tell(
+                "wrong kind", key, f"{text} is {kind}", allowed, hints.meant_number(key, value)
+            )
             return None
         if value not in numbers:
             self._tell("out of range", key, f"{text} is none of them", allowed, meant(value))
@@ -150,7 +156,9 @@ class Part:
             return None
         length = len(value.encode())
         if not 1 <= length <= MAX_FILE_NAME:
-            self._tell("out of range", key, f"{key} = {hints.shown(value)} has {length} bytes", allowed)
+            self._tell(
+                "out of range", key, f"{key} = {hints.shown(value)} has {length} bytes", allowed
+            )
             return None
         return value
 
@@ -162,13 +170,17 @@ class Part:
             return value
         near = words.meant_kind(value)
         meant = f'kind = "{near}"' if near is not None else ""
-        self._tell("out of range", "kind", f"kind = {hints.shown(value)} is no kind", allowed, meant)
+        self._tell(
+            "out of range", "kind", f"kind = {hints.shown(value)} is no kind", allowed, meant
+        )
         return None
 
     def category(self, kind: str | None, categories: Mapping[str, Sequence[int]]) -> int | None:
         """Returns the category of this kind, or None after a fault."""
         if kind is None:
-            union = sorted({number for each in categories.values() for number in each}, reverse=True)
+            union = sorted(
+                {number for each in categories.values() for number in each}, reverse=True
+            )
             return self.choice("category", union)
         own = categories[kind]
 
@@ -203,7 +215,8 @@ class Part:
         near = words.nearest(gauge, gauges)
         tail = f'; gauge = "{near}" was probably meant' if near is not None else ""
         known = " ".join(f'"{name}"' for name in gauges) or "none"
-        text = f"{self.title}: gauge = {hints.shown(gauge)} is no gauge; allowed is one of {known}{tail}"
+        text = f"{self.title}: gauge = {hints.shown(gauge)} is no gauge"
+        text += f"; allowed is one of {known}{tail}"
         place = Place(self.file, self._line("gauge"))
         self.findings.fault(place, text, CONFIG_STATUS, f"config: no such gauge, detail {number}")
 

@@ -1,7 +1,7 @@
 """The store of a site: its head, and how many samples its bodies hold.
 
-Bodies are walked by their lengths, and their digests are compared. What stands in the lists of a body
-isn't read: a body whose digest is right was written by the program.
+Bodies are walked by their lengths, and their digests are compared. What stands in the lists of a
+body isn't read: a body whose digest is right was written by the program.
 """
 
 from __future__ import annotations
@@ -176,7 +176,9 @@ def _add(store: Store, body: bytes) -> Damage | None:
         return Damage(at, "it has no samples")
     held = store.held[gauge]
     if start != held.samples:
-        return Damage(at, f"it begins at sample {start} of gauge {gauge}, of which {held.samples} are held")
+        return Damage(
+            at, f"it begins at sample {start} of gauge {gauge}, of which {held.samples} are held"
+        )
     held.samples = end
     held.used += used
     held.missing += missing

@@ -1,10 +1,12 @@
-"""A sound site that the tests of `check` spoil: two gauges, a detail on each, by docs/FORMATS.md."""
+"""A sound site that the tests of `check` spoil: two gauges with a detail each."""
 
 from __future__ import annotations
 
 import hashlib
 import pathlib
 import struct
+import tempfile
+import unittest
 from collections.abc import Sequence
 
 from monitor_companion.check_command import check_folder
@@ -97,3 +99,36 @@ def make(folder: pathlib.Path, configuration: str | bytes = CONFIGURATION) -> No
 def lines(folder: pathlib.Path) -> list[str]:
     """What a check finds in a folder, without the folder's name."""
     return [str(found).replace(f"{folder}/", "") for found in check_folder(folder).findings]
+
+
+class SiteCase(unittest.TestCase):
+    """A sound site in a folder of its own."""
+
+    def setUp(self) -> None:
+        room = tempfile.TemporaryDirectory()
+        self.addCleanup(room.cleanup)
+        self.folder = pathlib.Path(room.name)
+        make(self.folder)
+        self.span = self.folder / "span2.sgrc"
+        self.store = self.folder / "monitor.store"
+
+    def put(self, values: Sequence[int]) -> None:
+        """Puts these readings in the first recording, and as many sound ones in the second."""
+        self.span.write_bytes(recording(values, 1))
+        pier = recording(noise(2, len(values), -600, 600), 2)
+        (self.folder / "pier3.sgrc").write_bytes(pier)
+
+    def change(self, *edits: tuple[str, str]) -> None:
+        text = CONFIGURATION
+        for old, new in edits:
+            self.assertIn(old, text)
+            text = text.replace(old, new, 1)
+        (self.folder / "monitor.toml").write_text(text)
+
+    def finds(self, *due: str) -> None:
+        self.assertEqual(lines(self.folder), list(due))
+
+    def verdict(self, status: int, line: str) -> None:
+        told = check_folder(self.folder).findings.verdict
+        assert told is not None
+        self.assertEqual((told.status, told.line), (status, line))

@@ -101,12 +101,22 @@ class Configurations(unittest.TestCase):
 
     def test_bytes_that_are_no_text(self) -> None:
         cases: tuple[tuple[bytes, list[str]], ...] = (
-            (sites.CONFIGURATION.replace("span-2", "br\xfccke").encode("latin-1"),
-             ["monitor.toml:12: fault: no TOML: byte fc is no UTF-8; the file is probably Latin-1: save it as UTF-8"]),
-            (sites.CONFIGURATION.encode("utf-16"),
-             ["monitor.toml:1: fault: no TOML: byte ff is no UTF-8; the file is probably UTF-16: save it as UTF-8"]),
-            (sites.CONFIGURATION.encode() + b"#" * 65536,
-             ["monitor.toml: fault: has 66048 bytes; allowed are 65536"]),
+            (
+                sites.CONFIGURATION.replace("span-2", "br\xfccke").encode("latin-1"),
+                [
+                    "monitor.toml:12: fault: no TOML: byte fc is no UTF-8; the file is probably Latin-1: save it as UTF-8"
+                ],
+            ),
+            (
+                sites.CONFIGURATION.encode("utf-16"),
+                [
+                    "monitor.toml:1: fault: no TOML: byte ff is no UTF-8; the file is probably UTF-16: save it as UTF-8"
+                ],
+            ),
+            (
+                sites.CONFIGURATION.encode() + b"#" * 65536,
+                ["monitor.toml: fault: has 66048 bytes; allowed are 65536"],
+            ),
             (b"\xef\xbb\xbf" + sites.CONFIGURATION.encode().replace(b"\n", b"\r\n"), []),
         )
         for content, found in cases:
@@ -121,8 +131,16 @@ class Configurations(unittest.TestCase):
         gauge = '[[gauge]]\nname = "g{0}"\nfile = "span2.sgrc"\nnum = 210\n'
         detail = '[[detail]]\nname = "d{0}"\ngauge = "span-2"\nkind = "normal"\ncategory = 71\ngamma = 115\n'
         for part, count, found in (
-            (gauge, 31, "monitor.toml:11: fault: there are 33 gauges; allowed are 1 to 32; part the site in two folders"),
-            (detail, 63, "monitor.toml:23: fault: there are 65 details; allowed are 0 to 64; part the site in two folders"),
+            (
+                gauge,
+                31,
+                "monitor.toml:11: fault: there are 33 gauges; allowed are 1 to 32; part the site in two folders",
+            ),
+            (
+                detail,
+                63,
+                "monitor.toml:23: fault: there are 65 details; allowed are 0 to 64; part the site in two folders",
+            ),
         ):
             with self.subTest(found), tempfile.TemporaryDirectory() as name:
                 folder = pathlib.Path(name)
@@ -133,9 +151,14 @@ class Configurations(unittest.TestCase):
     def test_no_configuration(self) -> None:
         with tempfile.TemporaryDirectory() as name:
             folder = pathlib.Path(name)
-            self.assertEqual(sites.lines(folder), ["monitor.toml: fault: can't be read: No such file or directory"])
+            self.assertEqual(
+                sites.lines(folder),
+                ["monitor.toml: fault: can't be read: No such file or directory"],
+            )
             (folder / "monitor.toml").mkdir()
-            self.assertEqual(sites.lines(folder), ["monitor.toml: fault: can't be read: Is a directory"])
+            self.assertEqual(
+                sites.lines(folder), ["monitor.toml: fault: can't be read: Is a directory"]
+            )
 
     def test_a_site_is_read_or_refused(self) -> None:
         with tempfile.TemporaryDirectory() as name:
@@ -143,10 +166,14 @@ class Configurations(unittest.TestCase):
             sites.make(folder)
             site = read_site(folder)
             assert site.grid is not None
-            self.assertEqual((site.grid.top, site.grid.level(-1), site.gauges[0].stress(-3)), (64000, 63, -630))
+            self.assertEqual(
+                (site.grid.top, site.grid.level(-1), site.gauges[0].stress(-3)), (64000, 63, -630)
+            )
             self.assertEqual([detail.gauge for detail in site.details], [0, 1])
             sites.make(folder, sites.CONFIGURATION.replace("den = 1", "den = 0"))
-            with self.assertRaisesRegex(Refusal, r"monitor\.toml:20: gauge 1 \"pier-3\": den = 0 is out of range"):
+            with self.assertRaisesRegex(
+                Refusal, r"monitor\.toml:20: gauge 1 \"pier-3\": den = 0 is out of range"
+            ):
                 read_site(folder)
 
 
@@ -172,7 +199,9 @@ class Words(unittest.TestCase):
                 sites.make(folder, sites.CONFIGURATION.replace(old, new, 1))
                 found, lines = self.run_check("--site", name)
                 self.assertEqual((found, lines[-1]), (status, last))
-            self.assertEqual(lines[-2], "monitor would end with status 2: config: out of range gauge 1 den")
+            self.assertEqual(
+                lines[-2], "monitor would end with status 2: config: out of range gauge 1 den"
+            )
 
     def test_what_was_read_is_told(self) -> None:
         with tempfile.TemporaryDirectory() as name:
@@ -180,7 +209,9 @@ class Words(unittest.TestCase):
             sites.make(folder)
             values = [sites.MISSING] * 3 + [1000] * 2 + list(range(-10, 11)) * 5
             (folder / "span2.sgrc").write_bytes(sites.recording(values, 1))
-            (folder / "pier3.sgrc").write_bytes(sites.recording(sites.noise(2, len(values), -600, 600), 2))
+            (folder / "pier3.sgrc").write_bytes(
+                sites.recording(sites.noise(2, len(values), -600, 600), 2)
+            )
             status, lines = self.run_check("--site", name, "--refused", "10", "--missing", "10%")
             self.assertEqual(status, Status.DONE)
             self.assertEqual(
@@ -193,7 +224,12 @@ class Words(unittest.TestCase):
             )
 
     def test_words_that_are_refused(self) -> None:
-        for words in (("--limit", "0"), ("--limit", "x"), ("--refused", "101"), ("--missing", "nan")):
+        for words in (
+            ("--limit", "0"),
+            ("--limit", "x"),
+            ("--refused", "101"),
+            ("--missing", "nan"),
+        ):
             with self.subTest(words), contextlib.redirect_stderr(io.StringIO()) as told:
                 with self.assertRaises(SystemExit):
                     self.run_check(*words)
@@ -208,7 +244,9 @@ class Examples(unittest.TestCase):
     def test_bridge(self) -> None:
         with tempfile.TemporaryDirectory() as name:
             folder = pathlib.Path(name) / "bridge"
-            shutil.copytree(EXAMPLES / "bridge", folder, ignore=shutil.ignore_patterns("monitor.store"))
+            shutil.copytree(
+                EXAMPLES / "bridge", folder, ignore=shutil.ignore_patterns("monitor.store")
+            )
             self.assertEqual(sites.lines(folder), [])
             self.assertEqual(run(folder, "init").returncode, 0)
             self.assertEqual(run(folder, "count").returncode, 0)
@@ -216,7 +254,9 @@ class Examples(unittest.TestCase):
             self.assertEqual([str(finding) for finding in checked.findings], [])
             assert checked.store is not None
             self.assertEqual([held.samples for held in checked.store.held], [12000] * 3)
-            self.assertEqual([(held.missing, held.refused) for held in checked.store.held], [(7, 1)] * 3)
+            self.assertEqual(
+                [(held.missing, held.refused) for held in checked.store.held], [(7, 1)] * 3
+            )
 
     def test_logger(self) -> None:
         with tempfile.TemporaryDirectory() as name:

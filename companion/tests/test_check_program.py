@@ -56,18 +56,106 @@ category = 80
 gamma = 100
 """
 VALUES = (
-    "0", "1", "2", "-1", "3", "1024", "1025", "2000", "2001", "4096", "4097", "8", "9", "15", "16", "71", "100",
-    "115", "135", "65535", "65536", "1000000", "1000001", "1000000000", "1000000001", "-1000000000",
-    "-1000000001", "9223372036854775807", "9223372036854775808", "1.0", "1e3", "1e400", "inf", "-nan", "true",
-    '"1"', '"north"', '"normal"', '"shear"', '"a.b"', '""', "''", '"""x\ny"""', "[]", "[1]", "{}", "{ a = 1 }",
-    "1979-05-27", "07:32", "0000-01-01", "0x10", "0b1", "1_000", "01", "north", '"\\x41\\e"', '"\\q"',
-    '"' + "n" * 32 + '"', '"' + "n" * 33 + '"', '"' + "ü" * 128 + '"', '"' + "f" * 255 + '"', "{ a = 1,\n b = 2,\n}",
+    "0",
+    "1",
+    "2",
+    "-1",
+    "3",
+    "1024",
+    "1025",
+    "2000",
+    "2001",
+    "4096",
+    "4097",
+    "8",
+    "9",
+    "15",
+    "16",
+    "71",
+    "100",
+    "115",
+    "135",
+    "65535",
+    "65536",
+    "1000000",
+    "1000001",
+    "1000000000",
+    "1000000001",
+    "-1000000000",
+    "-1000000001",
+    "9223372036854775807",
+    "9223372036854775808",
+    "1.0",
+    "1e3",
+    "1e400",
+    "inf",
+    "-nan",
+    "true",
+    '"1"',
+    '"north"',
+    '"normal"',
+    '"shear"',
+    '"a.b"',
+    '""',
+    "''",
+    '"""x\ny"""',
+    "[]",
+    "[1]",
+    "{}",
+    "{ a = 1 }",
+    "1979-05-27",
+    "07:32",
+    "0000-01-01",
+    "0x10",
+    "0b1",
+    "1_000",
+    "01",
+    "north",
+    '"\\x41\\e"',
+    '"\\q"',
+    '"' + "n" * 32 + '"',
+    '"' + "n" * 33 + '"',
+    '"' + "ü" * 128 + '"',
+    '"' + "f" * 255 + '"',
+    "{ a = 1,\n b = 2,\n}",
 )
-SOUND_VALUES = tuple(value for value in VALUES if value not in ("9223372036854775808", "1e400", "01", "north", '"\\q"'))
-KEYS = ("classes", "width", "low", "name", "file", "num", "offset", "gauge", "kind", "category", "gamma", "extra")
+SOUND_VALUES = tuple(
+    value
+    for value in VALUES
+    if value not in ("9223372036854775808", "1e400", "01", "north", '"\\q"')
+)
+KEYS = (
+    "classes",
+    "width",
+    "low",
+    "name",
+    "file",
+    "num",
+    "offset",
+    "gauge",
+    "kind",
+    "category",
+    "gamma",
+    "extra",
+)
 HEADERS = (
-    "[grid]", "[[grid]]", "[gauge]", "[[gauge]]", "[detail]", "[[detail]]", "[[details]]", "[count]", "[gauge.more]",
-    "[grid.low]", "gauge = []", "gauge = [1]", "detail = []", "detail = [{}]", "count = 1", "[ grid ]", '["grid"]',
+    "[grid]",
+    "[[grid]]",
+    "[gauge]",
+    "[[gauge]]",
+    "[detail]",
+    "[[detail]]",
+    "[[details]]",
+    "[count]",
+    "[gauge.more]",
+    "[grid.low]",
+    "gauge = []",
+    "gauge = [1]",
+    "detail = []",
+    "detail = [{}]",
+    "count = 1",
+    "[ grid ]",
+    '["grid"]',
 )
 
 
@@ -77,38 +165,56 @@ def recording(values: list[int], number: int) -> bytes:
     return head + struct.pack(f"<{len(values)}i", *values)
 
 
+def break_line(rng: random.Random, lines: list[str]) -> None:
+    """Makes one mistake in a line."""
+    place = rng.randrange(len(lines))
+    line = lines[place]
+    mistake = rng.randrange(9)
+    if mistake <= 3 and " = " in line:
+        lines[place] = line.split(" = ")[0] + " = " + rng.choice(VALUES)
+    elif mistake == 4:
+        del lines[place]
+    elif mistake == 5:
+        lines.insert(place, rng.choice(lines))
+    elif mistake == 6 and " = " in line:
+        lines[place] = rng.choice(KEYS) + " = " + line.split(" = ")[1]
+    elif mistake == 7:
+        lines[place] = rng.choice(HEADERS)
+    elif mistake == 8:
+        at = rng.randint(0, len(line))
+        lines[place] = line[:at] + rng.choice("\"'[]{}=,#.\\ \t;x7ü\r") + line[at:]
+
+
+def move_table(rng: random.Random, lines: list[str]) -> None:
+    """Takes a table away, and mostly puts it at the end, once or more often."""
+    starts = [at for at, line in enumerate(lines) if line.startswith("[")]
+    if starts:
+        number = rng.randrange(len(starts))
+        table = slice(starts[number], [*starts, len(lines)][number + 1])
+        moved = lines[table]
+        del lines[table]
+        lines += moved * rng.choice((0, 1, 1, 2, 40))
+
+
+def other_values(rng: random.Random) -> bytes:
+    """The configuration with other values that are TOML."""
+    lines = BASE.split("\n")
+    for _ in range(rng.randint(1, 3)):
+        place = rng.choice([at for at, line in enumerate(lines) if " = " in line])
+        lines[place] = lines[place].split(" = ")[0] + " = " + rng.choice(SOUND_VALUES)
+    return "\n".join(lines).encode()
+
+
 def broken_text(rng: random.Random) -> bytes:
     """The configuration after some mistakes."""
-    lines = BASE.split("\n")
     if rng.random() < 0.4:
-        # sound TOML with other values alone
-        for _ in range(rng.randint(1, 3)):
-            place = rng.choice([at for at, line in enumerate(lines) if " = " in line])
-            lines[place] = lines[place].split(" = ")[0] + " = " + rng.choice(SOUND_VALUES)
-        return "\n".join(lines).encode()
+        return other_values(rng)
+    lines = BASE.split("\n")
     for _ in range(rng.choice((0, 1, 1, 1, 2, 3))):
-        place = rng.randrange(len(lines))
-        mistake = rng.randrange(10)
-        if mistake <= 3 and " = " in lines[place]:
-            lines[place] = lines[place].split(" = ")[0] + " = " + rng.choice(VALUES)
-        elif mistake == 4:
-            del lines[place]
-        elif mistake == 5:
-            lines.insert(place, rng.choice(lines))
-        elif mistake == 6 and " = " in lines[place]:
-            lines[place] = rng.choice(KEYS) + " = " + lines[place].split(" = ")[1]
-        elif mistake == 7:
-            lines[place] = rng.choice(HEADERS)
-        elif mistake == 8:
-            at = rng.randint(0, len(lines[place]))
-            lines[place] = lines[place][:at] + rng.choice("\"'[]{}=,#.\\ \t;x7ü\r") + lines[place][at:]
-        elif mistake == 9:
-            first = rng.choice([i for i, line in enumerate(lines) if line.startswith("[")] or [0])
-            end = next((i for i in range(first + 1, len(lines)) if lines[i].startswith("[")), len(lines))
-            table = lines[first:end]
-            del lines[first:end]
-            if rng.random() < 0.7:
-                lines += table * rng.choice((1, 2, 40))
+        if rng.random() < 0.1:
+            move_table(rng, lines)
+        else:
+            break_line(rng, lines)
     text = rng.choice(("\n", "\n", "\n", "\r\n")).join(lines)
     content = rng.choice(("", "", "", "\ufeff")).encode() + text.encode()
     if rng.random() < 0.03:
@@ -179,7 +285,10 @@ class AgreesWithTheProgram(unittest.TestCase):
             if done.returncode != 0:
                 return done.returncode, done.stderr.decode().splitlines()[-1]
         done = run(folder, "count")
-        return done.returncode, "" if done.returncode == 0 else done.stderr.decode().splitlines()[-1]
+        return (
+            done.returncode,
+            "" if done.returncode == 0 else done.stderr.decode().splitlines()[-1],
+        )
 
 
 if __name__ == "__main__":

@@ -40,20 +40,38 @@ class Limits(unittest.TestCase):
         for _ in range(3000):
             classes = rng.choice((2, 3, 16, 128))
             grid = Grid(classes, rng.randint(1, 15), rng.randint(-100000, 100000), 1)
-            num = rng.choice((0, 1, -1, 7, -7, 210, -1000, 1000000, rng.randint(-10**9, 10**9)))
-            gauge = Gauge(0, "g", "f", num, rng.choice((1, 7, 1000, 10**6)), rng.randint(-100000, 100000))
+            num = rng.choice(
+                (0, 1, -1, 7, -7, 210, -1000, 1000000, rng.randint(-(10**9), 10**9))
+            )
+            gauge = Gauge(
+                0, "g", "f", num, rng.choice((1, 7, 1000, 10**6)), rng.randint(-100000, 100000)
+            )
             least, greatest = raw_limits(grid, gauge)
-            tried = {least - 1, least, least + 1, greatest - 1, greatest, greatest + 1, 0, GREATEST, MISSING + 1}
+            tried = {
+                least - 1,
+                least,
+                least + 1,
+                greatest - 1,
+                greatest,
+                greatest + 1,
+                0,
+                GREATEST,
+                MISSING + 1,
+            }
             tried |= {rng.randint(MISSING + 1, GREATEST) for _ in range(3)}
             for raw in tried:
                 if MISSING < raw <= GREATEST:
-                    self.assertEqual(least <= raw <= greatest, has_class(grid, gauge, raw), (grid, gauge, raw))
+                    self.assertEqual(
+                        least <= raw <= greatest, has_class(grid, gauge, raw), (grid, gauge, raw)
+                    )
 
 
 class Scans(unittest.TestCase):
     """The readings of a recording."""
 
-    def scanned(self, values: Sequence[int], limit: int | None = None, grid: Grid | None = GRID) -> Readings:
+    def scanned(
+        self, values: Sequence[int], limit: int | None = None, grid: Grid | None = GRID
+    ) -> Readings:
         with tempfile.TemporaryDirectory() as name:
             path = pathlib.Path(name) / "g.sgrc"
             path.write_bytes(recording(values, 1))
@@ -63,18 +81,25 @@ class Scans(unittest.TestCase):
         rng = random.Random(5)
         for _ in range(60):
             count = rng.choice((1, 2, 50, 1000, 5000))
-            values = [rng.choice((rng.randint(-400, 400), rng.randint(-400, 400), MISSING)) for _ in range(count)]
+            values = [
+                rng.choice((rng.randint(-400, 400), rng.randint(-400, 400), MISSING))
+                for _ in range(count)
+            ]
             with mock.patch.object(check_scan, "PIECE_SAMPLES", rng.choice((1, 7, 1000, 100000))):
                 found = self.scanned(values)
             valid = [value for value in values if value != MISSING]
-            self.assertEqual((found.samples, found.read, found.missing), (count, count, count - len(valid)))
+            self.assertEqual(
+                (found.samples, found.read, found.missing), (count, count, count - len(valid))
+            )
             if not valid:
                 self.assertEqual((found.lowest, found.highest, found.rest), (None, None, None))
                 continue
             self.assertEqual((found.lowest, found.highest), (min(valid), max(valid)))
             self.assertEqual(found.lowest_count, valid.count(min(valid)))
             self.assertEqual(found.highest_count, valid.count(max(valid)))
-            self.assertEqual(found.refused, sum(not has_class(GRID, GAUGE, value) for value in valid))
+            self.assertEqual(
+                found.refused, sum(not has_class(GRID, GAUGE, value) for value in valid)
+            )
             self.assertEqual(found.below, sum(value * 210 < -64000 for value in valid))
             self.assertEqual(found.rest, statistics.median_low(valid))
 
@@ -119,20 +144,40 @@ class Numbers(unittest.TestCase):
     """Shares, stresses and classes as they are told."""
 
     def test_percent(self) -> None:
-        for part, whole, due in ((0, 9, "0 %"), (1, 12000, "0.0083 %"), (7, 12000, "0.058 %"), (1, 1, "100 %"),
-                                 (1, 3, "33 %"), (1, 40, "2.5 %"), (999, 1000, "99 %"), (1, 10**9, "0.0000001 %")):
+        for part, whole, due in (
+            (0, 9, "0 %"),
+            (1, 12000, "0.0083 %"),
+            (7, 12000, "0.058 %"),
+            (1, 1, "100 %"),
+            (1, 3, "33 %"),
+            (1, 40, "2.5 %"),
+            (999, 1000, "99 %"),
+            (1, 10**9, "0.0000001 %"),
+        ):
             self.assertEqual(percent(part, whole), due)
 
     def test_stresses(self) -> None:
-        for kpa, due in ((0, "0"), (-64000, "-64"), (-64, "-0.064"), (1, "0.001"), (350, "0.35"), (-1500, "-1.5")):
+        for kpa, due in (
+            (0, "0"),
+            (-64000, "-64"),
+            (-64, "-0.064"),
+            (1, "0.001"),
+            (350, "0.35"),
+            (-1500, "-1.5"),
+        ):
             self.assertEqual(n_mm2(kpa), due)
 
     def test_cut_off_limits(self) -> None:
         """The table of docs/RULES.md, divided by the factor."""
-        for kind, category, gamma, due in (("normal", 160, 100, "64738.08"), ("normal", 71, 100, "28727.523"),
-                                           ("shear", 80, 100, "36560"), ("normal", 36, 135, "10789.68")):
-            self.assertAlmostEqual(Decimal(float(cut_off(Detail(0, "d", 0, kind, category, gamma)))),
-                                   Decimal(due), 1)
+        for kind, category, gamma, due in (
+            ("normal", 160, 100, "64738.08"),
+            ("normal", 71, 100, "28727.523"),
+            ("shear", 80, 100, "36560"),
+            ("normal", 36, 135, "10789.68"),
+        ):
+            self.assertAlmostEqual(
+                Decimal(float(cut_off(Detail(0, "d", 0, kind, category, gamma)))), Decimal(due), 1
+            )
 
     def test_classes_that_hold(self) -> None:
         rng = random.Random(6)
@@ -148,7 +193,9 @@ class Numbers(unittest.TestCase):
                     self.assertGreater(high - low, 999_000)
                     continue
                 start, width, classes = found
-                self.assertTrue(2 <= classes <= 1024 and width >= grid.width and (classes - 1) * width <= 2000)
+                self.assertTrue(
+                    2 <= classes <= 1024 and width >= grid.width and (classes - 1) * width <= 2000
+                )
                 self.assertLessEqual(start, low)
                 self.assertLess(high, start + classes * 500 * width)
         self.assertEqual(HEAD_LENGTH, 32)

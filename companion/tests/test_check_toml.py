@@ -14,9 +14,29 @@ from tests import check_sites as sites
 
 KEYS = ("a", "b-2", "c_3", '"d e"', "'f.g'", '"\\u00fc"', "7", "a.b", "x . y")
 VALUES = (
-    "1", "-0x1", "1_0", "1.5", "1e3", "inf", "true", '""', '"a#b"', '"q\\"]"', "'c:\\d'", '"""\nx"y""\\"""""',
-    "'''it''s\n'''", "[]", "[1, 2,]", "[ # one\n 1,\n\n 2 ]", '[["a", "]"], [{ b = 1 }]]', "{}", "{ x = 1, y.z = 2 }",
-    "1979-05-27", "1979-05-27 07:32:00", "07:32:00.5", "1979-05-27T00:32:00-07:00",
+    "1",
+    "-0x1",
+    "1_0",
+    "1.5",
+    "1e3",
+    "inf",
+    "true",
+    '""',
+    '"a#b"',
+    '"q\\"]"',
+    "'c:\\d'",
+    '"""\nx"y""\\"""""',
+    "'''it''s\n'''",
+    "[]",
+    "[1, 2,]",
+    "[ # one\n 1,\n\n 2 ]",
+    '[["a", "]"], [{ b = 1 }]]',
+    "{}",
+    "{ x = 1, y.z = 2 }",
+    "1979-05-27",
+    "1979-05-27 07:32:00",
+    "07:32:00.5",
+    "1979-05-27T00:32:00-07:00",
 )
 LATER = (
     ("a = { b = 1,\n  c = 2, # two\n}\n", {"a": {"b": 1, "c": 2}}),
@@ -41,7 +61,9 @@ def random_text(rng: random.Random) -> str:
         elif form == 2:
             lines.append(rng.choice(("", "# = [", "  ", "#")))
         else:
-            lines.append(f"{rng.choice(('', ' '))}{key}{rng.choice((' = ', '='))}{value}{rng.choice(('', ' # c'))}")
+            lines.append(
+                f"{rng.choice(('', ' '))}{key}{rng.choice((' = ', '='))}{value}{rng.choice(('', ' # c'))}"
+            )
     if rng.random() < 0.3 and lines:
         place = rng.randrange(len(lines))
         at = rng.randint(0, len(lines[place]))
@@ -61,7 +83,9 @@ class Lines(unittest.TestCase):
             assert node.line is not None
             self.assertTrue(lines[node.line - 1].startswith(f"{key} = "))
         gauges = root.members["gauge"]
-        self.assertEqual([lines[item.line - 1] for item in gauges.items if item.line], ["[[gauge]]"] * 2)
+        self.assertEqual(
+            [lines[item.line - 1] for item in gauges.items if item.line], ["[[gauge]]"] * 2
+        )
 
     def tables(self, root: Node) -> list[Node]:
         several = [*root.members["gauge"].items, *root.members["detail"].items]
@@ -90,7 +114,9 @@ class Lines(unittest.TestCase):
     def test_lines_inside_values(self) -> None:
         root = read_toml(b'x = [\n  { a = 1 },\n\n  { b = """\n""", c = 2 },\n]\ny.z = 1\n')
         first, second = root.members["x"].items
-        self.assertEqual((first.members["a"].line, second.members["b"].line, second.members["c"].line), (2, 4, 5))
+        self.assertEqual(
+            (first.members["a"].line, second.members["b"].line, second.members["c"].line), (2, 4, 5)
+        )
         self.assertEqual(root.members["y"].members["z"].line, 7)
 
     def test_what_differs_is_not_joined(self) -> None:
@@ -117,13 +143,28 @@ class Forms(unittest.TestCase):
 
     def test_refused(self) -> None:
         for content, line, column, why in (
-            (b"a = 1\nb = 9223372036854775808\n", 2, None, "9223372036854775808 is no whole number of 64 bits"),
+            (
+                b"a = 1\nb = 9223372036854775808\n",
+                2,
+                None,
+                "9223372036854775808 is no whole number of 64 bits",
+            ),
             (b"a = 1e400\n", 1, None, "1E+400 is greater than any number of 64 bits"),
             (b"a = " + b"[" * 81 + b"]" * 81, 1, None, "values are nested deeper than 80"),
             (b"\na = [1\n", 2, None, "unclosed array"),
-            (b"a = 1\rb = 2\n", 1, 6, "expected newline or end of document after a statement;"
-             " its lines end in a carriage return alone: save the file with line feeds"),
-            (b'a = 1\nb = "x\\q"\n', 2, 9, 'unescaped \'\\\' in a string; a path has slashes: b = "x/q" was probably meant'),
+            (
+                b"a = 1\rb = 2\n",
+                1,
+                6,
+                "expected newline or end of document after a statement;"
+                " its lines end in a carriage return alone: save the file with line feeds",
+            ),
+            (
+                b'a = 1\nb = "x\\q"\n',
+                2,
+                9,
+                "unescaped '\\' in a string; a path has slashes: b = \"x/q\" was probably meant",
+            ),
         ):
             with self.subTest(why), self.assertRaises(NotToml) as refused:
                 read_toml(content)

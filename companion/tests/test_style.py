@@ -1,4 +1,4 @@
-"""How the package is written: types that `mypy --strict` accepts, and modules of at most 400 lines."""
+"""How the package is written: types that `mypy --strict` accepts, and short modules."""
 
 from __future__ import annotations
 
@@ -19,7 +19,14 @@ class Style(unittest.TestCase):
         mypy = shutil.which("mypy")
         if mypy is None:
             self.skipTest("mypy isn't there, so the types aren't checked")
-        words = [mypy, "--strict", "--python-version", "3.11", "--cache-dir=/dev/null", PACKAGE.name]
+        words = [
+            mypy,
+            "--strict",
+            "--python-version",
+            "3.11",
+            "--cache-dir=/dev/null",
+            PACKAGE.name,
+        ]
         done = subprocess.run(words, cwd=COMPANION, capture_output=True, text=True, check=False)
         self.assertEqual(done.returncode, 0, done.stdout + done.stderr)
 
