@@ -35,7 +35,9 @@ class Finding:
     told: Told | None = None
 
     def __str__(self) -> str:
-        return f"{self.place}: {self.severity.value}: {self.text}"
+        line = f"{self.place}: {self.severity.value}: {self.text}"
+        # A name in a file may have any letters; none of them may begin another line.
+        return "".join(letter if letter.isprintable() else "?" for letter in line)
 
 
 @dataclass

@@ -209,7 +209,7 @@ def _warn_rest(site: Site, grid: Grid, gauge: Gauge, facts: Readings, findings: 
     assert facts.rest is not None
     rest = gauge.stress(facts.rest)
     level = grid.level(rest)
-    edge = max(1, grid.classes // EDGE_PART)
+    edge = min(max(1, grid.classes // EDGE_PART), (grid.classes - 1) // 2)
     place = site.place(line_of(gauge.lines, "offset" if "offset" in gauge.lines else "num"))
     meant = _meant_offset(gauge, facts.rest, grid.step)
     text = f"{gauge.title} rests at {n_mm2(rest)} N/mm²"

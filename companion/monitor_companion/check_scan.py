@@ -8,13 +8,11 @@ from __future__ import annotations
 
 import bisect
 import io
-import mmap
-import pathlib
 import sys
 from array import array
-from collections.abc import Iterator
 from dataclasses import dataclass, field
 
+from monitor_companion.check_ends import look_at_end
 from monitor_companion.check_heads import HEAD_LENGTH, SAMPLE_LENGTH, Recording
 from monitor_companion.site import Gauge, Grid
 
@@ -23,10 +21,6 @@ GREATEST = 2**31 - 1
 PIECE_SAMPLES = 1 << 18
 # how many readings the resting value is taken from, at most
 REST_SAMPLES = 200_000
-# a repeated end is looked for by this many samples, which have at least so many values
-NEEDLE_SAMPLES, NEEDLE_VALUES = 256, 4
-NEEDLE_TRIES = 8
-LEAST_REPEAT = 600
 
 
 @dataclass
@@ -91,7 +85,9 @@ def scan(recording: Recording, grid: Grid | None, limit: int | None) -> Readings
             _count(readings, samples, limits, stride)
     _settle(readings)
     if readings.valid and recording.samples:
-        _look_at_end(readings, recording.path, limit)
+        readings.still_end, readings.repeated_end = look_at_end(
+            recording.path, recording.samples, limit
+        )
     return readings
 
 
@@ -168,69 +164,3 @@ def _inner(picked: list[int], lowest: int | None, highest: int | None) -> tuple[
     assert lowest is not None and highest is not None
     first, end = bisect.bisect_right(picked, lowest), bisect.bisect_left(picked, highest)
     return (picked[first], picked[end - 1]) if first < end else None
-
-
-def _look_at_end(readings: Readings, path: pathlib.Path, limit: int | None) -> None:
-    """Counts how long the last value stands still, and whether the end was there before."""
-    with path.open("rb") as file, mmap.mmap(file.fileno(), 0, access=mmap.ACCESS_READ) as content:
-        end = HEAD_LENGTH + readings.samples * SAMPLE_LENGTH
-        first = HEAD_LENGTH if limit is None else max(HEAD_LENGTH, end - limit // 4 * 4)
-        readings.still_end = _still_end(content, first, end)
-        readings.repeated_end = _repeated_end(content, first, end)
-
-
-def _still_end(content: mmap.mmap, first: int, end: int) -> int:
-    """Returns how many samples at the end are one value."""
-    value, at = content[end - SAMPLE_LENGTH : end], end
-    step = 1 << 16
-    while at - step >= first and content[at - step : at] == value * (step // SAMPLE_LENGTH):
-        at -= step
-    while at - SAMPLE_LENGTH >= first and content[at - SAMPLE_LENGTH : at] == value:
-        at -= SAMPLE_LENGTH
-    return (end - at) // SAMPLE_LENGTH
-
-
-def _repeated_end(content: mmap.mmap, first: int, end: int) -> int:
-    """Returns how many samples at the end are the same as those before them, or 0."""
-    start = end - NEEDLE_SAMPLES * SAMPLE_LENGTH
-    if start < first:
-        return 0
-    needle = content[start:end]
-    if (
-        len({needle[at : at + SAMPLE_LENGTH] for at in range(0, len(needle), SAMPLE_LENGTH)})
-        < NEEDLE_VALUES
-    ):
-        return 0
-    for at in _earlier(content, needle, first, start):
-        length = start - at
-        if length >= LEAST_REPEAT * SAMPLE_LENGTH and end - 2 * length >= first:
-            if _same(content, end - length, length):
-                return length // SAMPLE_LENGTH
-    return 0
-
-
-def _earlier(content: mmap.mmap, needle: bytes, first: int, start: int) -> Iterator[int]:
-    """Yields the last places before a start where the bytes stand, at whole samples."""
-    end = start + len(needle) - SAMPLE_LENGTH
-    tries = 0
-    while tries < NEEDLE_TRIES:
-        at = content.rfind(needle, first, end)
-        if at < 0:
-            return
-        if (at - HEAD_LENGTH) % SAMPLE_LENGTH == 0:
-            yield at
-            tries += 1
-        end = at + len(needle) - 1
-
-
-def _same(content: mmap.mmap, at: int, length: int) -> bool:
-    """Returns whether the bytes from there on are the same as those before."""
-    step = 1 << 20
-    for done in range(0, length, step):
-        size = min(step, length - done)
-        if (
-            content[at + done : at + done + size]
-            != content[at - length + done : at - length + done + size]
-        ):
-            return False
-    return True

@@ -29,6 +29,13 @@ class Recordings(SiteCase):
             f"monitor.toml:13: fault: {SPAN} can't be read: No such file or directory; span2.csv is there: import it"
         )
 
+    def test_a_name_that_would_end_the_line(self) -> None:
+        self.change(('file = "span2.sgrc"', 'file = "a\\nb\\u001b.sgrc"'))
+        self.finds(
+            'monitor.toml:13: fault: gauge 0 "span-2": a?b?.sgrc can\'t be read: No such file or directory',
+            "monitor.toml: note: no gauge counts span2.sgrc",
+        )
+
     def test_a_folder_and_a_pipe(self) -> None:
         self.span.unlink()
         self.span.mkdir()

@@ -14,7 +14,7 @@ from decimal import Decimal
 from fractions import Fraction
 from unittest import mock
 
-from monitor_companion import check_scan
+from monitor_companion import check_ends, check_scan
 from monitor_companion.check_heads import HEAD_LENGTH, Recording
 from monitor_companion.check_meaning import cut_off, n_mm2
 from monitor_companion.check_readings import classes_for, percent, wide_classes
@@ -125,6 +125,10 @@ class Scans(unittest.TestCase):
         self.assertEqual(self.scanned(day + day).repeated_end, 700)
         self.assertEqual(self.scanned(other + day + other + day).repeated_end, 1600)
         self.assertEqual(self.scanned(day + other + day).repeated_end, 0)
+        for window in (1024, 1025, 3000, 4000):
+            with mock.patch.object(check_ends, "WINDOW", window):
+                self.assertEqual(self.scanned(other + day + day).repeated_end, 700)
+                self.assertEqual(self.scanned(other + day + other + day).repeated_end, 1600)
         self.assertEqual(self.scanned(day[:-1] + [day[-1] + 1] + day).repeated_end, 0)
         self.assertEqual(self.scanned([1, 2] * 2000).repeated_end, 0)
 
