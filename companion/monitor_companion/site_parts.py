@@ -187,7 +187,7 @@ class Part:
         def meant(value: int) -> str:
             other = next((k for k in categories if k != kind and value in categories[k]), None)
             if other is not None:
-                return f"{value} is a category of {other} stress"
+                return f'{value} is a category of {other} stress: kind = "{other}"'
             return hints.meant_category(value, own)
 
         return self.choice("category", own, f" for {kind} stress", meant)

@@ -12,7 +12,7 @@ import struct
 import tempfile
 import unittest
 
-from monitor_companion.check_command import check_folder
+from monitor_companion.check_command import Checked, check_folder
 from tests.program import program, run
 
 CASES = int(os.environ.get("MONITOR_CHECK_CASES", "24"))
@@ -256,7 +256,8 @@ class AgreesWithTheProgram(unittest.TestCase):
 
     def one(self, rng: random.Random, folder: pathlib.Path) -> None:
         for number, name in enumerate(("north", "south"), start=1):
-            values = [rng.randint(-8, 7) for _ in range(rng.choice((0, 5, 200)))]
+            raws = (*range(-8, 8), 9, -1000, 2**31 - 1, -(2**31))
+            values = [rng.choice(raws) for _ in range(rng.choice((0, 5, 200)))]
             (folder / f"{name}.sgrc").write_bytes(recording(values, number))
         (folder / "monitor.toml").write_text(BASE)
         if rng.random() < 0.5:
@@ -273,9 +274,29 @@ class AgreesWithTheProgram(unittest.TestCase):
                 content = first.read_bytes()
                 first.write_bytes(second.read_bytes())
                 second.write_bytes(content)
-        verdict = check_folder(folder).findings.verdict
+        checked = check_folder(folder)
+        verdict = checked.findings.verdict
         found = (0, "") if verdict is None else (verdict.status, verdict.line)
         self.assertEqual(found, self.told(folder))
+        if verdict is None:
+            self.assertEqual(self.counted(checked), self.reported(folder))
+
+    def counted(self, checked: Checked) -> list[str]:
+        """The first two lines of each gauge's report, by what the check read."""
+        lines = []
+        for recording in checked.recordings:
+            facts = checked.readings[recording.gauge.number]
+            used = facts.valid - facts.refused
+            lines += [
+                f"gauge {recording.gauge.name}",
+                f"samples {facts.samples} used {used} missing {facts.missing} refused {facts.refused}",
+            ]
+        return lines
+
+    def reported(self, folder: pathlib.Path) -> list[str]:
+        """The same of the program's report."""
+        report = run(folder, "report").stdout.decode().splitlines()
+        return [line for line in report if line.startswith(("gauge ", "samples "))]
 
     def told(self, folder: pathlib.Path) -> tuple[int, str]:
         """What the program tells: of `init` where there is no store, and then of `count`."""
