@@ -33,6 +33,8 @@ MARKERS = frozenset(
         2**31 - 1,
     )
 )
+# so many equal readings far from all others are no spikes
+MANY = 3
 # a gauge that rests nearer to an end than this part of the classes is at the edge
 EDGE_PART = 20
 # a gauge that rests so many classes from 0 N/mm² needs another offset, where one was given
@@ -137,16 +139,26 @@ def _warn_gauge(
 
 
 def _warn_markers(facts: Readings, place: Place, front: str, findings: Findings) -> None:
-    """A lowest or highest reading that loggers write for none, and that is far from all others."""
+    """Readings at an end that are far from all others, or stop abruptly, and zeros far from all."""
     if facts.inner is None:
         return
-    low, high = facts.inner
-    width = high - low
-    ends = ((facts.lowest, facts.lowest_count, low), (facts.highest, facts.highest_count, high))
-    for value, count, near in ends:
-        if value in MARKERS and value is not None and abs(value - near) > width:
-            text = f"{front}: {value} stands there {_times(count)}, far from all others"
-            findings.warn(place, f"{text}: is it the logger's mark for no reading?")
+    (low, high), (clipped_low, clipped_high) = facts.inner, facts.clipped
+    for value, count, near, clipped in (
+        (facts.lowest, facts.lowest_count, low, clipped_low),
+        (facts.highest, facts.highest_count, high, clipped_high),
+    ):
+        assert value is not None
+        if value == 0 and facts.lone_zeros:
+            continue
+        text = f"{front}: {value} stands there {_times(count)}"
+        if abs(value - near) > high - low and (value in MARKERS or count >= MANY):
+            advice = "is it the logger's mark for no reading?"
+            findings.warn(place, f"{text}, far from all others: {advice}")
+        elif clipped and abs(value - near) <= (high - low) // 10:
+            findings.warn(place, f"{text}, and hardly any reading near it: does the logger clip?")
+    if facts.lone_zeros:
+        text = f"{front}: 0 stands there {_times(facts.lone_zeros)} between readings far from it"
+        findings.warn(place, f"{text}: are these dropouts? They count as cycles")
 
 
 def _times(count: int) -> str:

@@ -11,16 +11,23 @@ import io
 import sys
 from array import array
 from dataclasses import dataclass, field
+from typing import TypeAlias
 
 from monitor_companion.check_ends import look_at_end
 from monitor_companion.check_heads import HEAD_LENGTH, SAMPLE_LENGTH, Recording
 from monitor_companion.site import Gauge, Grid
+
+Values: TypeAlias = "array[int] | list[int]"
 
 MISSING = -(2**31)
 GREATEST = 2**31 - 1
 PIECE_SAMPLES = 1 << 18
 # how many readings the resting value is taken from, at most
 REST_SAMPLES = 200_000
+# a zero is far from readings that are more classes away than these
+FAR_CLASSES = 5
+# a reading at an end is clipped where so many stand there, and so many times as many as beside it
+CLIPPED_SAMPLES, CLIPPED_TIMES, LEAST_WIDTH = 20, 3, 100
 
 
 @dataclass
@@ -44,6 +51,10 @@ class Readings:
     common: tuple[int, int] | None = None
     # the lowest above the lowest of all, and the highest below the highest of all, likewise
     inner: tuple[int, int] | None = None
+    # the lowest and the highest stand there often, and those beside them hardly, likewise
+    clipped: tuple[bool, bool] = (False, False)
+    # zeros between readings that are far from 0
+    lone_zeros: int = 0
     # as many samples at the end are one value
     still_end: int = 0
     # as many samples at the end are the same as those before
@@ -77,12 +88,15 @@ def scan(recording: Recording, grid: Grid | None, limit: int | None) -> Readings
     """Reads the samples, at most so many bytes of them. Raises `OSError`."""
     readings = Readings(recording.samples)
     limits = raw_limits(grid, recording.gauge) if grid is not None else (MISSING + 1, GREATEST)
+    far = _far(grid, recording.gauge)
     places, length = _places(recording.samples, limit)
     stride = max(1, len(places) * length // REST_SAMPLES)
     with recording.path.open("rb", buffering=0) as file:
         for place in places:
             samples = _piece(file, place, min(length, recording.samples - place))
-            _count(readings, samples, limits, stride)
+            values = _count(readings, samples, limits)
+            readings._picked.extend(values[::stride])
+            readings.lone_zeros += _lone_zeros(values, far)
     _settle(readings)
     if readings.valid and recording.samples:
         readings.still_end, readings.repeated_end = look_at_end(
@@ -115,16 +129,45 @@ def _piece(file: io.FileIO, place: int, samples: int) -> array[int]:
     return values
 
 
-def _count(readings: Readings, samples: array[int], limits: tuple[int, int], stride: int) -> None:
-    """Counts the samples of a piece."""
+def _far(grid: Grid | None, gauge: Gauge) -> int:
+    """Returns the distance of raw values from which on they are far from each other."""
+    if grid is None or gauge.num == 0:
+        return GREATEST
+    return FAR_CLASSES * grid.step * gauge.den // abs(gauge.num)
+
+
+def _lone_zeros(values: Values, far: int) -> int:
+    """Counts zeros whose neighbours are further away than that, where nearly all readings are."""
+    if not values.count(0):
+        return 0
+    some = sorted(value for value in values[:: len(values) // 1000 + 1] if value)
+    cut = len(some) // 100
+    if not some or (some[cut] <= far and some[-1 - cut] >= -far):
+        return 0
+    lone, at = 0, -1
+    while True:
+        try:
+            at = values.index(0, at + 1)
+        except ValueError:
+            return lone
+        end = at + 1
+        while end < len(values) and values[end] == 0:
+            end += 1
+        if 0 < at and end < len(values) and min(abs(values[at - 1]), abs(values[end])) > far:
+            lone += end - at
+        at = end - 1
+
+
+def _count(readings: Readings, samples: array[int], limits: tuple[int, int]) -> Values:
+    """Counts the samples of a piece, and returns its readings."""
     readings.read += len(samples)
-    values: array[int] | list[int] = samples
+    values: Values = samples
     missing = samples.count(MISSING)
     if missing:
         readings.missing += missing
         values = [value for value in samples if value != MISSING]
     if not values:
-        return
+        return values
     lowest, highest = min(values), max(values)
     low, high = limits
     if lowest < low:
@@ -132,12 +175,10 @@ def _count(readings: Readings, samples: array[int], limits: tuple[int, int], str
     if highest > high:
         readings.above += sum(1 for value in values if value > high)
     _keep_ends(readings, values, lowest, highest)
-    readings._picked.extend(values[::stride])
+    return values
 
 
-def _keep_ends(
-    readings: Readings, values: array[int] | list[int], lowest: int, highest: int
-) -> None:
+def _keep_ends(readings: Readings, values: Values, lowest: int, highest: int) -> None:
     if readings.lowest is None or lowest < readings.lowest:
         readings.lowest, readings.lowest_count = lowest, 0
     if lowest == readings.lowest:
@@ -156,6 +197,7 @@ def _settle(readings: Readings) -> None:
         readings.rest = picked[(len(picked) - 1) // 2]
         cut = len(picked) // 1000
         readings.common = picked[cut], picked[len(picked) - 1 - cut]
+        readings.clipped = _clipped(picked)
         readings.inner = _inner(picked, readings.lowest, readings.highest)
 
 
@@ -164,3 +206,24 @@ def _inner(picked: list[int], lowest: int | None, highest: int | None) -> tuple[
     assert lowest is not None and highest is not None
     first, end = bisect.bisect_right(picked, lowest), bisect.bisect_left(picked, highest)
     return (picked[first], picked[end - 1]) if first < end else None
+
+
+def _clipped(picked: list[int]) -> tuple[bool, bool]:
+    """Returns whether the sorted readings end abruptly, below and above."""
+    lowest, highest, rest = picked[0], picked[-1], picked[(len(picked) - 1) // 2]
+    width = highest - lowest
+    if width < LEAST_WIDTH:
+        return False, False
+    beside = width // 50
+    first, last = bisect.bisect_right(picked, lowest), bisect.bisect_left(picked, highest)
+    near_first = bisect.bisect_right(picked, lowest + beside) - first
+    near_last = last - bisect.bisect_left(picked, highest - beside)
+    # A gauge that rests at an end, as one that is only pressed, isn't clipped there.
+    return (
+        (rest - lowest) * 4 > width and _abrupt(first, near_first),
+        (highest - rest) * 4 > width and _abrupt(len(picked) - last, near_last),
+    )
+
+
+def _abrupt(at_end: int, beside: int) -> bool:
+    return at_end >= CLIPPED_SAMPLES and at_end >= CLIPPED_TIMES * beside

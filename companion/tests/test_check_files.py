@@ -169,6 +169,40 @@ class ReadingsCase(SiteCase):
             " is it the logger's mark for no reading?"
         )
 
+    def test_dropouts_inside_the_classes(self) -> None:
+        # The gauge rests at 37.8 N/mm²; 3 dropouts, of which one has two samples, were written as 0.
+        values = [value + 180 for value in noise(1, 1000)]
+        for at in (100, 101, 500, 800):
+            values[at] = 0
+        self.put(values)
+        self.finds(
+            f"monitor.toml:13: warning: {SPAN}: 0 stands there 4 times between readings far from it:"
+            " are these dropouts? They count as cycles"
+        )
+        values = noise(1, 1000)
+        values[300:303] = [-250] * 3
+        self.put(values)
+        self.finds(
+            f"monitor.toml:13: warning: {SPAN}: -250 stands there 3 times, far from all others:"
+            " is it the logger's mark for no reading?"
+        )
+
+    def test_a_logger_that_clips(self) -> None:
+        values = [
+            min(value + other, 60)
+            for value, other in zip(noise(1, 2000), noise(2, 2000), strict=True)
+        ]
+        self.put(values)
+        count = values.count(60)
+        self.assertGreater(count, 200)
+        self.finds(
+            f"monitor.toml:13: warning: {SPAN}: 60 stands there {count} times, and hardly any reading near it:"
+            " does the logger clip?"
+        )
+        # one that is only pressed rests at its highest reading
+        self.put([min(value, 0) for value in noise(1, 2000)])
+        self.finds()
+
     def test_the_end(self) -> None:
         self.put(noise(1) + [7] * 12000)
         self.finds(
@@ -182,8 +216,8 @@ class ReadingsCase(SiteCase):
         )
 
     def test_refused(self) -> None:
-        # 21 of 521 lie at 77.7 N/mm², above the classes
-        self.put(noise(1) + [370] * 21)
+        # 21 of 521 lie above the classes, from 73.5 to 77.7 N/mm²
+        self.put(noise(1) + list(range(350, 371)))
         self.finds(
             'monitor.toml:14: warning: gauge 0 "span-2": 21 of 521 readings are refused (4 %), so its table'
             " isn't that of the whole history; its stresses reach from -12.6 to 77.7 N/mm²; the classes reach from"

@@ -137,9 +137,9 @@ class Scans(unittest.TestCase):
             path = pathlib.Path(name) / "g.sgrc"
             samples = array("i", noise(1, 50_000)) * 40
             path.write_bytes(recording([], 1) + samples.tobytes())
-            begin = time.monotonic()
+            begin = time.process_time()
             found = scan(Recording(GAUGE, path, path.stat().st_size), GRID, None)
-            seconds = time.monotonic() - begin
+            seconds = time.process_time() - begin
         self.assertEqual(found.read, 2_000_000)
         self.assertLess(seconds, 8_000_000 / 2_000_000, "slower than 2 MB/s")
 
