@@ -8,7 +8,7 @@ from collections.abc import Sequence
 from dataclasses import dataclass, field
 from decimal import Decimal, InvalidOperation
 
-from monitor_companion.check_findings import Finding, Findings, Severity
+from monitor_companion.check_findings import Findings, Severity
 from monitor_companion.check_heads import (
     HEAD_LENGTH,
     READ_FAULT,
@@ -189,6 +189,3 @@ def _read_line(checked: Checked, recording: Recording) -> str:
         line += f", rests at {n_mm2(gauge.stress(facts.rest))} N/mm²"
         line += f", mostly {n_mm2(low)} to {n_mm2(high)}"
     return line
-
-
-__all__ = ["SUMMARY", "Checked", "Finding", "add_arguments", "check_folder", "run", "summary"]

@@ -63,6 +63,19 @@ class Part:
                 return
         self._tell("missing", key, f"{key} is missing", allowed)
 
+    def _number(self, key: str, allowed: str) -> int | None:
+        """Returns a whole number, or None after a fault."""
+        node = self.node.members.get(key)
+        if node is None:
+            self._missing(key, allowed)
+            return None
+        value = node.value
+        if not isinstance(value, int) or isinstance(value, bool):
+            text = f"{key} = {hints.shown(value)} is {hints.kind_of(value)}"
+            self._tell("wrong kind", key, text, allowed, hints.meant_number(key, value))
+            return None
+        return value
+
     def whole(
         self,
         key: str,
@@ -74,21 +87,12 @@ class Part:
     ) -> int | None:
         """Returns a whole number within limits, or its default, or None after a fault."""
         allowed = f"a whole number from {low} to {high}{because}"
-        node = self.node.members.get(key)
-        if node is None:
-            if default is None:
-                self._missing(key, allowed)
+        if key not in self.node.members and default is not None:
             return default
-        value = node.value
-        text = f"{key} = {hints.shown(value)}"
-        if not isinstance(value, int) or isinstance(value, bool):
-            kind = hints.kind_of(value)
-            self._tell(
-                "wrong kind", key, f"{text} is {kind}", allowed, hints.meant_number(key, value)
-            )
-            return None
-        if not low <= value <= high:
-            self._tell("out of range", key, f"{text} is out of range", allowed, meant(value))
+        value = self._number(key, allowed)
+        if value is not None and not low <= value <= high:
+            text = f"{key} = {value} is out of range"
+            self._tell("out of range", key, text, allowed, meant(value))
             return None
         return value
 
@@ -97,20 +101,10 @@ class Part:
     ) -> int | None:
         """Returns one of some numbers, or None after a fault."""
         allowed = f"one of {_listed(numbers)}{of}"
-        node = self.node.members.get(key)
-        if node is None:
-            self._missing(key, allowed)
-            return None
-        value = node.value
-        text = f"{key} = {hints.shown(value)}"
-        if not isinstance(value, int) or isinstance(value, bool):
-            kind = hints.kind_of(value)
-            self._tell(
-                "wrong kind", key, f"{text} is {kind}", allowed, hints.meant_number(key, value)
-            )
-            return None
-        if value not in numbers:
-            self._tell("out of range", key, f"{text} is none of them", allowed, meant(value))
+        value = self._number(key, allowed)
+        if value is not None and value not in numbers:
+            text = f"{key} = {value} is none of them"
+            self._tell("out of range", key, text, allowed, meant(value))
             return None
         return value
 
