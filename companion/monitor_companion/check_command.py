@@ -20,7 +20,7 @@ from monitor_companion.check_meaning import n_mm2, warn_meaning
 from monitor_companion.check_readings import Limits, percent, warn_readings
 from monitor_companion.check_recordings import check_recordings, warn_recordings
 from monitor_companion.check_scan import Readings, scan
-from monitor_companion.check_store import check_store, load_store
+from monitor_companion.check_store import check_store, load_store, note_fixed
 from monitor_companion.refusals import Place, Refusal, Status
 from monitor_companion.site import Site, check_site
 from monitor_companion.store_head import Store
@@ -126,6 +126,8 @@ def check_folder(
     warn_meaning(site, findings)
     warn_recordings(folder, site, checked.recordings, findings)
     warn_readings(site, checked.readings, limits or Limits(), findings)
+    if checked.store is not None:
+        note_fixed(checked.store, findings)
     return checked
 
 

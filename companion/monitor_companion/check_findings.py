@@ -27,12 +27,16 @@ class Told:
 
 @dataclass(frozen=True)
 class Finding:
-    """One thing that was found. `told` is set where the program refuses the site for it."""
+    """One thing that was found. `told` is set where the program refuses the site for it.
+
+    `needs_store` says that mending it changes what a store is made for.
+    """
 
     severity: Severity
     place: Place
     text: str
     told: Told | None = None
+    needs_store: bool = False
 
     def __str__(self) -> str:
         line = f"{self.place}: {self.severity.value}: {self.text}"
@@ -53,6 +57,10 @@ class Findings:
     def warn(self, place: Place, text: str) -> None:
         """Adds what the program takes in silence, and what is probably a mistake."""
         self.found.append(Finding(Severity.WARNING, place, text))
+
+    def warn_setup(self, place: Place, text: str) -> None:
+        """Adds a warning of classes or a gain, which are fixed once there is a store."""
+        self.found.append(Finding(Severity.WARNING, place, text, needs_store=True))
 
     def note(self, place: Place, text: str) -> None:
         """Adds what is good to know."""

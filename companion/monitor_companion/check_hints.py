@@ -9,8 +9,9 @@ from collections.abc import Sequence
 from decimal import Decimal
 from fractions import Fraction
 
+from monitor_companion.check_words import cut
+
 KPA_PER_STEP = 500
-SHOWN_LENGTH = 60
 
 
 def shown(value: object) -> str:
@@ -25,7 +26,7 @@ def shown(value: object) -> str:
         text = "{...}" if value else "{}"
     else:
         text = str(value)
-    return text if len(text) <= SHOWN_LENGTH else text[: SHOWN_LENGTH - 3] + "..."
+    return cut(text)
 
 
 def kind_of(value: object) -> str:

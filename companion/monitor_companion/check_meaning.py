@@ -62,22 +62,24 @@ def _warn_grid(site: Site, grid: Grid, findings: Findings) -> None:
     low, place = grid.low, site.place(line_of(grid.lines, "low"))
     if 0 < abs(low) < KPA_PER_N_MM2:
         text = f"[grid]: low = {low} is {n_mm2(low)} N/mm², since it is in kPa"
-        findings.warn(place, f"{text}; low = {low * KPA_PER_N_MM2} was probably meant")
+        findings.warn_setup(place, f"{text}; low = {low * KPA_PER_N_MM2} was probably meant")
     elif low >= grid.step or grid.top <= -grid.step:
-        findings.warn(place, f"[grid]: low = {low}: {span_text(grid)}, and 0 N/mm² has no class")
+        findings.warn_setup(
+            place, f"[grid]: low = {low}: {span_text(grid)}, and 0 N/mm² has no class"
+        )
     elif low > -grid.step:
         text = f"[grid]: low = {low}: {span_text(grid)}; stresses below are refused"
-        findings.warn(
+        findings.warn_setup(
             place, f"{text}; low = {-grid.classes * grid.step // 2} puts 0 N/mm² in the middle"
         )
     elif grid.top < 2 * grid.step:
         text = f"[grid]: low = {low}: {span_text(grid)}; stresses above are refused"
-        findings.warn(
+        findings.warn_setup(
             place, f"{text}; low = {-grid.classes * grid.step // 2} puts 0 N/mm² in the middle"
         )
     if grid.classes < 8:
         text = f"[grid]: classes = {grid.classes} are very few; {span_text(grid)}"
-        findings.warn(site.place(line_of(grid.lines, "classes")), text)
+        findings.warn_setup(site.place(line_of(grid.lines, "classes")), text)
 
 
 def _warn_reference(site: Site, grid: Grid, findings: Findings) -> None:
@@ -90,7 +92,9 @@ def _warn_reference(site: Site, grid: Grid, findings: Findings) -> None:
     at = n_mm2(grid.low + grid.reference * grid.step)
     text = f"[grid]: reference = {grid.reference} is the boundary at {at} N/mm²"
     place = site.place(line_of(grid.lines, "reference"))
-    findings.warn(place, f"{text}; reference = {zero} (the boundary at 0 N/mm²) was probably meant")
+    findings.warn_setup(
+        place, f"{text}; reference = {zero} (the boundary at 0 N/mm²) was probably meant"
+    )
 
 
 def _warn_gain(site: Site, grid: Grid, gauge: Gauge, findings: Findings) -> None:
@@ -98,7 +102,7 @@ def _warn_gain(site: Site, grid: Grid, gauge: Gauge, findings: Findings) -> None
     place = site.place(line_of(gauge.lines, "num"))
     if gauge.num == 0:
         text = f"{gauge.title}: num = 0 makes every reading {n_mm2(gauge.offset)} N/mm²"
-        findings.warn(place, f"{text}; on steel a microstrain is num = 210")
+        findings.warn_setup(place, f"{text}; on steel a microstrain is num = 210")
         return
     step = Fraction(abs(gauge.num), gauge.den)
     text = f"{gauge.title}: num = {gauge.num}" + (f", den = {gauge.den}" if gauge.den != 1 else "")
@@ -106,12 +110,14 @@ def _warn_gain(site: Site, grid: Grid, gauge: Gauge, findings: Findings) -> None
         text += f": a step of the logger is {n_mm2(step)} N/mm², {_times(step / grid.step)} classes"
         if gauge.num % 1000 == 0 and step > 50 * KPA_PER_N_MM2:
             text += f"; num = {gauge.num // 1000} was probably meant (kPa)"
-        findings.warn(place, text)
+        findings.warn_setup(place, text)
     elif step * 2**31 < grid.step:
-        findings.warn(place, f"{text}: no reading is as much as a class")
+        findings.warn_setup(place, f"{text}: no reading is as much as a class")
     if gauge.offset <= grid.low - 2**31 * step or gauge.offset >= grid.top + 2**31 * step:
         text = f"{gauge.title}: offset = {gauge.offset} leaves no reading in the classes"
-        findings.warn(site.place(line_of(gauge.lines, "offset")), f"{text}; {span_text(grid)}")
+        findings.warn_setup(
+            site.place(line_of(gauge.lines, "offset")), f"{text}; {span_text(grid)}"
+        )
 
 
 def _times(ratio: Fraction) -> str:
@@ -136,14 +142,14 @@ def _warn_detail(site: Site, grid: Grid, detail: Detail, findings: Findings) -> 
     widest = (grid.classes - 1) * grid.step
     if widest < limit:
         text = f"{detail.title}: the widest range of the classes is {n_mm2(widest)} N/mm²"
-        findings.warn(
+        findings.warn_setup(
             place, f"{text}, below its cut-off limit of {n_mm2(limit)}: its damage is always 0"
         )
     elif grid.step * 4 > limit:
         text = (
             f"{detail.title}: a class of {n_mm2(grid.step)} N/mm² is wide beside its cut-off limit"
         )
-        findings.warn(
+        findings.warn_setup(
             place, f"{text} of {n_mm2(limit)}; width = {_finer(limit)} tells ranges apart"
         )
 

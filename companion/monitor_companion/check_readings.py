@@ -198,7 +198,7 @@ def _warn_refused(
         f" ({percent(facts.refused, facts.read)}), so its table isn't that of the whole history;"
         f" its stresses reach from {n_mm2(low)} to {n_mm2(high)} N/mm²; {span_text(grid)}"
     )
-    findings.warn(site.place(line_of(gauge.lines, "num")), text + _holding(site, readings))
+    findings.warn_setup(site.place(line_of(gauge.lines, "num")), text + _holding(site, readings))
 
 
 def _holding(site: Site, readings: Mapping[int, Readings]) -> str:
@@ -227,7 +227,7 @@ def _warn_rest(site: Site, grid: Grid, gauge: Gauge, facts: Readings, findings: 
     text = f"{gauge.title} rests at {n_mm2(rest)} N/mm²"
     if edge <= level < grid.classes - edge:
         if meant and abs(rest) >= FAR_CLASSES * grid.step:
-            findings.warn(place, text + meant)
+            findings.warn_setup(place, text + meant)
         return
     where = "outside the classes" if not 0 <= level < grid.classes else "at the edge of the classes"
     text += f", {where}; {span_text(grid)}{meant}"
@@ -235,7 +235,7 @@ def _warn_rest(site: Site, grid: Grid, gauge: Gauge, facts: Readings, findings: 
     # Where 0 N/mm² itself is at the edge, the classes are to be moved, and not the gauge.
     if not meant and abs(zero) <= MAX_KPA and edge <= grid.level(0) < grid.classes - edge:
         text += f"; offset = {zero} rests at 0 N/mm²"
-    findings.warn(place, text)
+    findings.warn_setup(place, text)
 
 
 def _meant_offset(gauge: Gauge, rest: int, step: int) -> str:
@@ -267,4 +267,4 @@ def _warn_span(site: Site, grid: Grid, gauge: Gauge, facts: Readings, findings: 
     gain = Fraction(gauge.num * KPA_PER_N_MM2, gauge.den)
     if 2 * grid.step <= (high - low) * KPA_PER_N_MM2 < grid.top - grid.low:
         text += f"; a gain of {gain} kPa a step was perhaps meant (N/mm² in kPa)"
-    findings.warn(site.place(line_of(gauge.lines, "num")), text)
+    findings.warn_setup(site.place(line_of(gauge.lines, "num")), text)

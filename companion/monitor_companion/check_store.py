@@ -25,6 +25,13 @@ def load_store(folder: pathlib.Path, findings: Findings) -> Store | None:
         return None
 
 
+def note_fixed(store: Store, findings: Findings) -> None:
+    """Notes what a change of classes or gains needs, where a warning asks for one."""
+    if store.head is not None and any(finding.needs_store for finding in findings):
+        text = "classes and gains are fixed in a store: to change them, "
+        findings.note(Place(str(store.path)), text + NEW_STORE)
+
+
 def order_of(store: StoreHead, site: Site, recordings: Sequence[Recording]) -> str:
     """Returns what to do where the recordings are the store's in another order, or nothing."""
     kept = [gauge.id for gauge in store.gauges]

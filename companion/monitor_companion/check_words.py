@@ -12,6 +12,7 @@ KEYS = {
     "gauge": ("name", "file", "num", "den", "offset"),
     "detail": ("name", "gauge", "kind", "category", "gamma"),
 }
+SHOWN_LENGTH = 60
 ARRAYS = ("gauge", "detail")
 
 # Other words for a key, as people write them.
@@ -90,13 +91,19 @@ def nearest(word: str, known: Iterable[str]) -> str | None:
     return lower[close[0]] if close else None
 
 
+def cut(word: str) -> str:
+    """Returns a word, or the front of a long one."""
+    return word if len(word) <= SHOWN_LENGTH else word[: SHOWN_LENGTH - 3] + "..."
+
+
 def header(part: str) -> str:
     """Returns the header of a part: `[grid]`, `[[gauge]]`."""
     return f"[[{part}]]" if part in ARRAYS else f"[{part}]"
 
 
 def header_of(key: str, value: object) -> str:
-    """Returns how a key outside all parts stands there."""
+    """Returns how a key outside all parts stands there, cut where it is long."""
+    key = cut(key)
     if isinstance(value, list):
         return f"[[{key}]]"
     return f"[{key}]" if isinstance(value, dict) else key

@@ -59,7 +59,9 @@ class Part:
         part = self.told.split(" ")[0]
         for other in self.node.members:
             if other not in words.KEYS[part] and words.meant_key(part, other) == key:
-                self._tell("missing", key, f"{key} is missing, {other} is there", allowed)
+                self._tell(
+                    "missing", key, f"{key} is missing, {words.cut(other)} is there", allowed
+                )
                 return
         self._tell("missing", key, f"{key} is missing", allowed)
 
@@ -216,7 +218,7 @@ class Part:
 
     def tell_unknown(self, key: str, node: Node, title: str, meant: str | None) -> None:
         """Warns of a key that means nothing."""
-        shown = key if title else words.header_of(key, node.value)
+        shown = words.cut(key) if title else words.header_of(key, node.value)
         front = f"{title}: " if title else ""
         kind = "part" if shown.startswith("[") else "key"
         tail = f"; {meant} was probably meant" if meant is not None else ""

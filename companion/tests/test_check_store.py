@@ -28,6 +28,14 @@ class Stores(SiteCase):
         self.assertEqual([held.samples for held in checked.store.held], [500, 500])
         self.assertIn(", held 500,", summary(checked)[1])
 
+    def test_a_warning_that_needs_a_new_store(self) -> None:
+        values = [value + 290 for value in noise(1)]
+        self.put(values)
+        found = sites.lines(self.folder)
+        self.assertIn("rests at", found[-2])
+        due = f"monitor.store: note: classes and gains are fixed in a store: to change them, {NEW}"
+        self.assertEqual(found[-1], due)
+
     def test_the_grid(self) -> None:
         self.change(
             ("classes = 128", "classes = 160"),
