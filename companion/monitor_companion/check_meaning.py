@@ -188,12 +188,5 @@ def _warn_block(site: Site, findings: Findings) -> None:
 
 
 def _note_details(site: Site, findings: Findings) -> None:
-    if not site.gauges or len(site.details) < site.detail_tables:
-        return
-    if not site.detail_tables:
+    if site.gauges and not site.detail_tables:
         findings.note(site.place(), "there is no [[detail]], so no damage is told")
-        return
-    used = {detail.gauge for detail in site.details}
-    for gauge in site.gauges:
-        if gauge.number not in used:
-            findings.note(site.place(line_of(gauge.lines, "")), f"{gauge.title} has no [[detail]]")

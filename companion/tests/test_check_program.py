@@ -8,11 +8,14 @@ from __future__ import annotations
 import os
 import pathlib
 import random
+import re
 import struct
 import tempfile
 import unittest
 
 from monitor_companion.check_command import Checked, check_folder
+from monitor_companion.check_findings import Severity
+from tests import check_sites as sites
 from tests.program import program, run
 
 CASES = int(os.environ.get("MONITOR_CHECK_CASES", "24"))
@@ -243,6 +246,29 @@ def break_file(rng: random.Random, path: pathlib.Path) -> None:
         front = 32 if mistake == 4 else len(content)
         content[rng.randrange(min(front, len(content)))] = rng.choice((0, 1, 2, 255))
     path.write_bytes(content)
+
+
+class NeverFails(unittest.TestCase):
+    """Whatever stands in the files, each finding is one line with its place."""
+
+    LINE = re.compile(r"monitor\.(toml|store)(:\d+)?: (fault|warning|note): [^\n]+")
+
+    def test_random_sites(self) -> None:
+        for seed in range(SEED, SEED + 300):
+            with self.subTest(seed=seed), tempfile.TemporaryDirectory() as name:
+                rng, folder = random.Random(seed), pathlib.Path(name)
+                (folder / "monitor.toml").write_bytes(broken_text(rng))
+                (folder / "monitor.store").write_bytes(sites.store([sites.body(0, 0, 500)]))
+                (folder / "north.sgrc").write_bytes(sites.SPAN)
+                (folder / "south.sgrc").write_bytes(sites.PIER)
+                for path in sorted(folder.iterdir()):
+                    if rng.random() < 0.5:
+                        break_file(rng, path)
+                found = check_folder(folder).findings
+                for finding in found:
+                    line = str(finding).replace(f"{folder}/", "")
+                    self.assertIsNotNone(self.LINE.fullmatch(line), line)
+                self.assertEqual(found.verdict is None, found.count(Severity.FAULT) == 0)
 
 
 class AgreesWithTheProgram(unittest.TestCase):
