@@ -48,6 +48,12 @@ class Curve:
         return Fraction(self.gamma, 100)
 
     @property
+    def words(self) -> str:
+        """The curve in words, such as `normal 80, factor 1.15`."""
+        factor = f"{self.gamma // 100}.{self.gamma % 100:02}"
+        return f"{self.kind.value} {self.category}, factor {factor}"
+
+    @property
     def knee(self) -> Fraction | None:
         """The range in N/mm² from which the slope is 3; shear stress has none."""
         return KNEE * self.category / self.factor if self.kind is Kind.NORMAL else None

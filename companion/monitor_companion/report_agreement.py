@@ -231,16 +231,15 @@ def _check_damage(
     """Compares the damage of a detail with the printed fraction, which is in the detail's terms."""
     place = Place(report.file, printed.line)
     curve = detail.curve
-    terms = f"{curve.kind.value} {curve.category}, factor {curve.gamma / 100:.2f}"
     if printed.denominator != curve.denominator:
-        why = f"the denominator isn't that of {terms}, which {site.file} gives to {detail.name}"
+        why = f"the denominator isn't that of {curve.words}, which {site.file} gives to {detail.name}"
         raise Refusal(place, why)
     ranges = damage_by_range(curve, report.gauge(detail.gauge).rainflow.rows)
     recomputed = total_damage(ranges)
     if recomputed != printed.damage:
         whole, numerator = divmod(recomputed * curve.denominator, curve.denominator)
         why = (
-            f"the damage of {detail.name} ({terms} in {site.file}) by the rainflow table is "
+            f"the damage of {detail.name} ({curve.words} in {site.file}) by the rainflow table is "
             f"{whole} {numerator}/{curve.denominator}, and the report has another"
         )
         raise Refusal(place, why)
