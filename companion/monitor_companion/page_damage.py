@@ -39,12 +39,10 @@ def damage_parts(damage: DetailDamage, grid: Grid) -> str:
 
 def limits_words(curve: Curve) -> str:
     """The limits of a curve, with its partial factor, as a sentence."""
+    cut_off = f"With the partial factor: cut-off limit {fixed(curve.cut_off, 2)} N/mm²"
     if curve.knee is None:
-        return f"Cut-off limit {fixed(curve.cut_off, 2)} N/mm², slope 5 above it."
-    return (
-        f"Cut-off limit {fixed(curve.cut_off, 2)} N/mm², "
-        f"knee {fixed(curve.knee, 2)} N/mm²: slope 5 between them, 3 above."
-    )
+        return f"{cut_off}, slope 5 above it."
+    return f"{cut_off}, knee {fixed(curve.knee, 2)} N/mm²; slope 5 between them, 3 above."
 
 
 def _no_damage_words(damage: DetailDamage) -> str:
@@ -90,7 +88,7 @@ def _draw_limit(chart: Chart, stress: float, words: str) -> None:
     x = chart.x(stress)
     chart.line([(x, BOTTOM), (x, TOP)], "reference")
     turn = f' transform="rotate(-90 {x - 4:.1f} {TOP + 2})"'
-    chart.words(x - 4, TOP + 2, words, "end small", turn)
+    chart.words(x - 4, TOP + 2, words, "end small halo", turn)
 
 
 def _damage_table(damage: DetailDamage, total: Fraction) -> str:
@@ -100,11 +98,11 @@ def _damage_table(damage: DetailDamage, total: Fraction) -> str:
     if others:
         rest = sum((row.damage for row in others), Fraction(0))
         cycles = sum((row.cycles for row in others), Fraction(0))
-        rows.append(_other_row(f"{len(others)} other", cycles, rest, total))
+        rows.append(_other_row(_several(len(others), "other"), cycles, rest, total))
     below = [row for row in damage.ranges if not row.damage]
     if below:
         cycles = sum((row.cycles for row in below), Fraction(0))
-        rows.append(_other_row(f"{len(below)} below", cycles, Fraction(0), total))
+        rows.append(_other_row(f"{len(below)} below the limit", cycles, Fraction(0), total))
     return (
         '<table class="numbers"><thead><tr><th scope="col">Range<br><small>N/mm²</small></th>'
         '<th scope="col">Cycles</th><th scope="col">Endurance<br><small>cycles</small></th>'
@@ -123,6 +121,10 @@ def _row(row: RangeDamage, total: Fraction) -> str:
         f"<td>{endurance}</td><td>{small_percent(row.damage, LIFE_DECIMALS)}</td>"
         f"<td>{small_percent(row.damage / total, 1)}</td></tr>"
     )
+
+
+def _several(count: int, what: str) -> str:
+    return f"{count} {what}" + ("" if count == 1 else "s")
 
 
 def _other_row(words: str, cycles: Fraction, damage: Fraction, total: Fraction) -> str:

@@ -84,9 +84,15 @@ def _footer(series: Series) -> str:
         f"<li>{escaped(reading.report.file)}, SHA-256 <code>{reading.digest}</code></li>"
         for reading in series.readings
     )
+    grid = (
+        ""
+        if series.site.has_store
+        else "<p>The site’s folder has no store, and a report doesn’t tell where its classes "
+        "begin: stresses (not ranges) are as the configuration says.</p>"
+    )
     return (
         '<footer><div class="inner"><h2>Made from</h2>'
-        f"<ul>{files}<li>configuration {escaped(series.site.file)}</li></ul>"
+        f"<ul>{files}<li>configuration {escaped(series.site.file)}</li></ul>{grid}"
         "<p>The damage of each detail was computed again, exactly, from the rainflow table and "
         "the configuration, and equals the fraction that the program printed. Damage by range "
         "is shown rounded to the nearest digit. "

@@ -99,8 +99,8 @@ def _draw_cells(
         paths[shade].append(f"M{x:.2f} {y:.2f}h{edge}v{edge}h-{edge}z")
     for shade, path in enumerate(paths):
         if path:
-            title = f"{len(path)} cells with {_shade_words(steps, shade)} cycles"
-            chart.add(f'<path class="shade{shade}" d="{"".join(path)}"><title>{title}</title></path>')
+            title = f"<title>{len(path)} cells with {_shade_words(steps, shade)} cycles</title>"
+            chart.add(f'<path class="shade{shade}" d="{"".join(path)}">{title}</path>')
 
 
 def _shade_words(steps: list[int], shade: int) -> str:
@@ -113,19 +113,19 @@ def _draw_shades(chart: Chart, steps: list[int]) -> None:
     """The legend, in the corner below the diagonal, which no cell can reach."""
     right = chart.x.end
     top = MATRIX_BOTTOM - 22 - 17 * len(steps)
-    chart.words(right - 96, top - 4, "Cycles", "strong")
+    chart.words(right - 72, top - 4, "Cycles, from", "strong")
     for shade in range(len(steps)):
         y = top + 17 * shade + 3
         chart.add(
-            f'<rect class="shade{shade}" x="{number(right - 96)}" y="{number(y)}" '
+            f'<rect class="shade{shade}" x="{number(right - 72)}" y="{number(y)}" '
             f'width="16" height="12"/>'
         )
-        words = _shade_words(steps, shade).replace(".0", "").replace(" to ", " – ")
-        chart.words(right - 74, y + 10, words)
+        least = cycles_text(steps[shade]).removesuffix(".0")
+        chart.words(right - 50, y + 10, least)
 
 
 def _count_scale(*sections: Section[LevelCount]) -> Scale:
-    most = max((row.count for section in sections for row in section.rows), default=1)
+    most = max((row.times for section in sections for row in section.rows), default=1)
     high = 10.0 ** math.ceil(math.log10(most + 1))
     return Scale(LEAST_COUNT, high, LEFT, RIGHT, is_log=True)
 
@@ -145,16 +145,16 @@ def _draw_reference(chart: Chart, grid: Grid) -> None:
     if chart.y.low <= stress <= chart.y.high:
         y = chart.y(float(stress))
         chart.line([(LEFT, y), (RIGHT, y)], "reference")
-        chart.words(RIGHT - 2, y - 4, f"reference {plain(float(stress))}", "end small")
+        chart.words(RIGHT - 2, y - 4, f"reference {plain(float(stress))}", "end small halo")
 
 
 def _crossings_figure(gauge: GaugeReport, grid: Grid) -> str:
     rows = gauge.crossings.rows
-    most = max(rows, key=lambda row: row.count, default=LevelCount(0, 0))
+    most = max(rows, key=lambda row: row.times, default=LevelCount(0, 0))
     chart = Chart(
         f"crossings-{gauge.name}",
         f"Level crossings of {gauge.name}",
-        f"{len(rows)} boundaries are crossed; most often, {most.count} times, "
+        f"{len(rows)} boundaries are crossed; most often, {most.times} times, "
         f"{grid.stress(most.level)} N/mm²."
         if rows
         else "No boundary is crossed.",
@@ -164,7 +164,7 @@ def _crossings_figure(gauge: GaugeReport, grid: Grid) -> str:
     )
     _level_chart(gauge, grid, chart, "Crossings")
     half = grid.width / 4
-    stresses = [(float(grid.stress(row.level)), row.count) for row in rows]
+    stresses = [(float(grid.stress(row.level)), row.times) for row in rows]
     bars_to_right(chart, [(s - half, s + half, n) for s, n in stresses], "bar")
     _draw_reference(chart, grid)
     chart.baseline()
@@ -176,8 +176,8 @@ def _extremes_figure(gauge: GaugeReport, grid: Grid) -> str:
     chart = Chart(
         f"extremes-{gauge.name}",
         f"Peaks and valleys of {gauge.name}",
-        f"{sum(row.count for row in gauge.peaks.rows)} peaks from the reference on and "
-        f"{sum(row.count for row in gauge.valleys.rows)} valleys below it, by stress class.",
+        f"{sum(row.times for row in gauge.peaks.rows)} peaks from the reference on and "
+        f"{sum(row.times for row in gauge.valleys.rows)} valleys below it, by stress class.",
         x=_count_scale(gauge.peaks, gauge.valleys),
         y=_stress_axis(gauge, grid, BOTTOM, TOP),
         height=HEIGHT,
@@ -185,7 +185,7 @@ def _extremes_figure(gauge: GaugeReport, grid: Grid) -> str:
     _level_chart(gauge, grid, chart, "Number")
     for section, kind in ((gauge.peaks, "bar"), (gauge.valleys, "bar valley")):
         bars = [
-            (float(grid.stress(row.level)), float(grid.stress(row.level + 1)), row.count)
+            (float(grid.stress(row.level)), float(grid.stress(row.level + 1)), row.times)
             for row in section.rows
         ]
         bars_to_right(chart, bars, kind)

@@ -7,7 +7,6 @@ from dataclasses import dataclass
 
 from monitor_companion.curves import KNEE_CYCLES, Curve
 from monitor_companion.page_svg import (
-    HEIGHT,
     LEFT,
     RIGHT,
     TOP,
@@ -30,6 +29,7 @@ LETTERS = "ABCDEFGHIJKLMNOPQRSTUVWXYZabcdefghijklmnopqrstuvwxyz"
 # Dashes that tell curves apart without colour, and come again where there are more curves.
 DASHES = ("none", "7 3", "2 3", "9 3 2 3", "4 2", "1 2")
 LETTER_GAP = 12.0
+FARTHEST_LETTER = 20.0
 
 
 @dataclass(frozen=True)
@@ -109,8 +109,8 @@ def _range_at(curve: Curve, cycles: float) -> float:
         return least
     knee = curve.knee
     if knee is None or cycles > KNEE_CYCLES:
-        return least * (float(endurance) / cycles) ** 0.2
-    return float(knee) * (float(KNEE_CYCLES) / cycles) ** (1 / 3)
+        return least * math.pow(float(endurance) / cycles, 0.2)
+    return float(knee) * math.pow(KNEE_CYCLES / cycles, 1 / 3)
 
 
 def _draw_cumulated(chart: Chart, bars: list[tuple[float, float]], half_class: float) -> None:
@@ -140,12 +140,17 @@ def _draw_curve(chart: Chart, drawn: DrawnCurve) -> None:
 
 
 def _draw_letters(chart: Chart, curves: list[DrawnCurve]) -> None:
-    """The letters of the curves at their left ends, moved apart where they would meet."""
+    """The letters of the curves at their left ends, moved apart where they would meet.
+
+    Of very many curves some have no letter, which would stand too far from its curve.
+    """
     before = math.inf
     for drawn in curves:
         place = chart.y.within(_range_at(drawn.curve, FIRST_CYCLES)) + 4
-        before = min(place, before - LETTER_GAP)
-        chart.words(chart.x(FIRST_CYCLES) - 6, before, drawn.letter, "end strong")
+        moved = min(place, before - LETTER_GAP)
+        if place - moved <= FARTHEST_LETTER:
+            chart.words(chart.x(FIRST_CYCLES) - 6, moved, drawn.letter, "end strong")
+            before = moved
 
 
 def _note(curves: list[DrawnCurve]) -> str:

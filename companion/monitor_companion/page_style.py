@@ -7,7 +7,7 @@ STYLE = """
 html{color-scheme:light;-webkit-text-size-adjust:100%}
 body{margin:0;background:#fff;color:var(--ink);font:16px/1.5 "Source Sans 3","Segoe UI",Roboto,
 "Helvetica Neue","Liberation Sans",Arial,sans-serif;font-variant-numeric:tabular-nums lining-nums}
-main,header,footer{max-width:1160px;margin:0 auto;padding:0 32px}
+main,header,footer{max-width:1080px;margin:0 auto;padding:0 32px}
 header{padding-top:36px}
 h1,h2,h3{line-height:1.2;font-weight:600;margin:0;overflow-wrap:anywhere}
 h1{font-size:30px;letter-spacing:-.01em}
@@ -17,28 +17,31 @@ p{margin:0 0 10px;max-width:80ch}
 a{color:var(--blue);text-decoration:none}
 a:hover{text-decoration:underline}
 header .what{color:var(--soft);margin:6px 0 0}
+nav{display:flex;flex-wrap:wrap;gap:2px 18px}
 nav{margin-top:14px;font-size:14px;border-top:2px solid var(--ink);padding-top:8px}
-nav a{margin-right:16px;white-space:nowrap}
+nav a{overflow-wrap:anywhere}
 section{margin-top:40px}
 section.gauge{border-top:1px solid var(--rule);padding-top:26px}
 small{font-size:.8em;font-weight:400;color:var(--soft)}
-.note{color:var(--soft);font-size:13.5px;line-height:1.45}
+.note{color:var(--soft);font-size:13.5px;line-height:1.45;max-width:none}
 table{border-collapse:collapse;width:100%;margin:0 0 10px;font-size:15px}
 caption{text-align:left;font-weight:600;padding:14px 0 4px}
 th,td{text-align:left;font-weight:400;padding:7px 18px 7px 0;vertical-align:baseline}
 thead th{color:var(--soft);font-size:13px;line-height:1.25;vertical-align:bottom;
 border-bottom:1.5px solid var(--ink)}
 tbody th,tbody td{border-bottom:1px solid var(--rule)}
-tbody th{font-weight:600}
+tbody th{font-weight:600;overflow-wrap:anywhere}
+.details td:nth-child(2){overflow-wrap:anywhere}
 .number,.numbers td{text-align:right}
 .numbers thead th:not(:first-child){text-align:right}
 .numbers th,.numbers td{padding:4px 0 4px 14px}
 .numbers th:first-child{padding-left:0}
-.numbers tbody th{font-weight:400;white-space:nowrap}
+.numbers tbody th{font-weight:400}
 .numbers td{white-space:nowrap}
 .numbers{font-size:13.5px}
 .numbers tfoot th,.numbers tfoot td{border-top:1.5px solid var(--ink);font-weight:600}
 .strong{font-weight:600}
+.gauges th:last-child,.gauges td:last-child{padding-right:0}
 .share{width:26%;padding-right:0}
 .share i{display:block;height:11px;min-width:1px;background:var(--bar);
 border-left:2px solid var(--blue);print-color-adjust:exact;-webkit-print-color-adjust:exact}
@@ -62,6 +65,7 @@ svg .middle{text-anchor:middle}
 svg .end{text-anchor:end}
 svg .label{font-size:12px;fill:var(--ink)}
 svg .small{font-size:10.5px}
+svg .halo{paint-order:stroke;stroke:#fff;stroke-width:3px;stroke-linejoin:round}
 svg .strong{font-weight:700;fill:var(--ink)}
 svg .grid{stroke:#dfe4e8;stroke-width:.8;fill:none}
 svg .axis{stroke:var(--ink);stroke-width:1;fill:none}
@@ -86,11 +90,12 @@ print-color-adjust:exact;-webkit-print-color-adjust:exact}
 .more{margin-top:14px}
 .more summary{cursor:pointer;color:var(--blue);font-size:14px}
 .more table{max-width:620px}
+.warning p{max-width:none}
 footer{margin-top:52px;padding-bottom:48px}
 footer .inner{border-top:1px solid var(--rule);padding-top:14px;font-size:13px;color:var(--soft)}
 footer code{overflow-wrap:anywhere;font-size:12px}
 footer h2{font-size:15px;color:var(--ink);margin-bottom:6px}
-@media (max-width:760px){
+@media screen and (max-width:760px){
 main,header,footer{padding-left:16px;padding-right:16px}
 header{padding-top:22px}
 h1{font-size:24px}
@@ -100,7 +105,8 @@ section{margin-top:30px}
 .details thead,.gauges thead{position:absolute;width:1px;height:1px;overflow:hidden;
 clip-path:inset(50%)}
 .details,.details tbody,.gauges,.gauges tbody,.details caption,.gauges caption{display:block}
-.details tr{display:grid;grid-template-columns:1fr auto;padding:8px 0;
+.details tr{display:grid;grid-template-columns:minmax(0,1fr) auto;column-gap:12px}
+.details tr{padding:8px 0;
 border-bottom:1px solid var(--rule)}
 .details tbody th,.details tbody td,.gauges tbody th,.gauges tbody td{border:0;padding:0}
 .details tr>:nth-child(1){grid-area:1/1}

@@ -5,6 +5,7 @@ from __future__ import annotations
 from fractions import Fraction
 
 from monitor_companion.page_text import (
+    THIN_SPACE,
     days,
     duration,
     escaped,
@@ -36,8 +37,7 @@ def worst_first(damages: tuple[DetailDamage, ...]) -> list[DetailDamage]:
 def _warnings(series: Series) -> str:
     lines = "".join(
         f"<li><b>{escaped(gauge.name)}</b>: {grouped(gauge.refused)} of {grouped(gauge.samples)} "
-        "readings lay outside the stress classes and were left out. Its table is not that of the "
-        "whole history, and the damage of its details may be too small.</li>"
+        f"readings ({_percent(gauge.refused, gauge.samples)})</li>"
         for gauge in series.whole.report.gauges
         if gauge.refused
     )
@@ -46,8 +46,9 @@ def _warnings(series: Series) -> str:
     grid = series.site.grid
     span = f"{_stress(grid.stress(0))} to {_stress(grid.stress(grid.classes))} N/mm²"
     return (
-        '<div class="warning" role="note"><p><strong>Warning: refused readings</strong> '
-        f"(the classes reach from {span})</p><ul>{lines}</ul></div>"
+        '<div class="warning" role="note"><p><strong>Warning: the tables are incomplete.</strong> '
+        f"Readings outside the stress classes, {span}, were refused and left out. The damage of "
+        f"these gauges’ details may be too small:</p><ul>{lines}</ul></div>"
     )
 
 
@@ -62,14 +63,15 @@ def _details_table(series: Series) -> str:
         return '<p class="note">The configuration has no weld detail.</p>'
     most = damages[0].printed.damage
     rows = "".join(_detail_row(each, most) for each in damages)
+    printed = "the sum of what the program printed" if series.are_windows else "as it was printed"
     return (
         '<table class="details"><caption>Weld details, the worst first</caption><thead><tr>'
         '<th scope="col">Detail</th><th scope="col">Gauge</th><th scope="col">Category</th>'
         '<th scope="col" class="number">Factor</th><th scope="col" class="number">Damage<br>'
         '<small>% of life</small></th><th scope="col" class="share" aria-hidden="true"></th>'
         f"</tr></thead><tbody>{rows}</tbody></table>"
-        '<p class="note">Damage by EN 1993-1-9:2005, Annex A, as the program printed it: rounded '
-        "up at the last digit; 100 % is the whole life. Bars compare with the worst detail.</p>"
+        f'<p class="note">Damage by EN 1993-1-9:2005, Annex A, {printed}: rounded '
+        "up at the last digit; 100\u00a0% is the whole life. Bars compare with the worst detail.</p>"
     )
 
 
@@ -130,8 +132,11 @@ def _count_cell(word: str, count: int, under: str) -> str:
     )
 
 
+def _percent(count: int, samples: int) -> str:
+    return f"{small_percent(Fraction(count, samples), 2)}{THIN_SPACE}%"
+
+
 def _share(count: int, samples: int) -> str:
     if not count:
         return ""
-    share = small_percent(Fraction(count, samples), 2)
-    return f' <small class="under">{share} %</small>'
+    return f' <small class="under">{_percent(count, samples)}</small>'

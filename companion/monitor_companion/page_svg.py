@@ -9,7 +9,7 @@ import math
 from collections.abc import Iterable, Sequence
 from dataclasses import dataclass, field
 
-from monitor_companion.page_text import escaped, plain, power_of_ten
+from monitor_companion.page_text import MINUS, escaped, plain, power_of_ten
 
 WIDTH = 400
 HEIGHT = 300
@@ -18,6 +18,8 @@ RIGHT = 390
 TOP = 10
 TICK_GAP = 14
 LABEL_DROP = 31
+# A tick with more decimals is told as a power of ten.
+MOST_DECIMALS = 5
 
 
 @dataclass(frozen=True)
@@ -50,7 +52,16 @@ def round_ticks(low: float, high: float, about: int = 6) -> list[tuple[float, st
     decade: float = 10.0 ** math.floor(math.log10(rough))
     step = next(s * decade for s in (1, 2, 5, 10) if s * decade >= rough * 0.999)
     first, last = math.ceil(low / step - 1e-9), math.floor(high / step + 1e-9)
-    return [(n * step, plain(round(n * step, 9))) for n in range(first, last + 1)]
+    return [(n * step, round_text(n * step, step)) for n in range(first, last + 1)]
+
+
+def round_text(value: float, step: float) -> str:
+    """A multiple of a step with the step's decimals, or as a power of ten where these are many."""
+    decimals = max(0, -math.floor(math.log10(step) + 1e-9))
+    if decimals <= MOST_DECIMALS or not value:
+        return plain(0.0) if not value else f"{value:.{decimals}f}".replace("-", MINUS)
+    exponent = math.floor(math.log10(abs(value)) + 1e-9)
+    return f"{plain(round(value / 10.0**exponent, 3))}×{power_of_ten(exponent)}"
 
 
 def decade_ticks(low: float, high: float, most: int = 10) -> list[tuple[float, str]]:
@@ -105,7 +116,8 @@ class Chart:
         left, right = self.x.start, self.x.end
         bottom, top = self.y.start, self.y.end
         lines = [f"M{number(self.x(value))} {number(bottom)}V{number(top)}" for value, _ in x_ticks]
-        lines += [f"M{number(left)} {number(self.y(value))}H{number(right)}" for value, _ in y_ticks]
+        start, end = number(left), number(right)
+        lines += [f"M{start} {number(self.y(value))}H{end}" for value, _ in y_ticks]
         self.add(f'<path class="grid" d="{"".join(lines)}"/>')
         for value, text in x_ticks:
             if text:

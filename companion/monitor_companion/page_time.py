@@ -5,7 +5,6 @@ from __future__ import annotations
 from fractions import Fraction
 
 from monitor_companion.page_svg import (
-    LEFT,
     RIGHT,
     TOP,
     Chart,
@@ -86,7 +85,7 @@ def _time_chart(
         y=_life_scale(values),
         height=HEIGHT,
     )
-    chart.axes(x_ticks, round_ticks(0, chart.y.high, 4), x_label, "% of life")
+    chart.axes(x_ticks, round_ticks(0, chart.y.high, 5), x_label, "% of life")
     return chart
 
 
@@ -104,7 +103,7 @@ def _growth_figure(series: Series, name: str) -> str:
         x_label = "Samples"
     x = Scale(0.0, max(places[-1], 1e-9) * 1.02, LEFT_WIDE, RIGHT)
     values = [_printed(reading, name).damage for reading in series.readings]
-    chart = _time_chart(series, name, x, values, round_ticks(0, x.high, 5), x_label)
+    chart = _time_chart(series, name, x, values, round_ticks(0, x.high, 6), x_label)
     points = [
         (chart.x(at), chart.y(float(value) * 100))
         for at, value in zip(places, values, strict=True)

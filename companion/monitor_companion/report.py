@@ -1,4 +1,4 @@
-"""A report of `monitor count` or `monitor report`, read exactly as docs/FORMATS.md states its texts.
+"""A report of `monitor count` or `monitor report`, read exactly as docs/FORMATS.md states it.
 
 Ranges are kept in halves of a N/mm² and cycles in half units, so every number is a whole one.
 """
@@ -65,7 +65,7 @@ class LevelCount(NamedTuple):
     """A level, or the boundary below it, and its count."""
 
     level: int
-    count: int
+    times: int
 
 
 RowT = TypeVar("RowT", RangeCount, PairCount, LevelCount)

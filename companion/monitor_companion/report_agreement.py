@@ -1,15 +1,14 @@
 """Whether a report agrees with itself and with its configuration.
 
 A report says most of its numbers more than once: the rainflow table is the matrix by range; the
-matrix tells crossings, peaks and valleys but for what lies at the two ends of the history; and
-the simple ranges have its number of half units and its sum of ranges. The damage of each detail
-is that of the table. What differs is refused with its line.
+matrix tells crossings, peaks and valleys, but for the direction of the history; and the simple
+ranges have its number of half units and its sum of ranges. The damage of each detail is that of
+the table. What differs is refused with its line.
 """
 
 from __future__ import annotations
 
 from collections import Counter
-from collections.abc import Mapping
 from dataclasses import dataclass
 
 from monitor_companion.curves import RangeDamage, damage_by_range, total_damage
@@ -22,6 +21,7 @@ from monitor_companion.report import (
     Report,
     Section,
 )
+from monitor_companion.report_history import Counts, possible_counts
 from monitor_companion.report_site import Grid, Site, SiteDetail
 
 
@@ -74,14 +74,9 @@ class _GaugeCheck:
         self.file = file
         self.gauge = gauge
         self.grid = grid
-        matrix = gauge.matrix.rows
         self.by_range: Counter[int] = Counter()
-        self.tops: Counter[int] = Counter()
-        self.bottoms: Counter[int] = Counter()
-        for row in matrix:
+        for row in gauge.matrix.rows:
             self.by_range[(row.upper - row.lower) * grid.width] += row.half_units
-            self.tops[row.upper] += row.half_units
-            self.bottoms[row.lower] += row.half_units
 
     def refusal(self, line: int, why: str) -> Refusal:
         return Refusal(Place(self.file, line), f"gauge {self.gauge.name}: {why}")
@@ -132,91 +127,47 @@ class _GaugeCheck:
             why = f"{half_units} half cycles can't be of {self.gauge.used} used readings"
             raise self.refusal(rainflow.line, why)
 
-    def check_crossings(self) -> None:
-        """Each half unit crosses the boundaries between its levels once, up or down in turn.
+    def check_counts(self) -> None:
+        """Crossings, peaks and valleys have to be those of a history with this matrix."""
+        gauge = self.gauge
+        possible = possible_counts(gauge.matrix.rows, self.grid.reference)
+        if not possible:
+            raise self.refusal(gauge.matrix.line, "no history has such a matrix")
+        found = [_differences(gauge, counts) for counts in possible]
+        fewest = min(found, key=len)
+        if fewest:
+            line, why = fewest[0]
+            raise self.refusal(line, why)
 
-        Up and down differ by one where the history ends on the other side of a boundary, in the
-        same direction at all of these.
-        """
-        across = self._across()
-        found = {row.level: row.count for row in self.gauge.crossings.rows}
-        differences = [_difference(self._crossings(across, up), found) for up in (1, -1)]
-        if None in differences:
-            return
-        # The later of the two first differences is the one of the direction that fits better.
-        level, count = max(each for each in differences if each is not None)
-        why = f"the boundary {level} is crossed {count} times by the matrix"
-        raise self.refusal(_line_near(self.gauge.crossings, level), why)
 
-    def _across(self) -> dict[int, int]:
-        """The half units that cross each boundary."""
-        crossed = 0
-        across: dict[int, int] = {}
-        for boundary in range(1, self.grid.classes):
-            crossed += self.bottoms[boundary - 1] - self.tops[boundary - 1]
-            across[boundary] = crossed
-        return across
-
-    def _crossings(self, across: dict[int, int], up: int) -> dict[int, int]:
-        """The counted crossings, where upward ones are one more (`up` 1) or less at odd numbers."""
-        counts: dict[int, int] = {}
-        for boundary, crossed in across.items():
-            sign = up if boundary >= self.grid.reference else -up
-            counts[boundary] = (crossed + sign * (crossed % 2)) // 2
-        return {boundary: count for boundary, count in counts.items() if count}
-
-    def check_extremes(self) -> None:
-        """Each peak is the upper end of two half units, and each valley the lower end of two.
-
-        The first and the last point of the history are the end of one alone; where both lie at
-        one level on one side, no number is odd, and one peak or valley less is counted somewhere.
-        """
-        reference = self.grid.reference
-        tops = {level: count for level, count in self.tops.items() if level >= reference}
-        bottoms = {level: count for level, count in self.bottoms.items() if level < reference}
-        odd = [n for ends in (self.tops, self.bottoms) for n in ends.values() if n % 2]
-        spare = 1 if self.gauge.matrix.rows and not odd else 0
-        spare -= self._check_side(self.gauge.peaks, tops, spare, "peaks")
-        spare -= self._check_side(self.gauge.valleys, bottoms, spare, "valleys")
-        # What lies on the other side of the reference isn't printed.
-        if spare and len(tops) == len(self.tops) and len(bottoms) == len(self.bottoms):
-            raise self.refusal(self.gauge.peaks.line, "one peak or valley more than the matrix has")
-
-    def _check_side(
-        self, section: Section[LevelCount], ends: Mapping[int, int], spare: int, what: str
-    ) -> int:
-        """Compares a section; returns how many less than the matrix says are there, 0 to `spare`."""
-        found = {row.level: row.count for row in section.rows}
-        less = 0
-        for level in sorted(found.keys() | ends.keys()):
-            difference = ends.get(level, 0) // 2 - found.get(level, 0)
-            less += difference
-            if difference < 0 or less > spare:
-                why = f"level {level} has {ends.get(level, 0) // 2} {what} by the matrix"
-                raise self.refusal(_line_near(section, level), why)
-        return less
+def _differences(gauge: GaugeReport, counts: Counts) -> list[tuple[int, str]]:
+    """The lines at which a gauge has other counts, and what is wrong there."""
+    sections = (
+        (gauge.crossings, counts.crossings, "boundary", "crossings"),
+        (gauge.peaks, counts.peaks, "level", "peaks"),
+        (gauge.valleys, counts.valleys, "level", "valleys"),
+    )
+    differences: list[tuple[int, str]] = []
+    for section, wanted, place, what in sections:
+        found = {row.level: row.times for row in section.rows}
+        for level in sorted(wanted.keys() | found.keys()):
+            if wanted.get(level, 0) != found.get(level, 0):
+                why = f"{place} {level} has {wanted.get(level, 0)} {what} by the matrix"
+                differences.append((_line_near(section, level), why))
+    return differences
 
 
 def _check_gauge(file: str, gauge: GaugeReport, grid: Grid) -> None:
     check = _GaugeCheck(file, gauge, grid)
     check.check_grid()
     check.check_ranges()
-    check.check_crossings()
-    check.check_extremes()
+    check.check_counts()
 
 
 def _sums(section: Section[RangeCount]) -> tuple[int, int]:
     """The half units of a section, and the sum of their ranges."""
     half_units = sum(row.half_units for row in section.rows)
     return half_units, sum(row.half_units * row.half_stress for row in section.rows)
-
-
-def _difference(wanted: dict[int, int], found: dict[int, int]) -> tuple[int, int] | None:
-    """The first level at which counts differ with the wanted count, or None."""
-    for level in sorted(wanted.keys() | found.keys()):
-        if wanted.get(level, 0) != found.get(level, 0):
-            return level, wanted.get(level, 0)
-    return None
 
 
 def _line_near(section: Section[LevelCount], level: int) -> int:
@@ -232,7 +183,7 @@ def _check_damage(
     place = Place(report.file, printed.line)
     curve = detail.curve
     if printed.denominator != curve.denominator:
-        why = f"the denominator isn't that of {curve.words}, which {site.file} gives to {detail.name}"
+        why = f"the denominator isn't that of {curve.words}, by {site.file} for {detail.name}"
         raise Refusal(place, why)
     ranges = damage_by_range(curve, report.gauge(detail.gauge).rainflow.rows)
     recomputed = total_damage(ranges)

@@ -70,6 +70,7 @@ def read_reading(name: str, site: Site) -> Reading:
 def read_series(names: Sequence[str], site: Site, are_windows: bool) -> Series:
     """Reads reports, the oldest first; raises a `Refusal` where one that should grow has less."""
     readings = tuple(read_reading(name, site) for name in names)
+    _check_different(readings)
     labels = Counter(reading.label for reading in readings)
     readings = tuple(
         replace(reading, label=reading.report.file) if labels[reading.label] > 1 else reading
@@ -92,6 +93,17 @@ def refused_words(reading: Reading) -> list[str]:
     ]
 
 
+def _check_different(readings: tuple[Reading, ...]) -> None:
+    """No report may stand twice, but for one of no samples at all."""
+    files: dict[str, str] = {}
+    for reading in readings:
+        report = reading.report
+        if reading.digest in files and any(gauge.samples for gauge in report.gauges):
+            why = f"is the same report as {files[reading.digest]}, byte for byte"
+            raise Refusal(Place(report.file), why)
+        files[reading.digest] = report.file
+
+
 def _check_growth(before: Report, now: Report) -> None:
     for old, new in zip(before.gauges, now.gauges, strict=True):
         for what in ("samples", "used", "missing", "refused"):
@@ -99,7 +111,7 @@ def _check_growth(before: Report, now: Report) -> None:
             if has < was:
                 why = (
                     f"gauge {new.name} has {has} {what}, and {was} in {before.file} before it: "
-                    "give the oldest report first, or say --windows where each is of a time of its own"
+                    "give the oldest report first, or say --windows where each has its own time"
                 )
                 raise Refusal(Place(now.file, new.line + 1), why)
 
@@ -162,7 +174,7 @@ def _sum_of_levels(sections: Iterable[Section[LevelCount]]) -> Section[LevelCoun
     counts: Counter[int] = Counter()
     for section in sections:
         for row in section.rows:
-            counts[row.level] += row.count
+            counts[row.level] += row.times
     return Section(0, tuple(LevelCount(key, counts[key]) for key in sorted(counts)))
 
 

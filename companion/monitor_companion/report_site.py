@@ -66,13 +66,17 @@ class SiteDetail:
 
 @dataclass(frozen=True)
 class Site:
-    """What a configuration says, and the period in microseconds of each gauge where it is known."""
+    """What a configuration says, and the period in microseconds of each gauge where it is known.
+
+    With a store, the grid is known to be that of the store.
+    """
 
     file: str
     grid: Grid
     gauges: tuple[SiteGauge, ...]
     details: tuple[SiteDetail, ...]
     periods: tuple[int | None, ...]
+    has_store: bool
 
     def details_of(self, gauge: str) -> list[SiteDetail]:
         """The details on a gauge, in the order of the configuration."""
@@ -133,7 +137,12 @@ def read_site(folder: Path) -> Site:
         for number, value in enumerate(_items(str(path), document, "detail", MAX_DETAILS))
     )
     _check_names(str(path), gauges, details)
-    return Site(str(path), grid, gauges, details, _periods(folder, grid, gauges))
+    store = folder / STORE
+    if store.is_file():
+        periods = _store_periods(store, grid, gauges)
+    else:
+        periods = tuple(_recording_period(folder / gauge.file) for gauge in gauges)
+    return Site(str(path), grid, gauges, details, periods, store.is_file())
 
 
 def _document(path: Path) -> dict[str, Any]:
@@ -206,15 +215,6 @@ def _check_names(
             raise Refusal(Place(file), f"detail {number}: there is no gauge {detail.gauge!r}")
 
 
-def _periods(
-    folder: Path, grid: Grid, gauges: tuple[SiteGauge, ...]
-) -> tuple[int | None, ...]:
-    store = folder / STORE
-    if store.is_file():
-        return _store_periods(store, grid, gauges)
-    return tuple(_recording_period(folder / gauge.file) for gauge in gauges)
-
-
 def _store_periods(
     path: Path, grid: Grid, gauges: tuple[SiteGauge, ...]
 ) -> tuple[int | None, ...]:
@@ -238,12 +238,13 @@ def _store_periods(
         place = _STORE_HEAD.size + number * _STORE_GAUGE.size
         _, period, num, den, offset = _STORE_GAUGE.unpack_from(content, place)
         periods.append(period)
-        wanted = (("num", num, gauge.num), ("den", den, gauge.den), ("offset", offset, gauge.offset))
-        found += [(f"{key} of gauge {gauge.name}", was, now) for key, was, now in wanted]
+        keys, wanted = ("num", "den", "offset"), (gauge.num, gauge.den, gauge.offset)
+        for key, was, now in zip(keys, (num, den, offset), wanted, strict=True):
+            found.append((f"{key} of gauge {gauge.name}", was, now))
     for what, was, now in found:
         if was != now:
-            why = f"its {what} is {was}, and {CONFIGURATION} has {now}: it is of another configuration"
-            raise Refusal(Place(str(path)), why)
+            why = f"its {what} is {was}, and {CONFIGURATION} has {now}"
+            raise Refusal(Place(str(path)), f"{why}: it is of another configuration")
     return tuple(periods)
 
 
