@@ -40,7 +40,9 @@ def add_arguments(parser: argparse.ArgumentParser) -> None:
         default=STANDARD_OUTPUT,
         help="the page (standard output where it is left out)",
     )
-    parser.add_argument("--title", default="Fatigue report", help="the heading of the page")
+    parser.add_argument(
+        "--title", help="the heading of the page (it names the site's folder where it is left out)"
+    )
     parser.add_argument(
         "--windows",
         action="store_true",
@@ -53,5 +55,8 @@ def run(arguments: argparse.Namespace) -> Status:
     if arguments.reports.count(STANDARD_INPUT) > 1:
         raise Refusal(Place("standard input"), "can be read only once")
     series = read_series(arguments.reports, read_site(arguments.site), arguments.windows)
-    write_text(page_text(series, arguments.title), arguments.output)
+    title = arguments.title
+    if title is None:
+        title = f"Fatigue report: {arguments.site.resolve().name}"
+    write_text(page_text(series, title), arguments.output)
     return told_warnings(series.whole)

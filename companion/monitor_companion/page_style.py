@@ -2,7 +2,7 @@
 
 STYLE = """
 :root{--ink:#1b2127;--soft:#59636d;--rule:#c8d0d7;--pale:#f3f5f7;--blue:#1f4e79;--bar:#9dbad6;
---amber:#a34e00;--valley:#e9b872}
+--amber:#a34e00;--valley:#f6d7a4}
 *{box-sizing:border-box}
 html{color-scheme:light;-webkit-text-size-adjust:100%}
 body{margin:0;background:#fff;color:var(--ink);font:16px/1.5 "Source Sans 3","Segoe UI",Roboto,

@@ -71,7 +71,7 @@ def _details_table(series: Series) -> str:
         '<small>% of life</small></th><th scope="col" class="share" aria-hidden="true"></th>'
         f"</tr></thead><tbody>{rows}</tbody></table>"
         f'<p class="note">Damage by EN 1993-1-9:2005, Annex A, {printed}: rounded '
-        "up at the last digit; 100\u00a0% is the whole life. Bars compare with the worst detail.</p>"
+        "up at the last digit; 100\u00a0% is the whole life. Bars compare with the worst.</p>"
     )
 
 

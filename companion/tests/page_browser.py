@@ -126,11 +126,14 @@ class Browser:
             raise RuntimeError(str(answer["exceptionDetails"]))
         return answer["result"].get("value")
 
-    def picture(self, whole: bool = True) -> bytes:
-        """The page, or the window, as a PNG file."""
-        answer = self.call(
-            "Page.captureScreenshot", format="png", captureBeyondViewport=whole
-        )
+    def picture(self, part: tuple[float, float, float, float] | None = None) -> bytes:
+        """The page as a PNG file, or a part of it: left, top, width and height in pixels."""
+        words: dict[str, Any] = {"format": "png", "captureBeyondViewport": True}
+        if part is not None:
+            words["clip"] = dict(zip(("x", "y", "width", "height"), part, strict=True)) | {
+                "scale": 1
+            }
+        answer = self.call("Page.captureScreenshot", **words)
         return base64.b64decode(answer["data"])
 
     def paper(self) -> bytes:
