@@ -49,7 +49,11 @@ def _no_damage_words(damage: DetailDamage) -> str:
     if not damage.ranges:
         return "No cycle was counted, so there is no damage."
     greatest = fixed(damage.ranges[0].stress_range, 1)
-    return f"The greatest range, {greatest} N/mm², lies below the cut-off limit: no damage."
+    limit = fixed(damage.detail.curve.cut_off, 2)
+    return (
+        f"The greatest range, {greatest} N/mm², lies below the cut-off limit with the partial "
+        f"factor, {limit} N/mm²: no damage."
+    )
 
 
 def _damage_figure(damage: DetailDamage, grid: Grid) -> str:

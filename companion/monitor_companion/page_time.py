@@ -74,13 +74,15 @@ def _life_scale(values: list[Fraction]) -> Scale:
 def _time_chart(
     series: Series, name: str, x: Scale, values: list[Fraction], x_ticks: Ticks, x_label: str
 ) -> Chart:
-    first, last = values[0], values[-1]
+    first, last = (
+        percent_of_life(_printed(series.readings[place], name).billionths) for place in (0, -1)
+    )
     what = "each window" if series.are_windows else "all that was recorded until then"
     chart = Chart(
         f"time-{name}",
         f"Damage of {name} over time",
-        f"Damage of {what} in {len(values)} reports; the first {float(first) * 100:.3g} per cent "
-        f"of the life, the last {float(last) * 100:.3g}.",
+        f"Damage of {what} in {len(values)} reports: {first} per cent of the life in the first, "
+        f"{last} in the last.",
         x=x,
         y=_life_scale(values),
         height=HEIGHT,

@@ -5,9 +5,11 @@ from __future__ import annotations
 import contextlib
 import html.parser
 import io
+import os
 import pathlib
 import random
 import shutil
+import subprocess
 import sys
 import tempfile
 import unittest
@@ -277,6 +279,33 @@ class Refusals(unittest.TestCase):
             )
         self.assertEqual(status, 2)
         self.assertIn("page.html: can't be written: No such file", told.getvalue())
+
+    def test_standard_input_stands_once(self) -> None:
+        folder = bridge_case(600).folder(self)
+        told = io.StringIO()
+        with contextlib.redirect_stderr(told):
+            status = run_command("page", "-", "-", "--site", folder, "-o", folder / "page.html")
+        self.assertEqual(status, 2)
+        self.assertIn("standard input: can be read only once", told.getvalue())
+
+    def test_a_folder_in_the_place_of_the_page(self) -> None:
+        folder = bridge_case(600).folder(self)
+        (folder / "page.html").mkdir()
+        self.assertRegex(_draw(folder), "^2 .*page.html: can't be written: Is a directory")
+        self.assertEqual(len(list(folder.iterdir())), 3)
+
+    def test_places_that_are_no_file(self) -> None:
+        """A link stays a link, and a pipe is written into."""
+        folder = bridge_case(600).folder(self)
+        (folder / "page.html").symlink_to("other.html")
+        _draw(folder)
+        self.assertTrue((folder / "page.html").is_symlink())
+        text = (folder / "other.html").read_text(encoding="utf-8")
+        (folder / "page.html").unlink()
+        os.mkfifo(folder / "page.html")
+        with subprocess.Popen(["cat", folder / "page.html"], stdout=subprocess.PIPE) as reader:
+            _draw(folder)
+            self.assertEqual(reader.communicate()[0].decode(), text)
 
 
 class Times(unittest.TestCase):
