@@ -24,7 +24,7 @@ from monitor_companion.page_text import (
     grouped,
     percent_of_life,
 )
-from monitor_companion.report import DetailReport
+from monitor_companion.report import DetailReport, billionths_of
 from monitor_companion.report_reading import Reading, Series
 
 BOTTOM = 192
@@ -32,7 +32,7 @@ HEIGHT = 230
 LEFT_WIDE = 66
 MOST_LABELS = 8
 # Characters of all labels of windows that fit below a chart.
-MOST_CHARACTERS = 56
+MOST_CHARACTERS = 48
 
 
 def time_section(series: Series) -> str:
@@ -148,18 +148,23 @@ def _tables(series: Series) -> str:
 
 def _table(series: Series, name: str) -> str:
     gauge = _printed(series.whole, name).gauge
-    rows = ""
+    rows, total = "", Fraction(0)
     for reading in series.readings:
         time = recorded(series, reading, gauge)
+        printed = _printed(reading, name)
+        total += printed.damage
+        together = f"<td>{percent_of_life(billionths_of(total))}</td>"
         rows += (
             f'<tr><th scope="row">{escaped(reading.label)}</th>'
             f"<td>{grouped(reading.report.gauge(gauge).samples)}</td>"
             f"<td>{'' if time is None else duration(time)}</td>"
-            f"<td>{percent_of_life(_printed(reading, name).billionths)}</td></tr>"
+            f"<td>{percent_of_life(printed.billionths)}</td>"
+            f"{together if series.are_windows else ''}</tr>"
         )
+    together = '<th scope="col">Sum<br><small>% of life</small></th>'
     return (
         f'<table class="numbers"><caption>{escaped(name)}</caption><thead><tr>'
         '<th scope="col">Report</th><th scope="col">Samples</th><th scope="col">Recorded</th>'
-        f'<th scope="col">Damage<br><small>% of life</small></th></tr></thead>'
-        f"<tbody>{rows}</tbody></table>"
+        '<th scope="col">Damage<br><small>% of life</small></th>'
+        f"{together if series.are_windows else ''}</tr></thead><tbody>{rows}</tbody></table>"
     )

@@ -167,6 +167,11 @@ class _Lines:
         return found
 
 
+def billionths_of(damage: Fraction) -> int:
+    """A damage in billionths, rounded up, as the program rounds it."""
+    return -(-damage * BILLION // 1)
+
+
 def shortened(text: str) -> str:
     """A text that fits a line of a refusal."""
     return text if len(text) <= SHOWN_CELL else text[: SHOWN_CELL - 3] + "..."
@@ -317,7 +322,6 @@ def _detail_lines(lines: _Lines) -> Iterator[DetailReport]:
         place = Place(lines.file, line)
         if numerator >= denominator:
             raise Refusal(place, "the fraction isn't below 1")
-        # Rounded up at the ninth decimal.
-        if billionths != -(-(whole * denominator + numerator) * BILLION // denominator):
+        if billionths != billionths_of(whole + Fraction(numerator, denominator)):
             raise Refusal(place, "the decimals are not the fraction, rounded up")
         yield DetailReport(found[1], found[2], line, whole, numerator, denominator, billionths)

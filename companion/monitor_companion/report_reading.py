@@ -13,7 +13,6 @@ from pathlib import Path
 from monitor_companion.curves import damage_by_range
 from monitor_companion.refusals import Place, Refusal
 from monitor_companion.report import (
-    BILLION,
     DetailReport,
     GaugeReport,
     LevelCount,
@@ -21,6 +20,7 @@ from monitor_companion.report import (
     RangeCount,
     Report,
     Section,
+    billionths_of,
     parse_report,
 )
 from monitor_companion.report_agreement import DetailDamage, check_report
@@ -189,5 +189,5 @@ def _sum_of_details(printed: Sequence[DetailReport]) -> DetailReport:
         whole=whole,
         numerator=int(rest * first.denominator),
         denominator=first.denominator,
-        billionths=-(-total * BILLION // 1),
+        billionths=billionths_of(total),
     )

@@ -351,6 +351,8 @@ class Times(unittest.TestCase):
             for name, damage in damages.items()
         }
         self.assertEqual({row[0]: row[4] for row in _shown_details(page)}, percents)
+        sums = [row[4] for row in page.tables["numbers"] if row[0] == "2000" and len(row) == 5]
+        self.assertEqual(sums, [percents[detail.name] for detail in bridge_case(600).details])
         both = zip(_gauges_of(bridge_case(2000)), _gauges_of(bridge_case(4000)), strict=True)
         wanted = [[a[0], *(int(x) + int(y) for x, y in zip(a[1:], b[1:], strict=True))]
                   for a, b in both]
