@@ -9,6 +9,7 @@ from collections.abc import Iterable
 from dataclasses import dataclass
 from enum import Enum
 from fractions import Fraction
+from functools import cached_property
 
 from monitor_companion.report import RangeCount
 
@@ -42,7 +43,7 @@ class Curve:
     category: int
     gamma: int
 
-    @property
+    @cached_property
     def factor(self) -> Fraction:
         """The partial factor."""
         return Fraction(self.gamma, 100)
@@ -53,12 +54,12 @@ class Curve:
         factor = f"{self.gamma // 100}.{self.gamma % 100:02}"
         return f"{self.kind.value} {self.category}, factor {factor}"
 
-    @property
+    @cached_property
     def knee(self) -> Fraction | None:
         """The range in N/mm² from which the slope is 3; shear stress has none."""
         return KNEE * self.category / self.factor if self.kind is Kind.NORMAL else None
 
-    @property
+    @cached_property
     def cut_off(self) -> Fraction:
         """The range in N/mm² below which there is no damage."""
         if self.kind is Kind.SHEAR:

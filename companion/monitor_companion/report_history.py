@@ -41,11 +41,16 @@ def possible_counts(matrix: Sequence[PairCount], reference: int) -> list[Counts]
     """All counts that a history with this matrix may have; none where there is no such history."""
     if not matrix:
         return [Counts({}, {}, {})]
+    tops: Counter[int] = Counter()
+    bottoms: Counter[int] = Counter()
+    for pair in matrix:
+        tops[pair.upper] += pair.half_units
+        bottoms[pair.lower] += pair.half_units
+    crossings = [_crossings(tops, bottoms, is_rising, reference) for is_rising in (True, False)]
     return [
-        counts
+        Counts(each, *_extremes(tops, bottoms, ends, reference))
         for ends in _possible_ends(matrix)
-        for is_rising in (True, False)
-        for counts in [_counts(matrix, ends, is_rising, reference)]
+        for each in crossings
     ]
 
 
@@ -95,27 +100,31 @@ def _ordered(one: End, other: End) -> Ends:
     return (one, other) if one <= other else (other, one)
 
 
-def _counts(
-    matrix: Sequence[PairCount], ends: Ends, is_rising: bool, reference: int
-) -> Counts:
-    """The counts of a history with these ends, of which the last is higher or isn't."""
-    tops: Counter[int] = Counter()
-    bottoms: Counter[int] = Counter()
-    across: Counter[int] = Counter()
-    for pair in matrix:
-        tops[pair.upper] += pair.half_units
-        bottoms[pair.lower] += pair.half_units
+def _crossings(
+    tops: Counter[int], bottoms: Counter[int], is_rising: bool, reference: int
+) -> dict[int, int]:
+    """The crossings of a history whose last point lies above its first one, or doesn't.
+
+    Each half unit crosses the boundaries between its levels. Up and down differ by one where the
+    history ends on the other side of a boundary.
+    """
+    counts: dict[int, int] = {}
     crossed = 0
     for boundary in range(min(bottoms) + 1, max(tops) + 1):
         crossed += bottoms[boundary - 1] - tops[boundary - 1]
-        # Up and down differ by one where the history ends on the other side of a boundary.
         is_more = is_rising == (boundary >= reference)
-        across[boundary] = (crossed + (crossed % 2 if is_more else -(crossed % 2))) // 2
-    # Each peak is the upper end of two half units; the first and the last point end one alone.
+        counts[boundary] = (crossed + (crossed % 2 if is_more else -(crossed % 2))) // 2
+    return {boundary: times for boundary, times in counts.items() if times}
+
+
+def _extremes(
+    tops: Counter[int], bottoms: Counter[int], ends: Ends, reference: int
+) -> tuple[dict[int, int], dict[int, int]]:
+    """The peaks and valleys: two half units end at each, and one at an end of the history."""
+    tops, bottoms = tops.copy(), bottoms.copy()
     for end in ends:
         (tops if end.is_top else bottoms)[end.level] -= 1
-    return Counts(
-        crossings={boundary: times for boundary, times in across.items() if times},
-        peaks={level: n // 2 for level, n in tops.items() if level >= reference and n > 0},
-        valleys={level: n // 2 for level, n in bottoms.items() if level < reference and n > 0},
+    return (
+        {level: n // 2 for level, n in tops.items() if level >= reference and n > 0},
+        {level: n // 2 for level, n in bottoms.items() if level < reference and n > 0},
     )
