@@ -13,6 +13,7 @@ import tempfile
 import tomllib
 import unittest
 from dataclasses import dataclass
+from functools import cached_property, lru_cache
 from typing import Any
 
 from monitor_companion.refusals import Refusal, Status
@@ -48,8 +49,9 @@ class Case:
     counts: list[Any]
     details: list[Any]
 
-    @property
+    @cached_property
     def report(self) -> str:
+        """What the program prints by the independent count."""
         text: str = model.report(self.names, self.counts, self.details)
         return text
 
@@ -57,7 +59,10 @@ class Case:
         """A folder with the configuration and the report, `report.txt`, for one test."""
         place = tempfile.TemporaryDirectory()
         test.addCleanup(place.cleanup)
-        folder = pathlib.Path(place.name)
+        return self.written(pathlib.Path(place.name))
+
+    def written(self, folder: pathlib.Path) -> pathlib.Path:
+        """A folder, with the configuration and the report."""
         (folder / "monitor.toml").write_text(self.configuration)
         (folder / "report.txt").write_text(self.report)
         return folder
@@ -92,6 +97,7 @@ def standard_case() -> Case:
     return case_of(configuration, [list(STANDARD_STRESSES)])
 
 
+@lru_cache
 def bridge_case(samples: int = 12_000) -> Case:
     """The bridge in the examples, or the front of its recordings."""
     configuration = (BRIDGE / "monitor.toml").read_text()

@@ -86,6 +86,9 @@ class Exports(unittest.TestCase):
         crossings = {Fraction(r["stress_n_mm2"]): r["count"] for r in gauge["crossings"]}
         at = {low + width * level: times for level, times in count.crossings().items()}
         self.assertEqual(crossings, at)
+        for row in gauge["crossings"]:
+            is_up = row["boundary"] >= count.grid.reference
+            self.assertEqual(row["direction"], "up" if is_up else "down")
         for section, is_peak in (("peaks", True), ("valleys", False)):
             found = {Fraction(r["from_n_mm2"]): r["count"] for r in gauge[section]}
             extremes = count.extremes(is_peak)
@@ -96,6 +99,17 @@ class Exports(unittest.TestCase):
         line = detail.line(case.names[detail.gauge], count).split()
         self.assertEqual(str(found["damage"]), str(Decimal(line[5])))
         self.assertEqual(found["percent_of_life"], 100 * Decimal(line[5]))
+        self.assertEqual([found[key] for key in ("detail", "gauge", "kind")],
+                         [detail.name, case.names[detail.gauge], detail.kind])
+        self.assertEqual(found["category_n_mm2"], detail.category)
+        self.assertEqual(found["factor"], Decimal(detail.gamma) / 100)
+        # docs/RULES.md: 0.737 C and 0.549 of that, or 0.457 C.
+        category, knee = Decimal(detail.category), found["knee_n_mm2"]
+        if detail.kind == "normal":
+            self.assertEqual(knee, Decimal("0.737") * category)
+            self.assertEqual(found["cut_off_n_mm2"], Decimal("0.549") * knee)
+        else:
+            self.assertEqual((knee, found["cut_off_n_mm2"]), (None, Decimal("0.457") * category))
         exactly = int(line[3]) + Fraction(line[4])
         self.assertEqual(Fraction(found["damage_exact"]), exactly)
         by_range = {
@@ -108,6 +122,15 @@ class Exports(unittest.TestCase):
         }
         self.assertEqual(by_range, shares)
         for row in found["by_range"]:
+            share = detail.share(Fraction(row["range_n_mm2"]))
+            self.assertEqual(row["endurance"] is None, share == 0)
+            if share:
+                factored = Fraction(row["range_n_mm2"]) * detail.gamma / 100
+                is_above = knee is not None and factored >= Fraction(knee)
+                self.assertEqual(row["slope"], 3 if is_above else 5)
+                self.assertAlmostEqual(float(Fraction(row["endurance"]) * 2 * share), 1, places=9)
+            part = Fraction(row["share"]) * exactly - Fraction(row["damage_exact"])
+            self.assertLessEqual(abs(part), exactly / 10**11)
             difference = abs(Fraction(row["damage"]) - Fraction(row["damage_exact"]))
             self.assertLessEqual(difference, Fraction(row["damage_exact"]) / 10**11)
 
