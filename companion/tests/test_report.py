@@ -187,6 +187,9 @@ class Refused(unittest.TestCase):
         self._refused(case, "".join(lines[:-1]), "the report ends before the detail weld-1")
         self._refused(case, "".join(lines[:12]), "the report ends here")
         self._refused(case, case.report + lines[-1], "detail weld-1 stands here again")
+        denominator = lines[-1].split("/")[1].split()[0]
+        whole = lines[-1].replace("0/", f"{denominator}/").replace(" 0.0", " 1.0")
+        self._refused(case, "".join([*lines[:-1], whole]), "the fraction isn't below 1")
         again = "".join(lines[:-1] + lines)
         self._refused(case, again, "gauge north stands here again")
 
