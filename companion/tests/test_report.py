@@ -142,6 +142,7 @@ REFUSED_TEXTS = (
     ("gauge north\n", "", "this is the table of one recording by `table`"),
     ("samples 9", "samples 09", ":2, cell 'samples 09 used"),
     ("samples 9", "samples 8", ":2: 8 samples are not 9 used, 0 missing and 0 refused"),
+    ("samples 9 used 9", "samples 8 used 8", "8 half cycles can't be of 8 used readings"),
     ("rainflow", "Rainflow", ":3, cell 'Rainflow': the heading `rainflow` is wanted"),
     ("9.0 0.5", "9 0.5", ":4, cell '9 0.5': `RANGE CYCLES`"),
     ("9.0 0.5", "9.0 0.50", ":4, cell '9.0 0.50'"),
