@@ -115,7 +115,8 @@ class _GaugeCheck:
                 why = f"{row.half_units} half cycles of this range, and {of_matrix} in the matrix"
                 raise self.refusal(rainflow.line_of(number), why)
         for half_stress, half_units in self.by_range.items():
-            why = f"{half_units} half cycles of the range {half_stress}/2 stand in the matrix alone"
+            stress = f"{half_stress // 2}.{5 * (half_stress % 2)}"
+            why = f"the range {stress} has no row here, and {half_units} half cycles in the matrix"
             raise self.refusal(rainflow.line, why)
         simple = self.gauge.ranges
         if _sums(simple) != _sums(rainflow):

@@ -152,6 +152,7 @@ REFUSED_TEXTS = (
     ("9.0 0.5", "9.0 0.3", ":4, cell '9.0 0.3'"),
     ("9.0 0.5\n", "9.0 0.5\n9.0 0.5\n", ":5: this row is out of order"),
     ("9.0 0.5\n8.0 1.0\n", "8.0 1.0\n9.0 0.5\n", ":5: this row is out of order"),
+    ("9.0 0.5\n", "", ":3: gauge north: the range 9.0 has no row here, and 1 half cycles"),
     ("8.0 1.0", "8,0 1,0", ":5, cell '8,0 1,0'"),
     ("matrix\n", "", "`RANGE CYCLES`, each with one decimal 0 or 5, or a heading is wanted"),
     ("crossings\n", "crossings\ncrossings\n", "`LEVEL COUNT`, or a heading is wanted"),
