@@ -36,7 +36,7 @@ def _header(series: Series, title: str) -> str:
     report = series.whole.report
     what = (
         f"{_several(len(report.gauges), 'gauge')}, {_several(len(report.details), 'weld detail')}: "
-        "rainflow counting by ASTM E1049-85, damage by EN 1993-1-9:2005"
+        "rainflow counting by ASTM E1049\u201185, damage by EN 1993-1-9:2005"
     )
     links = '<a href="#summary">Summary</a>'
     if len(series.readings) > 1:

@@ -168,7 +168,7 @@ def _crossings_figure(gauge: GaugeReport, grid: Grid) -> str:
     bars_to_right(chart, [(s - half, s + half, n) for s, n in stresses], "bar")
     _draw_reference(chart, grid)
     chart.baseline()
-    note = "Upward crossings from the reference on, downward ones below it (ASTM E1049-85, 5.1)."
+    note = "Upward crossings from the reference on, downward ones below it (ASTM E1049\u201185, 5.1)."
     return figure("Level crossings", chart.text(), note)
 
 
@@ -193,6 +193,6 @@ def _extremes_figure(gauge: GaugeReport, grid: Grid) -> str:
     chart.baseline()
     note = (
         '<span class="key key-bar"></span>peaks from the reference on, '
-        '<span class="key key-valley"></span>valleys below it (ASTM E1049-85, 5.2).'
+        '<span class="key key-valley"></span>valleys below it (ASTM E1049\u201185, 5.2).'
     )
     return figure("Peaks and valleys", chart.text(), note)

@@ -18,11 +18,10 @@ from monitor_companion.report import PairCount
 
 
 class End(NamedTuple):
-    """An end of a residue: its level, whether it is the upper end of its range, and that range."""
+    """An end of a residue: its level, and whether it is the upper end of its range."""
 
     level: int
     is_top: bool
-    size: int
 
 
 Ends = tuple[End, End]
@@ -60,11 +59,11 @@ def _possible_ends(matrix: Sequence[PairCount]) -> set[Ends]:
     greatest, *others = sorted(matrix, key=lambda pair: pair.lower - pair.upper)
     if (greatest.lower, greatest.upper) != (lowest, highest):
         return set()
-    size = highest - lowest
-    bottom, top = End(lowest, False, size), End(highest, True, size)
+    bottom, top = End(lowest, False), End(highest, True)
     # Two equal greatest ranges are neighbours.
     is_once = greatest.half_units % 2 == 1
     ends: set[Ends] = {(bottom, top)} if is_once else {(bottom, bottom), (top, top)}
+    # The others shrink; two of one size at one end would be the same pair.
     for pair in others:
         if pair.half_units % 2:
             ends = {each for before in ends for each in _at_one_end(before, pair)}
@@ -90,10 +89,9 @@ def _at_both_ends(ends: Ends, pair: PairCount) -> Iterable[Ends]:
 
 def _behind(end: End, pair: PairCount) -> End | None:
     """The end behind a range that begins at an end, or None where it doesn't go on there."""
-    size = pair.upper - pair.lower
-    if size >= end.size or end.level != (pair.upper if end.is_top else pair.lower):
+    if end.level != (pair.upper if end.is_top else pair.lower):
         return None
-    return End(pair.lower if end.is_top else pair.upper, not end.is_top, size)
+    return End(pair.lower if end.is_top else pair.upper, not end.is_top)
 
 
 def _ordered(one: End, other: End) -> Ends:
