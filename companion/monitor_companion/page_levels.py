@@ -168,7 +168,10 @@ def _crossings_figure(gauge: GaugeReport, grid: Grid) -> str:
     bars_to_right(chart, [(s - half, s + half, n) for s, n in stresses], "bar")
     _draw_reference(chart, grid)
     chart.baseline()
-    note = "Upward crossings from the reference on, downward ones below it (ASTM E1049\u201185, 5.1)."
+    note = (
+        "Upward crossings from the reference on, downward ones below it "
+        "(ASTM E1049\u201185, 5.1)."
+    )
     return figure("Level crossings", chart.text(), note)
 
 
