@@ -82,6 +82,11 @@ class Times(unittest.TestCase):
         self.assertEqual({row[0]: row[4] for row in shown_details(page)}, percents)
         sums = [row[4] for row in page.tables["numbers"] if row[0] == "2000" and len(row) == 5]
         self.assertEqual(sums, [percents[detail.name] for detail in bridge_case(600).details])
+        text = (folder / "page.html").read_text(encoding="utf-8").replace(GROUPS, "")
+        for counts in zip(bridge_case(2000).counts, bridge_case(4000).counts, strict=True):
+            cycles = sum(n for count in counts for n in count.pairs.values()) / 2
+            used = sum(len(count.levels) for count in counts)
+            self.assertIn(f">{cycles} cycles from {used} readings of 6000;", text)
         both = zip(gauges_of(bridge_case(2000)), gauges_of(bridge_case(4000)), strict=True)
         wanted = [[a[0], *(int(x) + int(y) for x, y in zip(a[1:], b[1:], strict=True))]
                   for a, b in both]
