@@ -8,7 +8,7 @@ from monitor_companion.page_levels import level_figures
 from monitor_companion.page_spectrum import spectrum_figure
 from monitor_companion.page_style import STYLE
 from monitor_companion.page_summary import summary_section, worst_first
-from monitor_companion.page_text import cycles_text, escaped, grouped, percent_of_life
+from monitor_companion.page_text import cycles_text, escaped, grouped, percent_of_life, stress_text
 from monitor_companion.page_time import time_section
 from monitor_companion.report import GaugeReport
 from monitor_companion.report_agreement import DetailDamage
@@ -59,7 +59,7 @@ def _gauge_section(series: Series, gauge: GaugeReport) -> str:
     cycles = cycles_text(sum(row.half_units for row in gauge.rainflow.rows))
     facts = f"{cycles} cycles from {grouped(gauge.used)} readings of {grouped(gauge.samples)}"
     if gauge.rainflow.rows:
-        facts += f"; the greatest range is {cycles_text(gauge.rainflow.rows[0].half_stress)} N/mm²"
+        facts += f"; the greatest range is {stress_text(gauge.rainflow.rows[0].half_stress)} N/mm²"
     charts = "".join([spectrum_figure(gauge, series.site), *level_figures(gauge, grid)])
     details = [each for each in series.whole.damages if each.detail.gauge == gauge.name]
     parts = "".join(_detail_part(series, each) for each in worst_first(tuple(details)))

@@ -98,8 +98,8 @@ def _gauges_table(series: Series) -> str:
     rows = "".join(_gauge_row(series, gauge) for gauge in series.whole.report.gauges)
     unknown = any(not period for period in series.site.periods)
     note = (
-        '<p class="note">– : the period of the samples isn’t known, since the site’s folder has '
-        "no store and no recording of the gauge.</p>"
+        '<p class="note">– : the period of the samples isn’t known. The site’s folder has neither '
+        "a store nor a recording of the gauge, or these say 0.</p>"
         if unknown
         else ""
     )
