@@ -1,9 +1,10 @@
-ghost use Rattle.std.specs.Prelude.{◌≡◌, [], ⊤};
+ghost use Rattle.std.specs.Prelude.{[], ⊤};
 
 use crate::stores::{FIRST, NEXT, setup, stored};
 use outside::Failed;
 use outside::station::Station;
 use segment_store::{Damage, ResumeFault, Store};
+use std::alloc::Global;
 use std::test::Fail;
 
 // A store that another program writes while it is read: of its bytes the first size that is asked is an
@@ -77,20 +78,28 @@ impl Station for GrowingStation {
     }
 }
 
+// How many bodies such a store has, and up to where gauge 0 is held, or why it is not resumed.
+fn resumed(
+    alloc: Global,
+    bytes: Vec<u8>,
+    first_size: u64,
+) -> Result<Result<(u64, u64), ResumeFault>, Fail> {
+    let setup = setup(alloc, 1)?;
+    let mut station = GrowingStation::new(bytes, first_size);
+    match Store::resume(alloc, &mut station, &setup) {
+        Ok(store) => Ok(Ok((store.count(), store.held(0).name().to))),
+        Err(fault) => Ok(Err(fault)),
+    }
+}
+
 // Wherever the store ended when its size was asked, behind its head, the bodies that are there by now
 // are held.
 #[test]
 fn a_store_grows_while_it_is_resumed(rt: HostRuntime) -> Result<(), Fail> {
-    let setup = setup(rt.alloc(), 1)?;
     let whole = stored(&rt, rt.alloc(), 1, &[FIRST, NEXT])?;
-    for first_size in 63..=whole.len() as u64 {
-        let mut station = GrowingStation::new(whole.clone()?, first_size);
-        let store = Store::resume(rt.alloc(), &mut station, &setup)?;
-        assert_eq!(rt;
-            (store.count(), store.held(0).name().to),
-            (2, 9),
-            "{first_size} bytes"
-        );
+    for first_size in 63..whole.len() as u64 {
+        let found = resumed(rt.alloc(), whole.clone()?, first_size)?;
+        assert_eq!(rt; found, Ok((2, 9)), "{first_size} bytes");
     }
     Ok(())
 }
@@ -98,13 +107,11 @@ fn a_store_grows_while_it_is_resumed(rt: HostRuntime) -> Result<(), Fail> {
 // A body that is cut off in the size of now is told with that size.
 #[test]
 fn a_store_that_grows_is_cut(rt: HostRuntime) -> Result<(), Fail> {
-    let setup = setup(rt.alloc(), 1)?;
     let mut bytes = stored(&rt, rt.alloc(), 1, &[FIRST, NEXT])?;
     let size = bytes.len().saturating_sub(1);
     bytes.truncate(size);
-    let mut station = GrowingStation::new(bytes, 63);
-    let found = Store::resume(rt.alloc(), &mut station, &setup).err();
+    let found = resumed(rt.alloc(), bytes, 63)?;
     let damage = Damage::Cut { size: size as u64 };
-    assert_eq!(rt; found, Some(ResumeFault::Damaged { index: 1, damage }));
+    assert_eq!(rt; found, Err(ResumeFault::Damaged { index: 1, damage }));
     Ok(())
 }
