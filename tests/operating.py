@@ -151,6 +151,7 @@ class Run:
         """Runs the section's commands in one shell, and gives for each what it printed."""
         script = "".join(f"{self.here(step.command)}\nstatus=$?; printf '{MARK}'; (exit $status)\n" for step in self.section.steps)
         environment = {**os.environ, "PATH": f"{self.room}/bin:{os.environ['PATH']}", "LC_ALL": "C.UTF-8"}
+        environment["MONITOR"] = str(self.tools.program)
         environment["MONITOR_FAULTS"] = str(self.room / "run/monitor")
         environment["MONITOR_ON_FAULT"] = str(self.room / "etc/monitor/on-fault")
         ran = subprocess.run(
