@@ -166,7 +166,7 @@ class Run:
         """What the document shows, as this program tells it."""
         if self.tools.tells_reasons:
             return step.due
-        return [it for it in step.due if not it.startswith("monitor: ")]
+        return [it for it in step.due if not re.match(r"(monitor@[a-z]+: )?monitor: [^:]+: ", it)]
 
 
 def try_section(section: Section, tools: Tools, show: bool) -> tuple[int, int]:
