@@ -144,8 +144,7 @@ class Run:
 
     def lines(self, text: str) -> list[str]:
         """What was printed, in the document's words."""
-        got = text.replace(str(self.room), "").splitlines()
-        return got
+        return text.replace(str(self.room), "").splitlines()
 
     def outputs(self) -> Iterator[tuple[Step, list[str]]]:
         """Runs the section's commands in one shell, and gives for each what it printed."""
@@ -173,8 +172,9 @@ def try_section(section: Section, tools: Tools, show: bool) -> tuple[int, int]:
     """How many commands printed what is documented, and how many didn't."""
     passed = failed = 0
     with tempfile.TemporaryDirectory() as folder:
-        run = Run(section, tools, pathlib.Path(folder).resolve())
+        room = pathlib.Path(folder).resolve()
         try:
+            run = Run(section, tools, room)
             for step, got in run.outputs():
                 if show:
                     print(f"{step.line}: $ {step.command}", *got, sep="\n")
@@ -184,7 +184,7 @@ def try_section(section: Section, tools: Tools, show: bool) -> tuple[int, int]:
                     failed += 1
                     print(f"operating: line {step.line}: $ {step.command}", *(f"  got  {it}" for it in got), sep="\n")
         finally:
-            for mounted in run.room.glob("**/.mounted"):
+            for mounted in room.glob("**/.mounted"):
                 subprocess.run(["umount", mounted.parent])
     return passed, failed
 
