@@ -3,11 +3,13 @@
 from __future__ import annotations
 
 import contextlib
+import errno
 import io
 import os
 import random
 import subprocess
 import unittest
+import unittest.mock
 from collections import Counter
 from decimal import Decimal
 from fractions import Fraction
@@ -182,6 +184,15 @@ class Refusals(unittest.TestCase):
             status = run_command("page", "-", "-", "--site", folder, "-o", folder / "page.html")
         self.assertEqual(status, 2)
         self.assertIn("standard input: can be read only once", told.getvalue())
+
+    def test_a_disk_that_is_full(self) -> None:
+        folder = bridge_case(600).folder(self)
+        (folder / "page.html").write_text("an older page")
+        full = OSError(errno.ENOSPC, "No space left on device")
+        with unittest.mock.patch("os.replace", side_effect=full):
+            self.assertRegex(draw(folder), "^2 .*page.html: can't be written: No space left")
+        self.assertEqual((folder / "page.html").read_text(), "an older page")
+        self.assertEqual(len(list(folder.iterdir())), 3)
 
     def test_a_folder_in_the_place_of_the_page(self) -> None:
         folder = bridge_case(600).folder(self)

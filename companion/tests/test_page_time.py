@@ -36,7 +36,9 @@ class Times(unittest.TestCase):
         self.assertEqual(draw(folder, reports=("2000.txt", "4000.txt", "6000.txt"))[0], "1")
         page = page_of(folder)
         self.assertEqual(shown_details(page), details_of(bridge_case(6000)))
-        self.assertIn("time", page.values("id"))
+        pictures = [name for name in page.values("id") if name.startswith("time-")]
+        worst_first = [row[0] for row in details_of(bridge_case(6000))]
+        self.assertEqual(pictures[::2], [f"time-{name}-t" for name in worst_first])
         rows = [row for row in page.tables["numbers"] if row[0].isdigit() and len(row) == 4]
         wanted = []
         for detail in range(4):
