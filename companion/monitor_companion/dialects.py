@@ -4,7 +4,6 @@ from __future__ import annotations
 
 import codecs
 import csv
-import re
 from dataclasses import dataclass
 from enum import Enum
 
@@ -140,9 +139,10 @@ class Dialect:
         if b"\0" in piece or (width == 1 and (b"\n\n" in piece or piece.startswith(b"\n"))):
             return None
         if self.quote and self.quote in piece:
-            piece = self._simple_quotes().sub(rb"\1", piece)
-            if self.quote in piece:
+            unquoted = self._unquoted(piece)
+            if unquoted is None:
                 return None
+            piece = unquoted
         lines = piece.count(b"\n")
         parts = piece.replace(b"\n", self.separator + b"\0" + self.separator)
         cells = parts.split(self.separator)
@@ -151,13 +151,20 @@ class Dialect:
             return None
         return cells
 
-    def _simple_quotes(self) -> re.Pattern[bytes]:
-        """Quoted cells that have no quote, separator or line end in them."""
-        quote, separator = re.escape(self.quote), re.escape(self.separator)
-        return re.compile(
-            rb"(?:(?<=[\n" + separator + rb"])|\A)" + quote
-            + rb"([^\n" + separator + quote + rb"]*)" + quote + rb"(?=[\n" + separator + rb"])"
-        )
+    def _unquoted(self, piece: bytes) -> bytes | None:
+        """The piece without its quotes, where each stands at an end of a cell and parts nothing."""
+        parts = piece.split(self.quote)
+        inside = b"\0".join(parts[1::2])
+        if len(parts) % 2 == 0 or self.separator in inside or b"\n" in inside:
+            return None
+        # What is outside is parted from each quoted cell by a separator or a line end.
+        outside = b"\0".join(parts[::2])
+        quoted = len(parts) // 2
+        behind = outside.count(b"\0" + self.separator) + outside.count(b"\0\n")
+        before = outside.count(self.separator + b"\0") + outside.count(b"\n\0")
+        if behind != quoted or before + outside.startswith(b"\0") != quoted:
+            return None
+        return b"".join(parts)
 
     def __str__(self) -> str:
         separators = {mark: name for name, mark in SEPARATORS.items()}

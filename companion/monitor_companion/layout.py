@@ -26,6 +26,8 @@ from monitor_companion.times import UNITS, ClockTimes, ElapsedTimes, TimeReader,
 LOOKED_AT = 50
 """How many rows tell the decimal mark."""
 MOST_UNITS = 3
+NAMES_WITHIN = 500
+"""In how many lines names are looked for."""
 
 
 @dataclass(frozen=True)
@@ -188,7 +190,7 @@ class LayoutFinder:
         if not self._named:
             return self._names_by_rows(dialect)
         found = []
-        for place in range(len(self._head.lines)):
+        for place in range(min(NAMES_WITHIN, len(self._head.lines))):
             row = row_at(self._head, dialect, place)
             if row is None:
                 continue

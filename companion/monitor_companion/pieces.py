@@ -16,7 +16,7 @@ from monitor_companion.refusals import Place, Refusal
 if TYPE_CHECKING:
     from hashlib import _Hash
 
-BLOCK = 1_048_576
+BLOCK = 262_144
 LONGEST_LINE = 16 * BLOCK
 
 

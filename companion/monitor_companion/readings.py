@@ -7,6 +7,7 @@ from array import array
 from collections import Counter
 from dataclasses import dataclass
 from fractions import Fraction
+from operator import itemgetter
 
 from monitor_companion.recording import GREATEST, LEAST, MISSING
 
@@ -71,7 +72,7 @@ def whole_numbers(cells: list[bytes], decimal: bytes) -> tuple[array[int], int] 
         # Without its point, ".-5" or ". 5" would be taken for a number.
         if points != len(cells) or any(decimal + after in joined for after in (b"-", b"+", b" ")):
             return None
-        if {cell[-decimals - 1 : -decimals] for cell in cells} != {decimal}:
+        if set(map(itemgetter(slice(-decimals - 1, -decimals)), cells)) != {decimal}:
             return None
         joined = joined.replace(decimal, b"")
     try:
@@ -113,6 +114,8 @@ class SampleCells(dict[bytes, int]):
         self._decimal = decimal
         self._missing = missing
         self._rounding = rounding
+        self._plain = re.compile(rb"([+-]?\d{1,20})(?:" + re.escape(decimal) + rb"(\d{1,18}))?")
+        self._scales = [(step.denominator, step.numerator * 10**places) for places in range(19)]
         self._inexact: set[bytes] = set()
         self._spelled: dict[bytes, str] = {}
         self._many = False
@@ -125,9 +128,18 @@ class SampleCells(dict[bytes, int]):
 
     def __missing__(self, cell: bytes) -> int:
         self._misses += 1
-        value = self.read(cell)
+        plain = self._plain.fullmatch(cell)
+        value = MISSING if plain is None else self._plain_value(*plain.groups(b""))
+        if value == MISSING:
+            value = self.read(cell)
         self[cell] = value
         return value
+
+    def _plain_value(self, whole: bytes, part: bytes) -> int:
+        """The raw value of a number that is one of steps, or MISSING for what has to be looked at."""
+        above, below = self._scales[len(part)]
+        raw, rest = divmod(int(whole + part) * above, below)
+        return MISSING if rest or not LEAST <= raw <= GREATEST or self._missing.numbers else raw
 
     def read(self, cell: bytes) -> int:
         """The raw value of a cell; raises CellFault where it has none."""
@@ -152,10 +164,11 @@ class SampleCells(dict[bytes, int]):
         """The nearest whole number of steps, the even one of two; refused unless rounding is on."""
         if not self._rounding:
             raise CellFault(f"is no whole number of steps of {text_of(self._step)}")
-        raw = int(round(Fraction(above, below)))
+        exact = Fraction(above, below)
+        nearest: int = round(exact)
         self._inexact.add(cell)
-        self.furthest = max(self.furthest, abs(Fraction(above, below) - raw) * self._step)
-        return raw
+        self.furthest = max(self.furthest, abs(exact - nearest) * self._step)
+        return nearest
 
     def samples(self, cells: list[bytes]) -> array[int]:
         """The raw values of many cells; raises CellFault where one has none."""
@@ -166,8 +179,8 @@ class SampleCells(dict[bytes, int]):
                 self._inexact.clear()
             before = self._misses
             found = array("i", map(self.__getitem__, cells))
-            # Where cells hardly repeat, the next ones are tried in bulk first.
-            self._many = self._misses - before > len(cells) // 8
+            # Where cells hardly repeat from piece to piece, the next ones are tried in bulk first.
+            self._many = before > 0 and self._misses - before > len(cells) // 4
             self._account(cells, found)
         for reading, raw in self._suspects:
             if raw in found:
@@ -189,13 +202,14 @@ class SampleCells(dict[bytes, int]):
             return None
         numbers, decimals = found
         factor = Fraction(self._step.denominator, self._step.numerator * 10**decimals)
+        above, below = factor.numerator, factor.denominator
         try:
-            if factor.numerator != 1:
-                numbers = array("q", [number * factor.numerator for number in numbers])
-            if factor.denominator != 1:
-                if any(number % factor.denominator for number in numbers):
+            if above != 1:
+                numbers = array("q", [number * above for number in numbers])
+            if below != 1:
+                if any(number % below for number in numbers):
                     return None
-                numbers = array("q", [number // factor.denominator for number in numbers])
+                numbers = array("q", [number // below for number in numbers])
             raws = array("i", numbers)
         except OverflowError:
             return None

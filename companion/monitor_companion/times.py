@@ -78,7 +78,7 @@ class ElapsedTimes:
             factor = self._unit / 10**decimals
             if factor.denominator == 1:
                 try:
-                    return array("q", [number * factor.numerator for number in numbers])
+                    return array("q", map(factor.numerator.__mul__, numbers))
                 except OverflowError:
                     pass
         return array("q", map(self.read, cells))
