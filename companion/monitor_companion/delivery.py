@@ -215,7 +215,7 @@ def spool_beside(recording: Path) -> IO[bytes]:
     return tempfile.TemporaryFile(dir=recording.parent)
 
 
-def create(path: Path, owner: Owner) -> None:
+def make_recording(path: Path, owner: Owner) -> None:
     """Makes a recording without samples, whole or not at all; one that is there stays."""
     making = path.with_name(path.name + ".new")
     with making.open("wb") as file:
@@ -237,7 +237,7 @@ def write_samples(path: Path, journal: Journal, spool: IO[bytes]) -> None:
     What is there of them already has to be the same, and stays: `count` may have read it.
     """
     if not path.exists():
-        create(path, journal.owner)
+        make_recording(path, journal.owner)
     entry = journal.entries[-1]
     spool.seek(0)
     with path.open("r+b", buffering=0) as file:

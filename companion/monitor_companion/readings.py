@@ -115,7 +115,9 @@ class SampleCells(dict[bytes, int]):
         self._missing = missing
         self._rounding = rounding
         self._plain = re.compile(rb"([+-]?\d{1,20})(?:" + re.escape(decimal) + rb"(\d{1,18}))?")
-        self._scales = [(step.denominator, step.numerator * 10**places) for places in range(19)]
+        self._scales: list[tuple[int, int]] = [
+            (step.denominator, step.numerator * 10**places) for places in range(19)
+        ]
         self._inexact: set[bytes] = set()
         self._spelled: dict[bytes, str] = {}
         self._many = False
@@ -151,8 +153,8 @@ class SampleCells(dict[bytes, int]):
         if self._missing.numbers and number.fraction() in self._missing.numbers:
             self._spelled[cell] = text.decode("latin-1")
             return MISSING
-        above = number.digits * self._step.denominator * 10 ** max(number.exponent, 0)
-        below = self._step.numerator * 10 ** max(-number.exponent, 0)
+        above: int = number.digits * self._step.denominator * 10 ** max(number.exponent, 0)
+        below: int = self._step.numerator * 10 ** max(-number.exponent, 0)
         raw, rest = divmod(above, below)
         if rest:
             raw = self._round(cell, above, below)
