@@ -44,7 +44,7 @@ class SiteTest(unittest.TestCase):
         with contextlib.redirect_stdout(out), contextlib.redirect_stderr(err):
             arguments = parser.parse_args([str(self.site / export), "--site", str(self.site), *words])
             try:
-                status = COMMANDS[command].run(arguments)
+                status = Status(COMMANDS[command].run(arguments))
             except Refusal as refusal:
                 status = Status.REFUSED
                 err.write(f"{refusal}\n")

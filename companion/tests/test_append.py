@@ -4,10 +4,13 @@ from __future__ import annotations
 
 import hashlib
 import json
+from collections.abc import Callable
+from contextlib import ExitStack
 from pathlib import Path
 from unittest import mock
 
 from monitor_companion import delivery
+from monitor_companion.journal import SiteLock
 from monitor_companion.recording import HEAD_BYTES, Head, read_head
 from monitor_companion.refusals import Status
 
@@ -251,16 +254,17 @@ class CutOff(AppendTest):
             if left[0] < 0:
                 raise Stop
 
-        originals = {n: getattr(delivery, n) for n in ("begin_journal", "add_entry", "write_samples", "make_recording")}
-
-        def stopping(original: object) -> object:
+        def stopping(original: Callable[..., object]) -> Callable[..., object]:
             def call(*arguments: object) -> object:
                 step()
-                return original(*arguments)  # type: ignore[operator]
+                return original(*arguments)
 
             return call
 
-        with mock.patch.multiple(delivery, **{n: stopping(o) for n, o in originals.items()}):
+        with ExitStack() as stack:
+            for name_of in ("begin_journal", "add_entry", "write_samples", "make_recording"):
+                replaced = stopping(getattr(delivery, name_of))
+                stack.enter_context(mock.patch.object(delivery, name_of, replaced))
             command = "append" if (self.site / "span.sgrc").exists() else "import"
             try:
                 self.call(command, name)
@@ -346,8 +350,6 @@ class CutOff(AppendTest):
         self.has(31)
 
     def test_two_at_once(self) -> None:
-        from monitor_companion.journal import SiteLock
-
         with SiteLock(Path(self.site)):
             self.assertEqual(self.call("append", "day2.csv"), Status.REFUSED)
         self.assertIn("another import is at work in this site", self.err)
