@@ -125,6 +125,7 @@ class SampleCells(dict[bytes, int]):
         self._suspects = suspects_of(step)
         self.spellings: Counter[str] = Counter()
         self.suspected: Counter[int] = Counter()
+        self.missing = 0
         self.rounded = 0
         self.furthest = Fraction(0)
 
@@ -183,19 +184,22 @@ class SampleCells(dict[bytes, int]):
             found = array("i", map(self.__getitem__, cells))
             # Where cells hardly repeat from piece to piece, the next ones are tried in bulk first.
             self._many = before > 0 and self._misses - before > len(cells) // 4
-            self._account(cells, found)
-        for reading, raw in self._suspects:
-            if raw in found:
-                self.suspected[reading] += found.count(raw)
+            if self._inexact:
+                self.rounded += sum(map(self._inexact.__contains__, cells))
+        self._account(cells, found)
         return found
 
     def _account(self, cells: list[bytes], found: array[int]) -> None:
-        """Counts the spellings of no reading, and the rounded cells."""
-        if MISSING in found:
+        """Counts the spellings of no reading, and readings that may mean none."""
+        # (Bytes are searched faster than numbers; what is found across two of them counts nothing.)
+        data = found.tobytes()
+        if array("i", (MISSING,)).tobytes() in data:
+            self.missing += found.count(MISSING)
             for cell, spelling in self._spelled.items():
                 self.spellings[spelling] += cells.count(cell)
-        if self._inexact:
-            self.rounded += sum(map(self._inexact.__contains__, cells))
+        for reading, raw in self._suspects:
+            if array("i", (raw,)).tobytes() in data:
+                self.suspected[reading] += found.count(raw)
 
     def _bulk(self, cells: list[bytes]) -> array[int] | None:
         """The raw values of cells that are all exact readings of one form, or None."""
@@ -221,7 +225,11 @@ class SampleCells(dict[bytes, int]):
 def suspects_of(step: Fraction) -> tuple[tuple[int, int], ...]:
     """The suspect readings that are whole numbers of steps, with their raw values."""
     found = [(reading, Fraction(reading) / step) for reading in SUSPECTS]
-    return tuple((reading, raw.numerator) for reading, raw in found if raw.denominator == 1)
+    return tuple(
+        (reading, raw.numerator)
+        for reading, raw in found
+        if raw.denominator == 1 and LEAST <= raw <= GREATEST
+    )
 
 
 def text_of(number: Fraction) -> str:

@@ -14,7 +14,7 @@ from typing import IO
 from monitor_companion.layout import Layout, TimePlan
 from monitor_companion.pieces import Mark, Piece, Pieces
 from monitor_companion.readings import CellFault, Missing, SampleCells
-from monitor_companion.recording import MISSING, sample_bytes
+from monitor_companion.recording import sample_bytes
 from monitor_companion.refusals import Place, Refusal
 from monitor_companion.time_check import MICROSECOND, TimeCheck
 
@@ -25,7 +25,6 @@ class ColumnRead:
 
     cells: SampleCells
     sink: IO[bytes]
-    missing: int = 0
     digest: str = ""
 
 
@@ -93,9 +92,7 @@ class RowReader:
             if layout.time is not None and times is not None:
                 times.take(self._times(layout.time, cells), cells.lines)
             for place, column in enumerate(columns):
-                samples = self._samples(place, column.cells, cells)
-                column.missing += samples.count(MISSING)
-                data = sample_bytes(samples)
+                data = sample_bytes(self._samples(place, column.cells, cells))
                 digests[place].update(data)
                 column.sink.write(data)
             rows += len(cells.lines)

@@ -51,9 +51,9 @@ def staged_text(found: Pass, staged: Staged) -> str:
         f"{staged.target.gauge.name}: column {plan.title!r} in steps of {entry.step}:"
         f" {counted(entry.rows, 'sample')}"
     )
-    if staged.column.missing:
+    if cells.missing:
         parts = [f"{spelling!r} {count}" for spelling, count in sorted(cells.spellings.items())]
-        text += f", {staged.column.missing} without reading ({', '.join(parts)})"
+        text += f", {cells.missing} without reading ({', '.join(parts)})"
     if cells.rounded:
         text += f", {cells.rounded} rounded by up to {text_of(cells.furthest)}"
     return f"{text}; {staged.target.gauge.recording.name} has {entry.end}"

@@ -220,7 +220,7 @@ def exports() -> list[Export]:
 
 
 def write_big(path: Path, rows: int = BIG_ROWS, reading: Callable[[random.Random], int] | None = None) -> None:
-    """Writes rows of three columns, about 33 bytes each: readings of a converter, in tenths."""
+    """Writes rows of three columns, about 34 bytes each: readings of a converter, in tenths."""
     maker = random.Random(7)
     take = reading or (lambda source: source.randrange(-30_000, 30_000))
     with path.open("w", encoding="ascii") as file:
@@ -229,7 +229,7 @@ def write_big(path: Path, rows: int = BIG_ROWS, reading: Callable[[random.Random
             lines = []
             for n in range(begin, min(begin + 10_000, rows)):
                 a, b, c = take(maker), take(maker), take(maker)
-                lines.append(f"{n // 200:05}.{n % 200 * 5:03},{a / 10:.1f},{b / 10:.1f},{c / 10:.1f}\n")
+                lines.append(f"{n // 200:08}.{n % 200 * 5:03},{a / 10:.1f},{b / 10:.1f},{c / 10:.1f}\n")
             file.write("".join(lines))
 
 
