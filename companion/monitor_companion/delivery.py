@@ -16,7 +16,15 @@ from fractions import Fraction
 from pathlib import Path
 from typing import IO
 
-from monitor_companion.journal import Entry, Journal, Owner, add_entry, begin_journal, journal_path, sync_folder
+from monitor_companion.journal import (
+    Entry,
+    Journal,
+    Owner,
+    add_entry,
+    begin_journal,
+    journal_path,
+    sync_folder,
+)
 from monitor_companion.layout import Layout, find_layout
 from monitor_companion.pieces import Mark
 from monitor_companion.profiles import Profile
@@ -137,7 +145,11 @@ class Delivery:
                 told = f"times begin again at {first}: the order of the exports can't be checked"
                 found.told += [] if told in found.told else [told]
                 return
-            hint = "" if times.kind is TimeKind.CLOCK else "; --times-begin-again where each export does"
+            hint = (
+                ""
+                if times.kind is TimeKind.CLOCK
+                else "; --times-begin-again where each export does"
+            )
             raise Refusal(place, f"{text}, and this export begins at {first}, not after it{hint}")
         period = Fraction(found.period * MICROSECOND)
         if step >= period * 3 / 2 or step <= period / 2:
@@ -249,7 +261,9 @@ def write_samples(path: Path, journal: Journal, spool: IO[bytes]) -> None:
         while have:
             size = min(have, COPY)
             if file.read(size) != spool.read(size):
-                raise Refusal(Place(str(path)), f"doesn't hold the samples of {entry.export} at its end")
+                raise Refusal(
+                    Place(str(path)), f"doesn't hold the samples of {entry.export} at its end"
+                )
             have -= size
         while block := spool.read(COPY):
             view = memoryview(block)

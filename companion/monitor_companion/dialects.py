@@ -65,12 +65,14 @@ def find_encoding(data: bytes, said: str, file: str) -> Encoding:
     else:
         found = find_unmarked(data)
     if said == "utf-16" and not found.wide:
-        raise Refusal(Place(file), "is no UTF-16: it has no mark and no zero bytes between characters")
+        raise Refusal(
+            Place(file), "is no UTF-16: it has no mark and no zero bytes between characters"
+        )
     return found
 
 
 def find_unmarked(data: bytes) -> Encoding:
-    """The encoding of a text without mark: numbers in UTF-16 have a zero byte at each other place."""
+    """The encoding of a text without mark: in UTF-16 each other byte of a number is zero."""
     front = data[:4096]
     for encoding, zeros in ((Encoding.UTF_16_LE, front[1::2]), (Encoding.UTF_16_BE, front[::2])):
         if len(front) > 1 and zeros.count(0) * 10 > len(zeros) * 7:

@@ -29,8 +29,32 @@ def add_common(parser: ArgumentParser) -> None:
         metavar="NAME",
         help=f"{', '.join(built_in())}, or a TOML file of your own (csv; append: the last one)",
     )
+    add_columns(parser)
     parser.add_argument(
-        "--gauge", action="append", default=[], metavar="GAUGE", help="only this gauge; may be repeated"
+        "--round",
+        action="store_true",
+        help="round to whole steps, and tell how many and by how much",
+    )
+    parser.add_argument(
+        "--allow-gaps",
+        action="store_true",
+        help="take rows behind gaps, and repeated ones, as they are",
+    )
+    parser.add_argument(
+        "--period", type=period, metavar="US", help="the time between two rows, in microseconds"
+    )
+    add_dialect(parser)
+    add_times(parser)
+
+
+def add_columns(parser: ArgumentParser) -> None:
+    """The options on columns and their steps."""
+    parser.add_argument(
+        "--gauge",
+        action="append",
+        default=[],
+        metavar="GAUGE",
+        help="only this gauge; may be repeated",
     )
     parser.add_argument(
         "--column",
@@ -38,7 +62,7 @@ def add_common(parser: ArgumentParser) -> None:
         default=[],
         type=column_choice,
         metavar="NAME=GAUGE",
-        help="the column of a gauge, by its name or its place (#2); else it is named like the gauge",
+        help="the column of a gauge, by its name or its place (#2); else that of its name",
     )
     parser.add_argument(
         "--step",
@@ -48,17 +72,6 @@ def add_common(parser: ArgumentParser) -> None:
         metavar="[GAUGE=]STEP",
         help="what 1 in the recording means, in the column's unit, such as 0.1 (1)",
     )
-    parser.add_argument(
-        "--round", action="store_true", help="round to whole steps, and tell how many and by how much"
-    )
-    parser.add_argument(
-        "--allow-gaps", action="store_true", help="take rows behind gaps, and repeated ones, as they are"
-    )
-    parser.add_argument(
-        "--period", type=period, metavar="US", help="the time between two rows, in microseconds"
-    )
-    add_dialect(parser)
-    add_times(parser)
 
 
 def add_dialect(parser: ArgumentParser) -> None:
@@ -144,7 +157,9 @@ def count(text: str) -> int:
 def period(text: str) -> int:
     """A period in microseconds."""
     if not text.isdecimal() or not 1 <= int(text) <= GREATEST_PERIOD:
-        raise ArgumentTypeError(f"{text!r} is no number of microseconds from 1 to {GREATEST_PERIOD}")
+        raise ArgumentTypeError(
+            f"{text!r} is no number of microseconds from 1 to {GREATEST_PERIOD}"
+        )
     return int(text)
 
 

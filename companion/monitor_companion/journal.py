@@ -126,12 +126,16 @@ def read_entry(place: Place, line: bytes) -> Entry:
     return Entry(**of_kind(place, read_object(place, line), Entry))
 
 
-def of_kind(place: Place, content: dict[str, Any], kind: type[Owner] | type[Entry]) -> dict[str, Any]:
+def of_kind(
+    place: Place, content: dict[str, Any], kind: type[Owner] | type[Entry]
+) -> dict[str, Any]:
     """The content, where it has the fields of a kind, and no other."""
     for field in fields(kind):
         wanted = int if str(field.type) == "int" else str
         if type(content.get(field.name)) is not wanted:
-            raise Refusal(place, f"the journal is damaged: {field.name} is lacking or of another kind")
+            raise Refusal(
+                place, f"the journal is damaged: {field.name} is lacking or of another kind"
+            )
     if len(content) != len(fields(kind)):
         raise Refusal(place, "the journal is damaged: it has fields that aren't known")
     return content
@@ -185,7 +189,9 @@ class SiteLock:
             fcntl.flock(self._descriptor, fcntl.LOCK_EX | fcntl.LOCK_NB)
         except BlockingIOError as error:
             os.close(self._descriptor)
-            raise Refusal(Place(str(self._site)), "another import is at work in this site") from error
+            raise Refusal(
+                Place(str(self._site)), "another import is at work in this site"
+            ) from error
         return self
 
     def __exit__(self, *_: object) -> None:

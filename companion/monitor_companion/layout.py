@@ -16,12 +16,11 @@ from monitor_companion.head_rows import (
     is_reading_like,
     read_head_text,
     row_at,
-    unit_of,
 )
 from monitor_companion.profiles import FIND, Profile
 from monitor_companion.readings import missing_spellings
 from monitor_companion.refusals import Place, Refusal
-from monitor_companion.times import UNITS, ClockTimes, ElapsedTimes, TimeReader, find_clock
+from monitor_companion.time_layout import TimedRows, TimePlan, find_times
 
 LOOKED_AT = 50
 """How many rows tell the decimal mark."""
@@ -46,16 +45,6 @@ class ColumnPlan:
     place: int
     title: str
     wanted: Wanted
-
-
-@dataclass(frozen=True)
-class TimePlan:
-    """The columns of the times, read as one, and how."""
-
-    places: tuple[int, ...]
-    title: str
-    form: str
-    reader: TimeReader
 
 
 @dataclass(frozen=True)
@@ -163,7 +152,11 @@ class LayoutFinder:
         if len(wide) > 1:
             if not any(self._fits(one) for one in wide):
                 return wide[0]
-            marks = [name for name, mark in SEPARATORS.items() if mark in {w.dialect.separator for w in wide}]
+            marks = [
+                name
+                for name, mark in SEPARATORS.items()
+                if mark in {w.dialect.separator for w in wide}
+            ]
             raise self._refusal(f"its cells may be parted by {' or '.join(marks)}: say --separator")
         return wide[0]
 
@@ -200,7 +193,9 @@ class LayoutFinder:
             raise self._no_names()
         if len(found) > 1:
             lines = " and ".join(str(row.place + 1) for row in found[:2])
-            raise self._refusal(f"the names stand in lines {lines}: say --names LINE", found[1].place + 1)
+            raise self._refusal(
+                f"the names stand in lines {lines}: say --names LINE", found[1].place + 1
+            )
         return found[0]
 
     def _said_names(self, dialect: Dialect, line: int) -> Row | None:
@@ -208,7 +203,9 @@ class LayoutFinder:
         if line == 0:
             return None
         if line > len(self._head.lines):
-            raise self._refusal("the names were said to stand here, and there is no such line", line)
+            raise self._refusal(
+                "the names were said to stand here, and there is no such line", line
+            )
         row = row_at(self._head, dialect, line - 1)
         if row is None:
             raise self._refusal("the quotes of the names don't fit", line)
@@ -217,7 +214,9 @@ class LayoutFinder:
     def _names_behind(self, dialect: Dialect) -> Row | None:
         """The row behind the last line that begins as the profile says."""
         begin = self._profile.names_after.encode(self._head.encoding.inner)
-        places = [n for n, line in enumerate(self._head.lines) if line.lstrip(b' "').startswith(begin)]
+        places = [
+            n for n, line in enumerate(self._head.lines) if line.lstrip(b' "').startswith(begin)
+        ]
         if not places:
             raise self._refusal(f"no line of its head begins with {self._profile.names_after!r}")
         place = places[-1] + 1
@@ -246,8 +245,12 @@ class LayoutFinder:
         for name in self._named:
             cells: list[str] = []
             for separator in self._separators():
-                dialect = Dialect(self._head.encoding, separator, b".", self._profile.quote.encode())
-                rows = [row_at(self._head, dialect, n) for n in range(min(100, len(self._head.lines)))]
+                dialect = Dialect(
+                    self._head.encoding, separator, b".", self._profile.quote.encode()
+                )
+                rows = [
+                    row_at(self._head, dialect, n) for n in range(min(100, len(self._head.lines)))
+                ]
                 cells += [text for row in rows if row is not None for text in self._texts(row)]
             if not find_names(cells, name):
                 near = difflib.get_close_matches(name, cells, 1)
@@ -343,65 +346,14 @@ class LayoutFinder:
 
     def _time(self, candidate: Candidate, dialect: Dialect) -> TimePlan | None:
         """The plan of the times, or None where there are none."""
-        profile = self._profile.time
         if candidate.names is None:
             texts = [f"#{place + 1}" for place in range(candidate.width)]
         else:
             texts = self._texts(candidate.names)
-        folded = [text.casefold() for text in texts]
-        for names in profile.columns:
-            places = [self._time_places(name, folded) for name in names]
-            if all(places):
-                for name, found in zip(names, places, strict=True):
-                    if len(found) > 1:
-                        raise self._refusal(f"the column of times {name!r} stands twice: say --time '#PLACE'")
-                return self._time_plan(candidate, dialect, tuple(p[0] for p in places), texts)
-        if profile.required:
-            names = tuple(" and ".join(column) for column in profile.columns)
-            raise self._refusal(f"has no column of times ({', '.join(names)}): say --time or --no-time")
-        return None
-
-    def _time_places(self, name: str, folded: list[str]) -> list[int]:
-        """The places of a column of times, in any case."""
-        if name.startswith("#") and name[1:].isdecimal():
-            return [int(name[1:]) - 1] if 0 < int(name[1:]) <= len(folded) else []
-        return find_names(folded, name.casefold())
-
-    def _time_plan(
-        self, candidate: Candidate, dialect: Dialect, places: tuple[int, ...], texts: list[str]
-    ) -> TimePlan:
-        """How the times of these columns are read."""
-        title = " ".join(texts[place] for place in places)
-        form = self._profile.time.format
-        if form == FIND:
-            form = self._found_form(candidate, places, title)
-        if form in UNITS:
-            return TimePlan(places, title, form, ElapsedTimes(UNITS[form], dialect.decimal))
-        return TimePlan(places, title, form, ClockTimes(form))
-
-    def _found_form(self, candidate: Candidate, places: tuple[int, ...], title: str) -> str:
-        """The unit of the times, or the format of the first one."""
-        if not candidate.rows:
-            return "s"
-        row = candidate.rows[0]
-        line = row.place + 1
-        if max(places) >= len(row.cells):
-            raise self._refusal(f"the row ends before the column {title}", line)
-        cell = b" ".join(row.cells[place] for place in places)
-        if not LIKE_NUMBER.fullmatch(cell):
-            clock = find_clock(cell)
-            if clock is None:
-                place = Place(self._head.file, line, title, candidate.dialect.text(cell))
-                raise Refusal(place, "is no time of a known form: say --time-format or --no-time")
-            return clock
-        unit = unit_of(title) or self._unit_below(candidate, places[0])
-        if unit and unit not in UNITS:
-            raise self._refusal(f"the column {title} counts in {unit!r}: say --time-format", line)
-        return unit or "s"
-
-    def _unit_below(self, candidate: Candidate, place: int) -> str:
-        """The unit of a column in the row below the names."""
-        if not candidate.units:
-            return ""
-        cells = candidate.dialect.split(candidate.units[0].encode(self._head.encoding.inner))
-        return candidate.dialect.text(cells[place]).strip(" \t[]()") if place < len(cells) else ""
+        units: list[bytes] = []
+        if candidate.units:
+            line = candidate.units[0].encode(self._head.encoding.inner, "replace")
+            units = dialect.split(line)
+        row = candidate.rows[0] if candidate.rows else None
+        rows = TimedRows(self._head.file, dialect, texts, units, row)
+        return find_times(rows, self._profile.time)

@@ -108,7 +108,11 @@ class Pieces:
             except UnicodeError as error:
                 place = Place(str(self.path), self.end.lines + 1)
                 raise Refusal(place, f"near this line it is no {self._encoding.value}") from error
-        if first and self._text.startswith(b"\xef\xbb\xbf") and self._encoding is not Encoding.LATIN_1:
+        if (
+            first
+            and self._text.startswith(b"\xef\xbb\xbf")
+            and self._encoding is not Encoding.LATIN_1
+        ):
             self._text = self._text[3:]
 
     def _cut(self, ended: bool) -> Piece | None:

@@ -66,7 +66,9 @@ def load_profile(name: str) -> Profile:
     if name in built_in():
         path = FOLDER / f"{name}.toml"
     elif not path.is_file():
-        raise Refusal(Place(name), f"is no profile and no file; profiles are {', '.join(built_in())}")
+        raise Refusal(
+            Place(name), f"is no profile and no file; profiles are {', '.join(built_in())}"
+        )
     plain = read_toml(FOLDER / f"{PLAIN}.toml")
     return ProfileReader(path, {**plain, **read_toml(path)}, plain).profile(name)
 
@@ -127,7 +129,9 @@ class ProfileReader:
     def _texts(self, table: dict[str, Any], key: str) -> tuple[str, ...]:
         values = self._of_kind(table, key, list)
         if not all(isinstance(value, str) for value in values):
-            raise self._refusal(f"{key} has something that is no text; numbers stand in quotes here")
+            raise self._refusal(
+                f"{key} has something that is no text; numbers stand in quotes"
+            )
         return tuple(values)
 
     def profile(self, name: str) -> Profile:
@@ -180,8 +184,14 @@ class ProfileReader:
             raise self._refusal("columns is no table")
         choices = []
         for column, table in columns.items():
-            if not isinstance(table, dict) or set(table) - {"gauge", "step"} or "gauge" not in table:
-                raise self._refusal(f"columns.{column} has to have gauge, may have step, and no more")
+            if (
+                not isinstance(table, dict)
+                or set(table) - {"gauge", "step"}
+                or "gauge" not in table
+            ):
+                raise self._refusal(
+                    f"columns.{column} has to have gauge, may have step, no more"
+                )
             step = read_step(table["step"], Place(str(self._path))) if "step" in table else None
             choices.append(ColumnChoice(column, self._of_kind(table, "gauge", str), step))
         return tuple(choices)

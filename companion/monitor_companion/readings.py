@@ -139,7 +139,7 @@ class SampleCells(dict[bytes, int]):
         return value
 
     def _plain_value(self, whole: bytes, part: bytes) -> int:
-        """The raw value of a number that is one of steps, or MISSING for what has to be looked at."""
+        """The raw value of a plain number, or MISSING for what has to be looked at."""
         above, below = self._scales[len(part)]
         raw, rest = divmod(int(whole + part) * above, below)
         return MISSING if rest or not LEAST <= raw <= GREATEST or self._missing.numbers else raw

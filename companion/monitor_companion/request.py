@@ -8,7 +8,14 @@ from pathlib import Path
 
 from monitor_companion.journal import Entry, journal_path, read_journal
 from monitor_companion.layout import Wanted
-from monitor_companion.profiles import PLAIN, ColumnChoice, Profile, TimeProfile, load_profile, read_step
+from monitor_companion.profiles import (
+    PLAIN,
+    ColumnChoice,
+    Profile,
+    TimeProfile,
+    load_profile,
+    read_step,
+)
 from monitor_companion.refusals import Place, Refusal
 from monitor_companion.site_gauges import SiteGauge
 
@@ -107,7 +114,9 @@ class Request:
         Options go before the profile, the profile before the last import, and that before a column
         that is named like the gauge, by steps of 1. Another step than the last one is refused.
         """
-        choice = next((one for one in profile.columns if one.gauge == gauge), ColumnChoice("", gauge))
+        choice = next(
+            (one for one in profile.columns if one.gauge == gauge), ColumnChoice("", gauge)
+        )
         column = next((name for name, to in self.columns if to == gauge), choice.column)
         steps = dict(self.steps)
         step = steps.get(gauge) or choice.step or steps.get("")

@@ -11,7 +11,8 @@ from fractions import Fraction
 from pathlib import Path
 from typing import IO
 
-from monitor_companion.layout import Layout, TimePlan
+from monitor_companion.layout import Layout
+from monitor_companion.time_layout import TimePlan
 from monitor_companion.pieces import Mark, Piece, Pieces
 from monitor_companion.readings import CellFault, Missing, SampleCells
 from monitor_companion.recording import sample_bytes
@@ -125,7 +126,9 @@ class RowReader:
         each = width + 1
         lines = range(piece.line, piece.line + len(cells) // each)
         return Cells(
-            [cells[place::each] for place in time_places], [cells[place::each] for place in places], lines
+            [cells[place::each] for place in time_places],
+            [cells[place::each] for place in places],
+            lines,
         )
 
     def _split_rows(self, piece: Piece) -> Cells:

@@ -44,6 +44,8 @@ def read_gauges(site: Path) -> list[SiteGauge]:
         recording = site / file
         for other in gauges:
             if other.name == name or other.recording.resolve() == recording.resolve():
-                raise Refusal(place, f"its gauges {other.name} and {name} have one name or one file")
+                raise Refusal(
+                    place, f"its gauges {other.name} and {name} have one name or one file"
+                )
         gauges.append(SiteGauge(name, recording))
     return gauges

@@ -44,7 +44,7 @@ class Target:
 
 
 def look(gauge: SiteGauge) -> Target:
-    """Looks at a recording and its journal; a length that the journal doesn't explain is refused."""
+    """Looks at a recording; a length that its journal doesn't explain is refused."""
     path = gauge.recording
     journal = read_journal(journal_path(path))
     if not path.is_file():

@@ -19,7 +19,10 @@ def pass_lines(export: Path, found: Pass) -> list[str]:
     """The lines on one reading of an export."""
     layout, read = found.layout, found.read
     names = f"names in line {layout.names_line}" if layout.names_line else "no names"
-    lines = [f"{export}: profile {found.profile.name}, {layout.dialect}, {names}, rows from line {layout.first_line}"]
+    lines = [
+        f"{export}: profile {found.profile.name}, {layout.dialect}, {names},"
+        f" rows from line {layout.first_line}"
+    ]
     lines += [f"  taken as a row of units: {unit}" for unit in layout.units]
     lines.append(f"  {times_text(found)}")
     lines += [f"  {told}" for told in found.told]
@@ -35,7 +38,9 @@ def times_text(found: Pass) -> str:
     times = found.read.times
     rows = counted(found.read.rows, "row")
     if times is None or times.first is None or times.last is None:
-        return f"{rows} without times: gaps and repeated rows can't be seen; period {found.period} µs"
+        return (
+            f"{rows} without times: gaps and repeated rows can't be seen; period {found.period} µs"
+        )
     first, last = (time_text(time, times.kind) for time in (times.first, times.last))
     text = f"{rows} from {first} to {last} by {times.column}, period {found.period} µs"
     if times.jitter:
@@ -72,7 +77,7 @@ def warnings(found: Pass) -> list[str]:
     for staged in found.staged:
         for reading, count in sorted(staged.column.cells.suspected.items()):
             lines.append(
-                f"{staged.target.gauge.name}: {reading} stands {counted(count, 'time')}, and was taken as a"
-                f" reading; --missing={reading} says that it is none"
+                f"{staged.target.gauge.name}: {reading} stands {counted(count, 'time')}, and was taken"
+                f" as a reading; --missing={reading} says that it is none"
             )
     return lines

@@ -1,4 +1,4 @@
-"""The times of an export, row after row: its period, gaps, repeated rows, and times that go back."""
+"""The times of an export, row after row: period, gaps, repeated rows, times that go back."""
 
 from __future__ import annotations
 

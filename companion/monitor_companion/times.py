@@ -33,7 +33,7 @@ CLOCK_FORMATS = (
     "%Y/%m/%d %H:%M:%S",
     "%d.%m.%Y %H:%M:%S",
 )
-"""The formats that are found. A date with slashes may begin with day or month: it has to be said."""
+"""The formats that are found. A date with slashes may begin with day or month: that is said."""
 
 
 class TimeKind(Enum):
@@ -134,7 +134,7 @@ class ClockTimes:
         if "hour12" in groups and "half" not in groups:
             raise ValueError(f"the time format {form!r} has hours by %I, and no %p")
         self.kind = TimeKind.CLOCK if dated else TimeKind.ELAPSED
-        # The part before the seconds repeats from row to row, and the seconds from minute to minute.
+        # What is before the seconds repeats from row to row, and the seconds do by minutes.
         self._split = form.endswith(":%S")
         self._fronts = Memory(pattern_of(form[: -len(":%S")])) if self._split else None
         self._seconds = Memory(pattern_of("%S"))

@@ -14,7 +14,7 @@ from monitor_companion.pieces import Mark
 from monitor_companion.recording import HEAD_BYTES, SAMPLE_BYTES, read_head
 from monitor_companion.refusals import Place, Refusal, Status
 from monitor_companion.request import Request
-from monitor_companion.site_gauges import SiteGauge, read_gauges
+from monitor_companion.site_gauges import read_gauges
 from monitor_companion.targets import State, Target, held, look, mark_behind, prefix_digests
 from monitor_companion.telling import pass_lines, warnings
 
@@ -135,7 +135,9 @@ class Transfer:
                 entry = target.pending
                 assert entry is not None
                 name = target.gauge.recording.name
-                print(f"{name}: what was cut off of {entry.export} is finished, {entry.end} samples")
+                print(
+                    f"{name}: what was cut off of {entry.export} is finished, {entry.end} samples"
+                )
         return bool(pending)
 
     def _read_new(
@@ -160,8 +162,8 @@ class Transfer:
                 number = target.journal.entries.index(entry) + 1
                 return Refusal(
                     place,
-                    f"is in {target.gauge.recording.name} already, as import {number} ({entry.export},"
-                    f" samples {entry.begin} to {entry.end}): nothing was appended",
+                    f"is in {target.gauge.recording.name} already, as import {number}"
+                    f" ({entry.export}, samples {entry.begin} to {entry.end}): nothing was appended",
                 )
         return Refusal(place, "has no whole row: nothing was appended")
 

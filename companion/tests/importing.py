@@ -42,7 +42,9 @@ class SiteTest(unittest.TestCase):
         COMMANDS[command].add_arguments(parser)
         out, err = io.StringIO(), io.StringIO()
         with contextlib.redirect_stdout(out), contextlib.redirect_stderr(err):
-            arguments = parser.parse_args([str(self.site / export), "--site", str(self.site), *words])
+            arguments = parser.parse_args(
+                [str(self.site / export), "--site", str(self.site), *words]
+            )
             try:
                 status = Status(COMMANDS[command].run(arguments))
             except Refusal as refusal:

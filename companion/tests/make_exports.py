@@ -43,7 +43,9 @@ class Export:
 def independent(export: Export, gauge: str) -> list[Decimal | None]:
     """The readings of a column as decimals, None where there is none."""
     lines = export.data.decode(export.encoding).splitlines()[export.head :]
-    cells = [line.split(export.separator)[export.places[gauge]].strip(' "') for line in lines if line]
+    cells = [
+        line.split(export.separator)[export.places[gauge]].strip(' "') for line in lines if line
+    ]
     return [
         None if cell in export.missing else Decimal(cell.replace(export.decimal, "."))
         for cell in cells
@@ -86,10 +88,20 @@ def plain() -> Export:
     """Commas and points, columns that nobody asks for, a mark before the text."""
     numbers = Numbers(1)
     span, pier = numbers.column(1), numbers.column(3, ("", "NaN"))
-    rows = [f"{seconds(n)},{a},note {n},{b}\n" for n, (a, b) in enumerate(zip(span, pier, strict=True))]
+    rows = [
+        f"{seconds(n)},{a},note {n},{b}\n" for n, (a, b) in enumerate(zip(span, pier, strict=True))
+    ]
     data = "\ufefftime,span,comment,pier\n" + "".join(rows)
     return Export(
-        "plain.csv", data.encode(), STEP_WORDS, "utf-8-sig", ",", 1, {"span": 1, "pier": 3}, STEPS, 50_000
+        "plain.csv",
+        data.encode(),
+        STEP_WORDS,
+        "utf-8-sig",
+        ",",
+        1,
+        {"span": 1, "pier": 3},
+        STEPS,
+        50_000,
     )
 
 
@@ -99,10 +111,12 @@ def catman() -> Export:
     span = numbers.column(1, ("OVERFLOW", "---"), ",")
     pier = numbers.column(3, ("OVERFLOW", ""), ",")
     head = (
-        "Datum;01.09.2026\r\nOrt;Brücke 14\r\n\r\nZeit;DMS span;pier [µm/m];Kraft\r\ns;µm/m;µm/m;kN\r\n"
+        "Datum;01.09.2026\r\nOrt;Brücke 14\r\n\r\n"
+        "Zeit;DMS span;pier [µm/m];Kraft\r\ns;µm/m;µm/m;kN\r\n"
     )
     rows = [
-        f"{seconds(n, ',')};{a};{b};0,5\r\n" for n, (a, b) in enumerate(zip(span, pier, strict=True))
+        f"{seconds(n, ',')};{a};{b};0,5\r\n"
+        for n, (a, b) in enumerate(zip(span, pier, strict=True))
     ]
     return Export(
         "catman.asc",
@@ -125,13 +139,16 @@ def toa5() -> Export:
     span, pier = numbers.column(1, ('"NAN"',)), numbers.column(3, ('"NAN"', '"INF"'))
     head = (
         '"TOA5","CR6","CR6","1234","CR6.Std.10","CPU:bridge.CR6","555","Fast"\r\n'
-        '"TIMESTAMP","RECORD","span","pier"\r\n"TS","RN","microstrain","microstrain"\r\n"","","Smp","Smp"\r\n'
+        '"TIMESTAMP","RECORD","span","pier"\r\n"TS","RN","microstrain","microstrain"\r\n'
+        '"","","Smp","Smp"\r\n'
     )
     start = datetime(2026, 9, 1, 23, 59, 50)
     rows = []
     for n, (a, b) in enumerate(zip(span, pier, strict=True)):
         time = start + timedelta(milliseconds=50 * n)
-        text = time.strftime("%Y-%m-%d %H:%M:%S") + f".{time.microsecond:06}".rstrip("0").rstrip(".")
+        text = time.strftime("%Y-%m-%d %H:%M:%S") + f".{time.microsecond:06}".rstrip("0").rstrip(
+            "."
+        )
         rows.append(f'"{text}",{n},{a},{b}\r\n')
     return Export(
         "toa5.dat",
@@ -187,7 +204,18 @@ def tabbed(name: str, encoding: str, mark: bytes, end: str) -> Export:
 
 def scientific() -> Export:
     """Exponents, signs, numbers without a digit before or behind the point."""
-    spellings = ("1.25e2", "-1.25E+02", "+12.5", "125e-1", ".5", "-.5", "5.", "0012.5", "1e0", "0e0")
+    spellings = (
+        "1.25e2",
+        "-1.25E+02",
+        "+12.5",
+        "125e-1",
+        ".5",
+        "-.5",
+        "5.",
+        "0012.5",
+        "1e0",
+        "0e0",
+    )
     rows = [f"{seconds(n)};{spellings[n % 10]};{n}E-3\n" for n in range(ROWS)]
     return Export(
         "scientific.csv",
@@ -219,7 +247,9 @@ def exports() -> list[Export]:
     ]
 
 
-def write_big(path: Path, rows: int = BIG_ROWS, reading: Callable[[random.Random], int] | None = None) -> None:
+def write_big(
+    path: Path, rows: int = BIG_ROWS, reading: Callable[[random.Random], int] | None = None
+) -> None:
     """Writes rows of three columns, about 34 bytes each: readings of a converter, in tenths."""
     maker = random.Random(7)
     take = reading or (lambda source: source.randrange(-30_000, 30_000))
@@ -229,7 +259,9 @@ def write_big(path: Path, rows: int = BIG_ROWS, reading: Callable[[random.Random
             lines = []
             for n in range(begin, min(begin + 10_000, rows)):
                 a, b, c = take(maker), take(maker), take(maker)
-                lines.append(f"{n // 200:08}.{n % 200 * 5:03},{a / 10:.1f},{b / 10:.1f},{c / 10:.1f}\n")
+                lines.append(
+                    f"{n // 200:08}.{n % 200 * 5:03},{a / 10:.1f},{b / 10:.1f},{c / 10:.1f}\n"
+                )
             file.write("".join(lines))
 
 

@@ -1,4 +1,4 @@
-"""Exports behind recordings: each once, in order, and only where the journal explains what is there."""
+"""Exports behind recordings: each once, in order, where the journal explains what is there."""
 
 from __future__ import annotations
 
@@ -16,9 +16,7 @@ from monitor_companion.refusals import Status
 
 from tests.importing import SiteTest
 
-DAY_1 = "timestamp,span,pier\n" + "".join(
-    f"2026-09-01 00:00:{n:02},{n},{-n}\n" for n in range(10)
-)
+DAY_1 = "timestamp,span,pier\n" + "".join(f"2026-09-01 00:00:{n:02},{n},{-n}\n" for n in range(10))
 DAY_2 = "timestamp,span,pier\n" + "".join(
     f"2026-09-01 00:00:{n:02},{n},{-n}\n" for n in range(10, 25)
 )
@@ -71,7 +69,8 @@ class Append(AppendTest):
         )
         self.assertEqual(entries[1]["sha256"], hashlib.sha256(DAY_2.encode()).hexdigest())
         self.assertEqual(
-            (entries[1]["first"], entries[1]["last"]), ("2026-09-01T00:00:10", "2026-09-01T00:00:24")
+            (entries[1]["first"], entries[1]["last"]),
+            ("2026-09-01T00:00:10", "2026-09-01T00:00:24"),
         )
 
     def test_the_same_export_twice(self) -> None:
@@ -81,15 +80,18 @@ class Append(AppendTest):
             self.refused(
                 f"{name}: is in span.sgrc already, as import {number} ({name}, samples {begin} to"
                 f" {end}): nothing was appended",
-                "append", name,
+                "append",
+                name,
             )
 
     def test_the_same_rows_under_another_head(self) -> None:
         self.write("copy.csv", "exported again\n" + DAY_1)
         self.refused(
-            "copy.csv:3: the last time of span is 2026-09-01T00:00:09 (day1.csv), and this export begins"
-            " at 2026-09-01T00:00:00, not after it",
-            "append", "copy.csv", "--allow-gaps",
+            "copy.csv:3: the last time of span is 2026-09-01T00:00:09 (day1.csv), and this export"
+            " begins at 2026-09-01T00:00:00, not after it",
+            "append",
+            "copy.csv",
+            "--allow-gaps",
         )
 
     def test_an_export_that_grows(self) -> None:
@@ -106,8 +108,9 @@ class Append(AppendTest):
 
     def test_a_gap_between_exports(self) -> None:
         gap = (
-            "day3.csv:2: the last time of span is 2026-09-01T00:00:09 (day1.csv), and this export begins"
-            " at 2026-09-01T00:00:25: about 15 rows lack between; --allow-gaps takes them as they are"
+            "day3.csv:2: the last time of span is 2026-09-01T00:00:09 (day1.csv), and this export"
+            " begins at 2026-09-01T00:00:25: about 15 rows lack between; --allow-gaps takes them as"
+            " they are"
         )
         self.refused(gap, "append", "day3.csv")
         self.append("day3.csv", "--allow-gaps")
@@ -115,17 +118,23 @@ class Append(AppendTest):
         self.assertIn("about 15 rows lack between", self.out)
 
     def test_another_period(self) -> None:
-        rows = "".join(f"2026-09-01 00:00:{10 + n}.5,1,1\n2026-09-01 00:00:{11 + n},1,1\n" for n in range(9))
+        rows = "".join(
+            f"2026-09-01 00:00:{10 + n}.5,1,1\n2026-09-01 00:00:{11 + n},1,1\n" for n in range(9)
+        )
         self.write("fast.csv", "timestamp,span,pier\n" + rows)
         self.refused(
             "fast.csv, column timestamp: its rows come every 500000 µs, and not every 1000000",
-            "append", "fast.csv",
+            "append",
+            "fast.csv",
         )
 
     def test_another_step(self) -> None:
         self.refused(
             "day2.csv, column span: its step was 1 so far, and can't be another now",
-            "append", "day2.csv", "--step", "0.1",
+            "append",
+            "day2.csv",
+            "--step",
+            "0.1",
         )
 
     def test_the_step_and_the_column_are_kept(self) -> None:
@@ -133,7 +142,16 @@ class Append(AppendTest):
             file.unlink()
         day = "time;a;b\n0;1,5;0,25\n1;1,6;0,26\n"
         self.write("a.csv", day)
-        words = ("--column", "a=span", "--column", "#3=pier", "--step", "span=0.1", "--step", "pier=0.01")
+        words = (
+            "--column",
+            "a=span",
+            "--column",
+            "#3=pier",
+            "--step",
+            "span=0.1",
+            "--step",
+            "pier=0.01",
+        )
         self.assertEqual(self.call("import", "a.csv", *words), Status.DONE, self.err)
         self.write("b.csv", day.replace("\n0;", "\n2;").replace("\n1;", "\n3;"))
         self.append("b.csv")
@@ -147,9 +165,10 @@ class Append(AppendTest):
             self.write(f"{number}.csv", f"time,span,pier\n0,{number},0\n1,{number},0\n")
         self.assertEqual(self.call("import", "1.csv"), Status.DONE)
         self.refused(
-            "2.csv:2: the last time of span is 1 (1.csv), and this export begins at 0, not after it;"
-            " --times-begin-again where each export does",
-            "append", "2.csv",
+            "2.csv:2: the last time of span is 1 (1.csv), and this export begins at 0, not after"
+            " it; --times-begin-again where each export does",
+            "append",
+            "2.csv",
         )
         self.append("2.csv", "--times-begin-again")
         self.assertEqual(self.samples("span"), [1, 1, 2, 2])
@@ -165,12 +184,16 @@ class Unexplained(AppendTest):
     def test_a_recording_of_another_length(self) -> None:
         path = self.site / "pier.sgrc"
         data = path.read_bytes()
-        for change, has in ((data + bytes(4), "11 samples"), (data + b"\0", "10 samples and 1 odd bytes")):
+        for change, has in (
+            (data + bytes(4), "11 samples"),
+            (data + b"\0", "10 samples and 1 odd bytes"),
+        ):
             path.write_bytes(change)
             self.refused(
-                f"pier.sgrc: has {has}, and its journal explains 10: something else wrote to it, or it"
-                " was cut. Nothing is appended until it is the recording of the journal again",
-                "append", "day2.csv",
+                f"pier.sgrc: has {has}, and its journal explains 10: something else wrote to it,"
+                " or it was cut. Nothing is appended until it is the recording of the journal again",
+                "append",
+                "day2.csv",
             )
 
     def test_a_recording_that_was_cut_before_its_last_import(self) -> None:
@@ -191,19 +214,23 @@ class Unexplained(AppendTest):
     def test_no_recording(self) -> None:
         for file in self.site.glob("pier.sgrc*"):
             file.unlink()
-        self.refused("pier.sgrc: isn't there: `import` makes the recording of pier", "append", "day2.csv")
+        self.refused(
+            "pier.sgrc: isn't there: `import` makes the recording of pier", "append", "day2.csv"
+        )
         self.assertEqual(self.call("import", "day1.csv"), Status.DONE, self.err)
         self.has(10)
 
     def test_import_over_a_recording(self) -> None:
         self.refused(
-            "span.sgrc: is there already, made from day1.csv, which is this export: `append` brings what"
-            " is new behind a recording",
-            "import", "day1.csv",
+            "span.sgrc: is there already, made from day1.csv, which is this export: `append` brings"
+            " what is new behind a recording",
+            "import",
+            "day1.csv",
         )
         self.refused(
             "span.sgrc: is there already: `append` brings what is new behind a recording",
-            "import", "day2.csv",
+            "import",
+            "day2.csv",
         )
 
     def test_a_recording_that_is_gone(self) -> None:
@@ -224,8 +251,14 @@ class Unexplained(AppendTest):
         path = self.site / "span.sgrc.imports"
         good = path.read_text()
         for bad, why in (
-            (good.replace('"end": 10', '"end": 11'), ":2: the journal is damaged: samples 0 on are"),
-            (good.replace('"rows": 10', '"rows": "x"'), ":2: the journal is damaged: rows is lacking"),
+            (
+                good.replace('"end": 10', '"end": 11'),
+                ":2: the journal is damaged: samples 0 on are",
+            ),
+            (
+                good.replace('"rows": 10', '"rows": "x"'),
+                ":2: the journal is damaged: rows is lacking",
+            ),
             (good.replace("{", "", 1), ":1: the journal is damaged: "),
             (good.replace('"journal": 1', '"journal": 2'), ":1: is no journal of version 1"),
         ):
@@ -332,12 +365,16 @@ class CutOff(AppendTest):
         path = self.site / "pier.sgrc"
         data = path.read_bytes()
         path.write_bytes(data[: HEAD_BYTES + 4 * 12] + b"\x07\0\0\0")
-        self.refused("pier.sgrc: doesn't hold the samples of day2.csv at its end", "append", "day2.csv")
+        self.refused(
+            "pier.sgrc: doesn't hold the samples of day2.csv at its end", "append", "day2.csv"
+        )
         path.write_bytes(data[: HEAD_BYTES + 4 * 12])
         self.refused(
-            "day2.csv: gives other samples of pier than the append that was cut off: say the same options"
-            " again",
-            "append", "day2.csv", "--missing=-11",
+            "day2.csv: gives other samples of pier than the append that was cut off: say the same"
+            " options again",
+            "append",
+            "day2.csv",
+            "--missing=-11",
         )
 
     def test_a_cut_off_export_that_grew(self) -> None:

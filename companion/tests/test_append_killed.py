@@ -31,7 +31,9 @@ COMPANION = Path(__file__).resolve().parents[1]
 def export(day: int) -> str:
     """The rows of a day; a column that goes up and down by days, and one by rows."""
     rows = range(day * ROWS, (day + 1) * ROWS)
-    return "time,span,pier\n" + "".join(f"{n},{n * 7919 % 601 - 300},{(n + day) % 250 - 125}\n" for n in rows)
+    return "time,span,pier\n" + "".join(
+        f"{n},{n * 7919 % 601 - 300},{(n + day) % 250 - 125}\n" for n in rows
+    )
 
 
 def expected(gauge: str, days: int) -> list[int]:
@@ -74,7 +76,7 @@ class Killed(SiteTest):
         self.moments: dict[str, int] = {}
 
     def killed(self, command: str, name: str) -> None:
-        """Runs a command, and kills it at a random moment, or soon after its journal was written."""
+        """Runs a command, and kills it at a random moment, or soon after its journal grew."""
         words = [sys.executable, "-m", "monitor_companion", command, str(self.site / name)]
         journal = self.site / "span.sgrc.imports"
         size = journal.stat().st_size if journal.exists() else 0
@@ -86,7 +88,10 @@ class Killed(SiteTest):
         if self.random.random() < 0.5:
             time.sleep(self.random.uniform(0, self.longest * 1.1))
         else:
-            while process.poll() is None and (journal.stat().st_size if journal.exists() else 0) == size:
+            while (
+                process.poll() is None
+                and (journal.stat().st_size if journal.exists() else 0) == size
+            ):
                 time.sleep(0.0002)
             time.sleep(self.random.uniform(0, 0.02))
         process.kill()
@@ -95,7 +100,10 @@ class Killed(SiteTest):
 
     def look(self) -> dict[str, bytes]:
         """The bytes of both recordings."""
-        return {g: p.read_bytes() if (p := self.site / f"{g}.sgrc").exists() else b"" for g in self.gauges}
+        return {
+            g: p.read_bytes() if (p := self.site / f"{g}.sgrc").exists() else b""
+            for g in self.gauges
+        }
 
     def note(self, days: int) -> None:
         """Counts where the kill came."""
@@ -161,7 +169,9 @@ class Killed(SiteTest):
             self.assertEqual(held, sorted(held), gauge)
         report = program.run(self.site, "count").stdout
         audit = program.run(self.site, "audit")
-        self.assertEqual((audit.returncode, audit.stdout), (0, b"audit span same\naudit pier same\n"))
+        self.assertEqual(
+            (audit.returncode, audit.stdout), (0, b"audit span same\naudit pier same\n")
+        )
         alone = self.site / "alone"
         alone.mkdir()
         for name in ("monitor.toml", "span.sgrc", "pier.sgrc"):

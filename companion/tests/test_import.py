@@ -85,7 +85,10 @@ class Cells(SiteTest):
         self.column("1.2", "1.25")
         self.refused(
             "export.csv:3, column span, cell '1.25': is no whole number of steps of 0.1",
-            "import", "export.csv", "--step", "0.1",
+            "import",
+            "export.csv",
+            "--step",
+            "0.1",
         )
 
     def test_rounding_tells_how_many_and_how_far(self) -> None:
@@ -100,13 +103,31 @@ class Cells(SiteTest):
         self.assertEqual(self.samples("span"), [1, 2, -7, 120])
 
     def test_what_is_no_number_is_refused(self) -> None:
-        bad = ["x", "1.2.3", "1,5", "0x10", "1_0", "--5", "5-", "1e", "e5", ".", "+", "1 2", "١", "1e1234"]
+        bad = [
+            "x",
+            "1.2.3",
+            "1,5",
+            "0x10",
+            "1_0",
+            "--5",
+            "5-",
+            "1e",
+            "e5",
+            ".",
+            "+",
+            "1 2",
+            "١",
+            "1e1234",
+        ]
         for cell in bad:
             with self.subTest(cell):
                 self.column("1", "2", cell)
                 self.refused(
                     f"export.csv:4, column span, cell {cell!r}: is no number",
-                    "import", "export.csv", "--decimal", "point",
+                    "import",
+                    "export.csv",
+                    "--decimal",
+                    "point",
                 )
 
     def test_the_bulk_refuses_what_is_no_number(self) -> None:
@@ -119,7 +140,10 @@ class Cells(SiteTest):
                 self.column(*cells)
                 self.refused(
                     f"export.csv:252, column span, cell {bad!r}: is no number",
-                    "import", "export.csv", "--step", "0.1",
+                    "import",
+                    "export.csv",
+                    "--step",
+                    "0.1",
                 )
 
     def test_the_range_of_a_recording(self) -> None:
@@ -156,7 +180,10 @@ class Cells(SiteTest):
         self.column("1", "OVERFLOW", "NaN")
         self.refused(
             "export.csv:3, column span, cell 'OVERFLOW': is no number",
-            "import", "export.csv", "--only-missing", "NaN",
+            "import",
+            "export.csv",
+            "--only-missing",
+            "NaN",
         )
 
 
@@ -197,7 +224,8 @@ class Forms(SiteTest):
         self.refused(
             "export.csv:1: the column 'span' stands at #2 and #4: say --column '#2=span' or another"
             " place",
-            "import", "export.csv",
+            "import",
+            "export.csv",
         )
         self.imported("time,span,pier,span\n0,1,2,3\n1,4,5,6\n", "--column", "#4=span")
         self.assertEqual(self.samples("span"), [3, 6])
@@ -205,12 +233,22 @@ class Forms(SiteTest):
     def test_a_name_that_is_not_there(self) -> None:
         self.write("export.csv", "time,spam,pier\n0,1,2\n1,4,5\n")
         self.refused(
-            "export.csv: no row of its head has the column 'span'; there is 'spam'", "import", "export.csv"
+            "export.csv: no row of its head has the column 'span'; there is 'spam'",
+            "import",
+            "export.csv",
         )
 
     def test_no_names(self) -> None:
         self.imported(
-            "0;1;2\n1;3;4\n", "--names", "0", "--time", "#1", "--column", "#2=span", "--column", "#3=pier"
+            "0;1;2\n1;3;4\n",
+            "--names",
+            "0",
+            "--time",
+            "#1",
+            "--column",
+            "#2=span",
+            "--column",
+            "#3=pier",
         )
         self.assertEqual((self.samples("span"), self.samples("pier")), ([1, 3], [2, 4]))
 
@@ -222,13 +260,17 @@ class Forms(SiteTest):
 
     def test_a_first_row_with_a_fault_is_no_row_of_units(self) -> None:
         self.write("export.csv", "time,span,pier\n0,broken,2\n1,3,4\n")
-        self.refused("export.csv:2, column span, cell 'broken': is no number", "import", "export.csv")
+        self.refused(
+            "export.csv:2, column span, cell 'broken': is no number", "import", "export.csv"
+        )
 
     def test_rows_of_another_width(self) -> None:
         for row in ("2,3", "2,3,4,5"):
             self.write("export.csv", f"time,span,pier\n0,1,2\n1,3,4\n{row}\n3,1,1\n")
             cells = row.count(",") + 1
-            self.refused(f"export.csv:4: has {cells} cells, and 3 are expected", "import", "export.csv")
+            self.refused(
+                f"export.csv:4: has {cells} cells, and 3 are expected", "import", "export.csv"
+            )
 
     def test_two_wrong_rows_that_even_out(self) -> None:
         self.write("export.csv", "time,span,pier\n0,1,2\n1,3,4,5\n2,3\n3,1,1\n")
@@ -238,7 +280,9 @@ class Forms(SiteTest):
         for end in ("2,12", "2,12,3", "2,", '2,"'):
             self.imported(f"time,span,pier\n0,1,2\n1,3,4\n{end}")
             self.assertEqual(self.samples("span"), [1, 3])
-            self.assertIn(f"line 4 has no line end, and is left for the next import: {end!r}", self.out)
+            self.assertIn(
+                f"line 4 has no line end, and is left for the next import: {end!r}", self.out
+            )
 
     def test_the_half_of_a_line_end(self) -> None:
         self.imported("time,span,pier\r\n0,1,2\r\n1,3,4\r\n2,5,6\r")
@@ -257,7 +301,9 @@ class Forms(SiteTest):
         self.write("export.csv", "span\n1\n\n2\n")
         self.refused(
             "export.csv:3: is blank, and it can't be told whether that is a row without a reading",
-            "import", "export.csv", *words,
+            "import",
+            "export.csv",
+            *words,
         )
 
     def test_zeros_behind_a_stop_are_refused(self) -> None:
@@ -268,7 +314,9 @@ class Forms(SiteTest):
     def test_points_and_commas(self) -> None:
         self.write("export.csv", "time;span;pier\n0;1,5;2\n1;1.5;2\n")
         self.refused(
-            "export.csv:3: its numbers have points and commas: say --decimal", "import", "export.csv"
+            "export.csv:3: its numbers have points and commas: say --decimal",
+            "import",
+            "export.csv",
         )
 
     def test_separators_that_both_fit(self) -> None:
@@ -300,7 +348,9 @@ class Profiles(SiteTest):
         )
         path = self.site / self.write("mine.toml", profile)
         self.write("export.csv", "time;DMS 1;DMS 2\n0;1.5;0.25\n1;1.6;0.26\n")
-        self.assertEqual(self.call("import", "export.csv", "--profile", str(path)), Status.DONE, self.err)
+        self.assertEqual(
+            self.call("import", "export.csv", "--profile", str(path)), Status.DONE, self.err
+        )
         self.assertEqual((self.samples("span"), self.samples("pier")), ([15, 16], [25, 26]))
 
     def test_what_a_profile_may_not_say(self) -> None:
@@ -308,10 +358,10 @@ class Profiles(SiteTest):
             'seperator = "tab"\n': "unknown key seperator",
             'separator = "pipe"\n': "separator is 'pipe'; allowed are find, tab, semicolon, comma",
             "names = -1\n": "names is -1; allowed are 'find' and 0 to 1000",
-            "missing = [-9999]\n": "missing has something that is no text; numbers stand in quotes here",
+            "missing = [-9999]\n": "missing has something that is no text; numbers stand in quotes",
             '[time]\nformat = "fortnight"\n': "the time format 'fortnight' is no unit",
             '[time]\nzone = "UTC"\n': "unknown key time.zone",
-            '[columns.a]\nstep = "0.1"\n': "columns.a has to have gauge, may have step, and no more",
+            '[columns.a]\nstep = "0.1"\n': "columns.a has to have gauge, may have step, no more",
             '[columns.a]\ngauge = "span"\nstep = "0"\n': "the step '0' isn't above 0",
         }
         self.write("export.csv", "time,span,pier\n0,1,2\n1,3,4\n")
@@ -327,5 +377,8 @@ class Profiles(SiteTest):
         self.write("export.csv", "time,span,pier\n0,1,2\n1,3,4\n")
         self.refused(
             "monitor.toml: has no gauge 'spam'; there are pier, span",
-            "import", "export.csv", "--gauge", "spam",
+            "import",
+            "export.csv",
+            "--gauge",
+            "spam",
         )

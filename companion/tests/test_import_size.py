@@ -77,7 +77,9 @@ class Size(SiteTest):
         write_big(self.site / "big.csv", 60_000)
         main, other = pty.openpty()
         with open(main, "rb", buffering=0) as terminal:
-            process = subprocess.Popen(self.words(), cwd=COMPANION, stdout=subprocess.PIPE, stderr=other)
+            process = subprocess.Popen(
+                self.words(), cwd=COMPANION, stdout=subprocess.PIPE, stderr=other
+            )
             os.close(other)
             shown = b""
             try:
@@ -87,14 +89,16 @@ class Size(SiteTest):
                 pass  # the other end of the terminal is closed
             told, _ = process.communicate()
         self.assertEqual(process.returncode, 0)
-        self.assertRegex(shown, rb"\r\[#* *\] +\d+ %  \d+ of 1 MB")
+        self.assertRegex(shown, rb"\r\[#* *\] +\d+ %  \d+ of 2 MB")
         self.assertTrue(shown.endswith(b"\r\x1b[K"))
         self.assertNotIn(b"%", told)
 
     def test_the_bar(self) -> None:
         terminal, pipe = Terminal(), io.StringIO()
         for stream in (terminal, pipe):
-            with Progress(200_000_000, stream) as progress, mock.patch("time.monotonic", side_effect=[1, 2, 2.05]):
+            with Progress(200_000_000, stream) as progress, mock.patch(
+                "time.monotonic", side_effect=[1, 2, 2.05]
+            ):
                 progress.reach(50_000_000)
                 if stream is terminal:
                     progress.reach(200_000_000)
