@@ -236,10 +236,13 @@ def make_recording(path: Path, owner: Owner) -> None:
         os.fsync(file.fileno())
     try:
         os.link(making, path)
-    except FileExistsError as error:
-        raise Refusal(Place(str(path)), "was made by something else meanwhile") from error
-    finally:
         making.unlink()
+    except FileExistsError as error:
+        making.unlink()
+        raise Refusal(Place(str(path)), "was made by something else meanwhile") from error
+    except OSError:
+        # Some file systems have no links.
+        making.rename(path)
     sync_folder(path.parent)
 
 

@@ -6,10 +6,10 @@ import csv
 import hashlib
 from array import array
 from collections.abc import Callable, Sequence
-from dataclasses import dataclass, field
+from dataclasses import dataclass, field, replace
 from fractions import Fraction
 from pathlib import Path
-from typing import IO
+from typing import IO, TYPE_CHECKING
 
 from monitor_companion.layout import Layout
 from monitor_companion.time_layout import TimePlan
@@ -19,6 +19,9 @@ from monitor_companion.recording import sample_bytes
 from monitor_companion.refusals import Place, Refusal
 from monitor_companion.time_check import MICROSECOND, TimeCheck
 
+if TYPE_CHECKING:
+    from hashlib import _Hash
+
 
 @dataclass
 class ColumnRead:
@@ -26,6 +29,7 @@ class ColumnRead:
 
     cells: SampleCells
     sink: IO[bytes]
+    hash: _Hash = field(default_factory=hashlib.sha256)
     digest: str = ""
 
 
@@ -81,25 +85,39 @@ class RowReader:
             ColumnRead(self._cells(plan.wanted.step), sink)
             for plan, sink in zip(layout.columns, sinks, strict=True)
         ]
-        digests = [hashlib.sha256() for _ in columns]
         times = self._time_check()
         pieces = Pieces(self._path, layout.dialect.encoding, start, stop, layout.crlf, self._reach)
         rows = 0
         for whole in pieces:
             piece = behind_head(whole, layout.first_line)
-            if not piece.data:
-                continue
-            cells = self._split(piece)
-            if layout.time is not None and times is not None:
-                times.take(self._times(layout.time, cells), cells.lines)
-            for place, column in enumerate(columns):
-                data = sample_bytes(self._samples(place, column.cells, cells))
-                digests[place].update(data)
-                column.sink.write(data)
-            rows += len(cells.lines)
-        for column, digest in zip(columns, digests, strict=True):
-            column.digest = digest.hexdigest()
+            if piece.data:
+                rows += self._take(piece, columns, times)
+        for column in columns:
+            column.digest = column.hash.hexdigest()
         return RowsRead(pieces.end, pieces.digest.hexdigest(), pieces.left, rows, times, columns)
+
+    def _take(self, piece: Piece, columns: list[ColumnRead], times: TimeCheck | None) -> int:
+        """Takes the rows of a piece; a refusal is that of its first faulty row."""
+        before = None if times is None else replace(times)
+        blank = self._blank
+        try:
+            return self._take_rows(piece, columns, times)
+        except Refusal:
+            self._blank = blank
+            for number, line in enumerate(piece.data.splitlines(keepends=True), piece.line):
+                self._take_rows(Piece(line, number), columns, before)
+            raise
+
+    def _take_rows(self, piece: Piece, columns: list[ColumnRead], times: TimeCheck | None) -> int:
+        """Takes the rows of a piece, and answers how many there are."""
+        cells = self._split(piece)
+        if self._layout.time is not None and times is not None:
+            times.take(self._times(self._layout.time, cells), cells.lines)
+        for place, column in enumerate(columns):
+            data = sample_bytes(self._samples(place, column.cells, cells))
+            column.hash.update(data)
+            column.sink.write(data)
+        return len(cells.lines)
 
     def _cells(self, step: Fraction) -> SampleCells:
         return SampleCells(step, self._layout.dialect.decimal, self._missing, self._rounding)

@@ -75,9 +75,10 @@ def warnings(found: Pass) -> list[str]:
     """What may be wrong, though it can be read."""
     lines = []
     for staged in found.staged:
+        name = staged.target.gauge.name
         for reading, count in sorted(staged.column.cells.suspected.items()):
             lines.append(
-                f"{staged.target.gauge.name}: {reading} stands {counted(count, 'time')}, and was taken"
+                f"{name}: {reading} stands {counted(count, 'time')}, and was taken"
                 f" as a reading; --missing={reading} says that it is none"
             )
     return lines

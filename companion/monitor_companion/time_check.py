@@ -45,19 +45,21 @@ class TimeCheck:
         """
         if not times:
             return
+        rows = len(times)
         if self.last is not None:
             times = array("q", (self.last,)) + times
-            lines = [lines[0], *lines]
         else:
             self.first = times[0]
+        # (The row of `times[place]` stands in `lines[place - before]`.)
+        before = len(times) - rows
         # (The differences of 64-bit numbers may need more: they stay a list.)
         steps = list(map(operator.sub, times[1:], times))
         if steps and min(steps) < 0:
-            self._refuse_back(steps, times, lines)
+            self._refuse_back(steps, times, lines, before)
         self._settle_period(steps)
         if self.period is not None and steps.count(int(self.period)) != len(steps):
-            self._examine(steps, times, lines)
-        self.rows += len(steps) + (self.last is None)
+            self._examine(steps, times, lines, before)
+        self.rows += rows
         self.last = times[-1]
 
     def _settle_period(self, steps: list[int]) -> None:
@@ -67,7 +69,9 @@ class TimeCheck:
             if self.period is None and self.found > 0:
                 self.period = self.found
 
-    def _examine(self, steps: list[int], times: array[int], lines: Sequence[int]) -> None:
+    def _examine(
+        self, steps: list[int], times: array[int], lines: Sequence[int], before: int
+    ) -> None:
         """Looks at each step that isn't the period."""
         assert self.period is not None
         period = self.period
@@ -79,15 +83,17 @@ class TimeCheck:
             if near < step < far:
                 self.jitter = max(self.jitter, abs(step - period))
                 continue
-            self._tell(step, times[place], lines[place])
+            self._tell(step, times[place], lines[place - before])
 
-    def _refuse_back(self, steps: list[int], times: array[int], lines: Sequence[int]) -> None:
+    def _refuse_back(
+        self, steps: list[int], times: array[int], lines: Sequence[int], before: int
+    ) -> None:
         """Refuses the first time that is before the one above it."""
         place = next(place for place, step in enumerate(steps, 1) if step < 0)
-        text, before = (time_text(times[at], self.kind) for at in (place, place - 1))
+        text, above = (time_text(times[at], self.kind) for at in (place, place - 1))
         raise Refusal(
-            Place(self.file, lines[place], self.column, text),
-            f"the time goes back, from {before}: rows stand twice or in disorder",
+            Place(self.file, lines[place - before], self.column, text),
+            f"the time goes back, from {above}: rows stand twice or in disorder",
         )
 
     def _tell(self, step: int, time: int, line: int) -> None:

@@ -163,9 +163,9 @@ class Transfer:
                 return Refusal(
                     place,
                     f"is in {target.gauge.recording.name} already, as import {number}"
-                    f" ({entry.export}, samples {entry.begin} to {entry.end}): nothing was appended",
+                    f" ({entry.export}, samples {entry.begin} to {entry.end}): nothing is appended",
                 )
-        return Refusal(place, "has no whole row: nothing was appended")
+        return Refusal(place, "has no whole row: nothing is appended")
 
     def _tell(self, passes: list[Pass]) -> Status:
         """Tells what was done, and what may be wrong with it."""

@@ -79,7 +79,7 @@ class Append(AppendTest):
             begin, end = ((0, 10), (10, 25))[number - 1]
             self.refused(
                 f"{name}: is in span.sgrc already, as import {number} ({name}, samples {begin} to"
-                f" {end}): nothing was appended",
+                f" {end}): nothing is appended",
                 "append",
                 name,
             )
@@ -191,7 +191,8 @@ class Unexplained(AppendTest):
             path.write_bytes(change)
             self.refused(
                 f"pier.sgrc: has {has}, and its journal explains 10: something else wrote to it,"
-                " or it was cut. Nothing is appended until it is the recording of the journal again",
+                " or it was cut. Nothing is appended until it is the recording of the journal"
+                " again",
                 "append",
                 "day2.csv",
             )
