@@ -141,7 +141,7 @@ class Dialect:
         if b"\0" in piece or (width == 1 and (b"\n\n" in piece or piece.startswith(b"\n"))):
             return None
         if self.quote and self.quote in piece:
-            unquoted = self._unquoted(piece)
+            unquoted = self.unquoted(piece)
             if unquoted is None:
                 return None
             piece = unquoted
@@ -153,7 +153,7 @@ class Dialect:
             return None
         return cells
 
-    def _unquoted(self, piece: bytes) -> bytes | None:
+    def unquoted(self, piece: bytes) -> bytes | None:
         """The piece without its quotes, where each stands at an end of a cell and parts nothing."""
         parts = piece.split(self.quote)
         inside = b"\0".join(parts[1::2])

@@ -5,6 +5,7 @@ from __future__ import annotations
 import re
 from array import array
 from collections import Counter
+from collections.abc import Iterable
 from dataclasses import dataclass
 from fractions import Fraction
 from operator import itemgetter
@@ -191,35 +192,51 @@ class SampleCells(dict[bytes, int]):
 
     def _account(self, cells: list[bytes], found: array[int]) -> None:
         """Counts the spellings of no reading, and readings that may mean none."""
-        # (Bytes are searched faster than numbers; what is found across two of them counts nothing.)
-        data = found.tobytes()
-        if array("i", (MISSING,)).tobytes() in data:
+        if holds(found, MISSING):
             self.missing += found.count(MISSING)
             for cell, spelling in self._spelled.items():
                 self.spellings[spelling] += cells.count(cell)
+        self.account_suspects(found)
+
+    def account_suspects(self, found: array[int]) -> None:
+        """Counts the readings that may mean none."""
         for reading, raw in self._suspects:
-            if array("i", (raw,)).tobytes() in data:
+            if holds(found, raw):
                 self.suspected[reading] += found.count(raw)
 
     def _bulk(self, cells: list[bytes]) -> array[int] | None:
         """The raw values of cells that are all exact readings of one form, or None."""
         found = whole_numbers(cells, self._decimal)
-        if found is None or self._missing.numbers:
+        return None if found is None else self.of_numbers(*found)
+
+    def of_numbers(self, numbers: Iterable[int], decimals: int) -> array[int] | None:
+        """The raw values of numbers with so many decimals.
+
+        None says that a reading isn't a whole number of steps, means none, or has no room: then
+        they have to be looked at one by one. Nothing is counted here.
+        """
+        if self._missing.numbers:
             return None
-        numbers, decimals = found
         factor = Fraction(self._step.denominator, self._step.numerator * 10**decimals)
         above, below = factor.numerator, factor.denominator
         try:
             if above != 1:
-                numbers = array("q", [number * above for number in numbers])
+                numbers = [number * above for number in numbers]
             if below != 1:
+                numbers = list(numbers)
                 if any(number % below for number in numbers):
                     return None
-                numbers = array("q", [number // below for number in numbers])
+                numbers = [number // below for number in numbers]
             raws = array("i", numbers)
         except OverflowError:
             return None
-        return None if MISSING in raws else raws
+        return None if holds(raws, MISSING) else raws
+
+
+def holds(samples: array[int], raw: int) -> bool:
+    """Whether a raw value is among samples; bytes are searched faster than numbers."""
+    # (The bytes may also stand across two samples.)
+    return array("i", (raw,)).tobytes() in samples.tobytes() and raw in samples
 
 
 def suspects_of(step: Fraction) -> tuple[tuple[int, int], ...]:

@@ -12,12 +12,14 @@ from pathlib import Path
 from typing import IO, TYPE_CHECKING
 
 from monitor_companion.layout import Layout
-from monitor_companion.time_layout import TimePlan
 from monitor_companion.pieces import Mark, Piece, Pieces
+from monitor_companion.plain_rows import PlainColumn, PlainRows
 from monitor_companion.readings import CellFault, Missing, SampleCells
 from monitor_companion.recording import sample_bytes
 from monitor_companion.refusals import Place, Refusal
 from monitor_companion.time_check import MICROSECOND, TimeCheck
+from monitor_companion.time_layout import TimePlan
+from monitor_companion.times import ElapsedTimes
 
 if TYPE_CHECKING:
     from hashlib import _Hash
@@ -31,6 +33,12 @@ class ColumnRead:
     sink: IO[bytes]
     hash: _Hash = field(default_factory=hashlib.sha256)
     digest: str = ""
+
+    def take(self, samples: array[int]) -> None:
+        """Writes samples to the sink."""
+        data = sample_bytes(samples)
+        self.hash.update(data)
+        self.sink.write(data)
 
 
 @dataclass
@@ -74,6 +82,7 @@ class RowReader:
         self._period = period
         self._reach = reach
         self._blank: int | None = None
+        self._plain = plain_rows(layout)
 
     def read(self, start: Mark, stop: int | None, sinks: Sequence[IO[bytes]]) -> RowsRead:
         """Reads all rows from a mark on, and writes the samples of each column to its sink.
@@ -110,14 +119,54 @@ class RowReader:
 
     def _take_rows(self, piece: Piece, columns: list[ColumnRead], times: TimeCheck | None) -> int:
         """Takes the rows of a piece, and answers how many there are."""
+        plain = None if self._blank is not None else self._plain_rows(piece, columns, times)
+        if plain is not None:
+            return plain
         cells = self._split(piece)
         if self._layout.time is not None and times is not None:
             times.take(self._times(self._layout.time, cells), cells.lines)
         for place, column in enumerate(columns):
-            data = sample_bytes(self._samples(place, column.cells, cells))
-            column.hash.update(data)
-            column.sink.write(data)
+            column.take(self._samples(place, column.cells, cells))
         return len(cells.lines)
+
+    def _plain_rows(
+        self, piece: Piece, columns: list[ColumnRead], times: TimeCheck | None
+    ) -> int | None:
+        """Takes the rows of a piece where all are plain; else None, and nothing is taken."""
+        if self._plain is None or not self._plain.due():
+            return None
+        found = self._plain.columns(piece.data)
+        taken = found is not None and self._take_plain(found, piece.line, columns, times)
+        self._plain.tried(taken)
+        return len(found[0].cells) if taken and found is not None else None
+
+    def _take_plain(
+        self,
+        found: list[PlainColumn],
+        line: int,
+        columns: list[ColumnRead],
+        times: TimeCheck | None,
+    ) -> bool:
+        """Takes plain columns, where all are exact readings and times."""
+        plan = self._layout.time
+        read = None
+        if plan is not None and isinstance(plan.reader, ElapsedTimes):
+            first = found.pop(0)
+            read = plan.reader.of_numbers(map(int, first.cells), first.decimals)
+            if read is None:
+                return False
+        taken = []
+        for column, plain in zip(columns, found, strict=True):
+            raws = column.cells.of_numbers(map(int, plain.cells), plain.decimals)
+            if raws is None:
+                return False
+            taken.append(raws)
+        if read is not None and times is not None:
+            times.take(read, range(line, line + len(read)))
+        for column, raws in zip(columns, taken, strict=True):
+            column.cells.account_suspects(raws)
+            column.take(raws)
+        return True
 
     def _cells(self, step: Fraction) -> SampleCells:
         return SampleCells(step, self._layout.dialect.decimal, self._missing, self._rounding)
@@ -158,7 +207,8 @@ class RowReader:
         found: list[list[bytes]] = [[] for _ in places]
         for number, line in enumerate(piece.data.split(b"\n")[:-1], piece.line):
             if layout.dialect.is_blank(line):
-                self._blank = number
+                # (In one column a blank line may be a row without a reading.)
+                self._blank = number if layout.width == 1 else None
                 continue
             row = self._row(line, number)
             lines.append(number)
@@ -172,7 +222,7 @@ class RowReader:
     def _row(self, line: bytes, number: int) -> list[bytes]:
         """The cells of one row, as many as the names."""
         layout = self._layout
-        if self._blank is not None and layout.width == 1:
+        if self._blank is not None:
             why = "is blank, and it can't be told whether that is a row without a reading"
             raise self._refusal(self._blank, why)
         try:
@@ -223,6 +273,19 @@ class RowReader:
                 text = self._layout.dialect.text(cell)
                 return Refusal(Place(str(self._path), line, title, text), str(first))
         return Refusal(Place(str(self._path), lines[0], title), str(fault))
+
+
+def plain_rows(layout: Layout) -> PlainRows | None:
+    """What finds plain rows; None where the times aren't numbers in one column."""
+    places = [plan.place for plan in layout.columns]
+    if layout.time is not None:
+        if not isinstance(layout.time.reader, ElapsedTimes) or len(layout.time.places) != 1:
+            return None
+        places.insert(0, layout.time.places[0])
+    # A column may go to two gauges, or be the times too: the pattern has each place once.
+    if len(set(places)) != len(places):
+        return None
+    return PlainRows(layout.dialect, layout.widths, places)
 
 
 def behind_head(piece: Piece, first_line: int) -> Piece:

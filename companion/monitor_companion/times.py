@@ -4,6 +4,7 @@ from __future__ import annotations
 
 import re
 from array import array
+from collections.abc import Iterable
 from datetime import date
 from enum import Enum
 from fractions import Fraction
@@ -73,15 +74,18 @@ class ElapsedTimes:
 
     def many(self, cells: list[bytes]) -> array[int]:
         found = whole_numbers(cells, self._decimal) if cells else None
-        if found is not None:
-            numbers, decimals = found
-            factor = self._unit / 10**decimals
-            if factor.denominator == 1:
-                try:
-                    return array("q", map(factor.numerator.__mul__, numbers))
-                except OverflowError:
-                    pass
-        return array("q", map(self.read, cells))
+        times = None if found is None else self.of_numbers(*found)
+        return array("q", map(self.read, cells)) if times is None else times
+
+    def of_numbers(self, numbers: Iterable[int], decimals: int) -> array[int] | None:
+        """The times of numbers with so many decimals; None where they have to be looked at."""
+        factor = self._unit / 10**decimals
+        if factor.denominator != 1:
+            return None
+        try:
+            return array("q", map(factor.numerator.__mul__, numbers))
+        except OverflowError:
+            return None
 
 
 def checked(time: int) -> int:

@@ -8,6 +8,7 @@ from decimal import Decimal
 from unittest import mock
 
 from monitor_companion.dialects import Dialect
+from monitor_companion.plain_rows import PlainRows
 from monitor_companion.readings import SampleCells, whole_numbers
 from monitor_companion.recording import read_head
 from monitor_companion.refusals import Status
@@ -45,6 +46,7 @@ class Exact(SiteTest):
                 self.subTest(export.name),
                 mock.patch.object(Dialect, "split_piece", return_value=None),
                 mock.patch.object(SampleCells, "_bulk", return_value=None),
+                mock.patch.object(PlainRows, "columns", return_value=None),
                 mock.patch("monitor_companion.times.whole_numbers", return_value=None),
                 mock.patch("monitor_companion.pieces.BLOCK", 97),
             ):

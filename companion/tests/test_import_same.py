@@ -1,4 +1,4 @@
-"""What is read in bulk is what is read row by row and cell by cell: the samples, and the refusals."""
+"""What is read in bulk is what is read cell by cell: the samples, and the refusals."""
 
 from __future__ import annotations
 
@@ -12,6 +12,7 @@ from unittest import mock
 from monitor_companion.dialects import Dialect
 from monitor_companion.layout import Wanted, find_layout
 from monitor_companion.pieces import START
+from monitor_companion.plain_rows import PlainRows
 from monitor_companion.profiles import Profile, load_profile
 from monitor_companion.readings import SampleCells, missing_spellings
 from monitor_companion.refusals import Refusal
@@ -93,7 +94,11 @@ class Same(SiteTest):
                 ):
                     found = self.read(path, profile, rounding)
                 with ExitStack() as stack:
-                    for place in (Dialect, "split_piece"), (SampleCells, "_bulk"):
+                    for place in (
+                        (Dialect, "split_piece"),
+                        (SampleCells, "_bulk"),
+                        (PlainRows, "columns"),
+                    ):
                         stack.enter_context(mock.patch.object(*place, return_value=None))
                     nothing = mock.patch("monitor_companion.times.whole_numbers", return_value=None)
                     stack.enter_context(nothing)
