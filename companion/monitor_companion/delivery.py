@@ -230,7 +230,9 @@ def spool_beside(recording: Path) -> IO[bytes]:
 def make_recording(path: Path, owner: Owner) -> None:
     """Makes a recording without samples, whole or not at all; one that is there stays."""
     making = path.with_name(path.name + ".new")
-    with making.open("wb") as file:
+    # One that a stop left may be a second name of a recording that was put elsewhere meanwhile.
+    making.unlink(missing_ok=True)
+    with making.open("xb") as file:
         file.write(Head(bytes.fromhex(owner.id), owner.period).to_bytes())
         file.flush()
         os.fsync(file.fileno())

@@ -155,7 +155,8 @@ def begin_journal(path: Path, owner: Owner, entries: tuple[Entry, ...]) -> Journ
     data = line_of({"journal": VERSION, **asdict(owner)})
     data += b"".join(line_of(asdict(entry)) for entry in entries)
     making = path.with_name(path.name + ".new")
-    with making.open("wb") as file:
+    making.unlink(missing_ok=True)
+    with making.open("xb") as file:
         file.write(data)
         file.flush()
         os.fsync(file.fileno())

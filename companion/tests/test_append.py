@@ -387,6 +387,17 @@ class CutOff(AppendTest):
         self.append("day2.csv")
         self.has(31)
 
+    def test_a_second_name_that_a_stop_left(self) -> None:
+        """A recording that was put elsewhere keeps its samples when another is made in its place."""
+        path, old = self.site / "span.sgrc", self.site / "old.sgrc"
+        (self.site / "span.sgrc.new").hardlink_to(path)
+        path.rename(old)
+        (self.site / "span.sgrc.imports").unlink()
+        data = old.read_bytes()
+        self.assertEqual(self.call("import", "day1.csv", "--gauge", "span"), Status.DONE, self.err)
+        self.assertEqual(old.read_bytes(), data)
+        self.has(10)
+
     def test_two_at_once(self) -> None:
         with SiteLock(Path(self.site)):
             self.assertEqual(self.call("append", "day2.csv"), Status.REFUSED)
