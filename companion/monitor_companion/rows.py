@@ -175,7 +175,7 @@ class RowReader:
         plan = self._layout.time
         if plan is None:
             return None
-        period = None if self._period is None else Fraction(self._period * MICROSECOND)
+        period = None if self._period is None else self._period * MICROSECOND
         return TimeCheck(str(self._path), plan.title, plan.reader.kind, period)
 
     def _split(self, piece: Piece) -> Cells:

@@ -2,6 +2,7 @@
 
 from __future__ import annotations
 
+from fractions import Fraction
 from pathlib import Path
 
 from monitor_companion.delivery import Pass, Staged
@@ -44,7 +45,7 @@ def times_text(found: Pass) -> str:
     first, last = (time_text(time, times.kind) for time in (times.first, times.last))
     text = f"{rows} from {first} to {last} by {times.column}, period {found.period} µs"
     if times.jitter:
-        text += f" (steps differ by up to {microseconds_text(times.jitter)} µs)"
+        text += f" (steps differ by up to {microseconds_text(Fraction(times.jitter))} µs)"
     return f"{text}, {times.fault_text() if times.faults else 'no gaps, no repeated rows'}"
 
 

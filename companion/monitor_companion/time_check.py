@@ -26,7 +26,7 @@ class TimeCheck:
     file: str
     column: str
     kind: TimeKind
-    period: Fraction | None = None
+    period: int | None = None
     first: int | None = None
     last: int | None = None
     rows: int = 0
@@ -34,8 +34,8 @@ class TimeCheck:
     lacking: int = 0
     repeated: int = 0
     close: int = 0
-    jitter: Fraction = Fraction(0)
-    found: Fraction | None = None
+    jitter: int = 0
+    found: int | None = None
     where: list[str] = field(default_factory=list)
 
     def take(self, times: array[int], lines: Sequence[int]) -> None:
@@ -57,7 +57,7 @@ class TimeCheck:
         if steps and min(steps) < 0:
             self._refuse_back(steps, times, lines, before)
         self._settle_period(steps)
-        if self.period is not None and steps.count(int(self.period)) != len(steps):
+        if self.period is not None and steps.count(self.period) != len(steps):
             self._examine(steps, times, lines, before)
         self.rows += rows
         self.last = times[-1]
@@ -65,7 +65,7 @@ class TimeCheck:
     def _settle_period(self, steps: list[int]) -> None:
         """Finds the period as the middle one of the first steps."""
         if self.found is None and steps:
-            self.found = Fraction(sorted(steps)[len(steps) // 2])
+            self.found = sorted(steps)[len(steps) // 2]
             if self.period is None and self.found > 0:
                 self.period = self.found
 
@@ -75,15 +75,15 @@ class TimeCheck:
         """Looks at each step that isn't the period."""
         assert self.period is not None
         period = self.period
-        exact = int(period) if period.denominator == 1 else -1
-        near, far = period / 2, period * 3 / 2
+        jitter = self.jitter
         for place, step in enumerate(steps, 1):
-            if step == exact:
+            if step == period:
                 continue
-            if near < step < far:
-                self.jitter = max(self.jitter, abs(step - period))
+            if period < 2 * step < 3 * period:
+                jitter = max(jitter, abs(step - period))
                 continue
             self._tell(step, times[place], lines[place - before])
+        self.jitter = jitter
 
     def _refuse_back(
         self, steps: list[int], times: array[int], lines: Sequence[int], before: int
@@ -103,9 +103,9 @@ class TimeCheck:
         if step == 0:
             self.repeated += 1
             what = "the time stands again"
-        elif step >= self.period * 3 / 2:
+        elif 2 * step >= 3 * self.period:
             self.gaps += 1
-            lacking = round(step / self.period) - 1
+            lacking = round(Fraction(step, self.period)) - 1
             self.lacking += lacking
             what = f"about {lacking} rows lack before it"
         else:
@@ -135,7 +135,7 @@ class TimeCheck:
         if self.first is None or self.last is None or self.rows < 2:
             return None
         if self.faults or not self.jitter:
-            return self.found
+            return None if self.found is None else Fraction(self.found)
         return Fraction(self.last - self.first, self.rows - 1)
 
     def microseconds(self) -> int:
