@@ -131,7 +131,7 @@ class CutOff(AppendTest):
         self.has(31)
 
     def test_a_second_name_that_a_stop_left(self) -> None:
-        """A recording that was put elsewhere keeps its samples when another is made in its place."""
+        """A recording that was put elsewhere stays when another is made in its place."""
         path, old = self.site / "span.sgrc", self.site / "old.sgrc"
         (self.site / "span.sgrc.new").hardlink_to(path)
         path.rename(old)
