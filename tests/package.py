@@ -146,7 +146,7 @@ def dpkg(root: pathlib.Path, *words: object) -> subprocess.CompletedProcess[str]
 
 def try_commands(trial: Trial, root: pathlib.Path) -> None:
     """A site in the root, by the program that was installed there."""
-    inside = [shutil.which("chroot") or "chroot", root, "/bin/sh", "-c"]
+    inside = [shutil.which("chroot") or "/usr/sbin/chroot", root, "/bin/sh", "-c"]
     example = f"/usr/share/doc/{NAME}/examples"
     done = run(*inside, f"monitor table {example}/standard.sgrc", env={"PATH": "/usr/bin"})
     trial.check("monitor table", (done.returncode, done.stdout), (0, TABLE))
@@ -196,7 +196,7 @@ def try_root(trial: Trial, deb: pathlib.Path, folder: pathlib.Path, program: pat
 def try_debian(trial: Trial, deb: pathlib.Path, root: pathlib.Path) -> None:
     """Installs, uses and removes the package by the tools of a whole Debian."""
     shutil.copy(deb, root / "tmp/monitor.deb")
-    inside = [shutil.which("chroot") or "chroot", root]
+    inside = [shutil.which("chroot") or "/usr/sbin/chroot", root]
     trial.check("apt-get install", run(*inside, "apt-get", "install", "-y", "--no-install-recommends", "/tmp/monitor.deb").returncode, 0)
     try_commands(trial, root)
     done = run(*inside, "sh", "-c", "command -v man >/dev/null || exit 99; man monitor | head -n 1; man 5 monitor.toml | head -n 1")
