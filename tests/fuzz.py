@@ -340,7 +340,7 @@ class Case:
             last = lines.pop() if lines else ""
             if not re.fullmatch(FORMS[status], last, re.S):
                 yield "line of status %d: %r" % (status, last[:200])
-            reasons = [line for line in lines if re.fullmatch(r"monitor: .+: .+", line)]
+            reasons = [line for line in lines if re.fullmatch(r"monitor: .*: .+", line)]
             if bool(reasons) != (status in (6, 8)):
                 yield "reasons of status %d: %r" % (status, reasons[:3])
             lines = [line for line in lines if line not in reasons]
