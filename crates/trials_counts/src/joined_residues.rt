@@ -1,4 +1,6 @@
+ghost use Rattle.std.specs.Prelude.{◌≡◌};
 ghost use Rattle.tally.specs.Counts.{HasGreatestRoom};
+ghost use Rattle.turning_points.specs.Points.{points as points_of};
 
 use four_point::Reducer;
 use four_point::residue_join::{PairCounter, join_residue};
@@ -178,23 +180,23 @@ fn assert_equal(rt: &impl Abort, left: &Tally, right: &Tally) {
 }
 
 // The half units of a whole history, by the standard's own steps.
-fn halves_of_points(rt: &impl Abort, alloc: Global, points: &[u16]) -> Result<Tally, AllocError> {
+fn halves_of_points(rt: &impl Abort, alloc: Global, points: &[u16]) -> Result<Tally, AllocError>
+    requires { points_of points.now ≡ points.now }
+{
     let ranges = astm(alloc, points)?;
     halves_of_ranges(rt, alloc, ranges.as_slice())
 }
 
-// What was joined has the row's residue and cycles, and says what the standard's steps say of the
-// whole.
-fn assert_whole(
+// What was joined says what the standard's steps say of the whole.
+fn assert_halves(
     rt: &impl Abort,
     alloc: Global,
-    row: &Row,
+    points: &[u16],
     whole: &Reducer,
     tally: &Tally,
-) -> Result<(), AllocError> {
-    let (_, points, cycles, residue) = *row;
-    assert_eq!(rt; whole.residue(), residue);
-    assert_counts(rt, tally, cycles);
+) -> Result<(), AllocError>
+    requires { points_of points.now ≡ points.now }
+{
     let halves = halves_of_result(rt, alloc, tally, whole.residue())?;
     let expected = halves_of_points(rt, alloc, points)?;
     assert_equal(rt, &halves, &expected);
@@ -204,9 +206,11 @@ fn assert_whole(
 #[test]
 fn parts_join_from_the_left_to_the_count_of_the_whole(rt: HostRuntime) -> Result<(), Fail> {
     let mut tally = Tally::new(rt.alloc(), CLASSES, 120)?;
-    for row in ROWS {
-        let whole = joined_from_the_left(&rt, rt.alloc(), row.0, &mut tally)?;
-        assert_whole(&rt, rt.alloc(), row, &whole, &tally)?;
+    for &(parts, points, cycles, residue) in ROWS {
+        let whole = joined_from_the_left(&rt, rt.alloc(), parts, &mut tally)?;
+        assert_eq!(rt; whole.residue(), residue);
+        assert_counts(&rt, &tally, cycles);
+        assert_halves(&rt, rt.alloc(), points, &whole, &tally)?;
         tally.clear();
     }
     Ok(())
@@ -215,9 +219,11 @@ fn parts_join_from_the_left_to_the_count_of_the_whole(rt: HostRuntime) -> Result
 #[test]
 fn parts_join_from_the_right_to_the_count_of_the_whole(rt: HostRuntime) -> Result<(), Fail> {
     let mut tally = Tally::new(rt.alloc(), CLASSES, 120)?;
-    for row in ROWS {
-        let whole = joined_from_the_right(&rt, rt.alloc(), row.0, &mut tally)?;
-        assert_whole(&rt, rt.alloc(), row, &whole, &tally)?;
+    for &(parts, points, cycles, residue) in ROWS {
+        let whole = joined_from_the_right(&rt, rt.alloc(), parts, &mut tally)?;
+        assert_eq!(rt; whole.residue(), residue);
+        assert_counts(&rt, &tally, cycles);
+        assert_halves(&rt, rt.alloc(), points, &whole, &tally)?;
         tally.clear();
     }
     Ok(())
