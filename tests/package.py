@@ -195,9 +195,10 @@ def try_root(trial: Trial, deb: pathlib.Path, folder: pathlib.Path, program: pat
 
 def try_debian(trial: Trial, deb: pathlib.Path, root: pathlib.Path) -> None:
     """Installs, uses and removes the package by the tools of a whole Debian."""
-    shutil.copy(deb, root / "tmp/monitor.deb")
+    # (chroot begins in the root's own top folder)
+    shutil.copy(deb, root / deb.name)
     inside = [shutil.which("chroot") or "/usr/sbin/chroot", root]
-    trial.check("apt-get install", run(*inside, "apt-get", "install", "-y", "--no-install-recommends", "/tmp/monitor.deb").returncode, 0)
+    trial.check("apt-get install", run(*inside, "apt-get", "install", "-y", "--no-install-recommends", f"./{deb.name}").returncode, 0)
     try_commands(trial, root)
     done = run(*inside, "sh", "-c", "command -v man >/dev/null || exit 99; man monitor | head -n 1; man 5 monitor.toml | head -n 1")
     if done.returncode == 99:
@@ -205,7 +206,7 @@ def try_debian(trial: Trial, deb: pathlib.Path, root: pathlib.Path) -> None:
     else:
         trial.check("man", [line.split()[0] for line in done.stdout.splitlines()], ["MONITOR(1)", "MONITOR.TOML(5)"])
     trial.check("apt-get purge", run(*inside, "apt-get", "purge", "-y", NAME).returncode, 0)
-    left = run("find", root, "-xdev", "-name", "*monitor*", "-not", "-path", "*/var/lib/monitor*", "-newer", root / "tmp/monitor.deb", "-path", "*/usr/*").stdout
+    left = run("find", root, "-xdev", "-name", "*monitor*", "-not", "-path", "*/var/lib/monitor*", "-newer", root / deb.name, "-path", "*/usr/*").stdout
     trial.check("what is left in /usr", left, "")
 
 
