@@ -9,18 +9,13 @@ from dataclasses import dataclass, field
 from decimal import Decimal, InvalidOperation
 
 from monitor_companion.check_findings import Findings, Severity
-from monitor_companion.check_heads import (
-    HEAD_LENGTH,
-    READ_FAULT,
-    SAMPLE_LENGTH,
-    Recording,
-    read_heads,
-)
+from monitor_companion.check_heads import READ_FAULT, Recording, read_heads
 from monitor_companion.check_meaning import n_mm2, warn_meaning
 from monitor_companion.check_readings import Limits, percent, warn_readings
 from monitor_companion.check_recordings import check_recordings, warn_recordings
 from monitor_companion.check_scan import Readings, scan
 from monitor_companion.check_store import check_store, load_store, note_fixed
+from monitor_companion.recording import HEAD_BYTES, SAMPLE_BYTES
 from monitor_companion.refusals import Place, Refusal, Status
 from monitor_companion.site import Site, check_site
 from monitor_companion.store_head import Store
@@ -117,7 +112,7 @@ def check_folder(
     site = checked.site = check_site(folder, findings)
     if site is None:
         return checked
-    checked.recordings = read_heads(folder, site)
+    checked.recordings = read_heads(site)
     checked.store = load_store(folder, findings)
     if checked.store is not None:
         check_store(checked.store, site, checked.recordings, findings)
@@ -176,7 +171,7 @@ def _counted(count: int, word: str) -> str:
 
 def _read_line(checked: Checked, recording: Recording) -> str:
     gauge, facts = recording.gauge, checked.readings[recording.gauge.number]
-    size = SAMPLE_LENGTH * facts.read + HEAD_LENGTH
+    size = SAMPLE_BYTES * facts.read + HEAD_BYTES
     line = f"read {gauge.name}: {facts.read} of {facts.samples} samples ({size} bytes)"
     if not facts.valid:
         return f"{line}, none a reading"
@@ -187,7 +182,7 @@ def _read_line(checked: Checked, recording: Recording) -> str:
     if checked.store is not None and gauge.number < len(checked.store.held):
         line += f", held {checked.store.held[gauge.number].samples}"
     if facts.common is not None and facts.rest is not None:
-        low, high = sorted(gauge.stress(raw) for raw in facts.common)
-        line += f", rests at {n_mm2(gauge.stress(facts.rest))} N/mm²"
+        low, high = sorted(gauge.kpa(raw) for raw in facts.common)
+        line += f", rests at {n_mm2(gauge.kpa(facts.rest))} N/mm²"
         line += f", mostly {n_mm2(low)} to {n_mm2(high)}"
     return line

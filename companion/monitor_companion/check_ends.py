@@ -6,7 +6,7 @@ import itertools
 import pathlib
 from collections.abc import Callable, Iterator
 
-from monitor_companion.check_heads import HEAD_LENGTH, SAMPLE_LENGTH
+from monitor_companion.recording import HEAD_BYTES, SAMPLE_BYTES
 
 # a repeated end is looked for by this many samples, which have at least so many values
 NEEDLE_SAMPLES, NEEDLE_VALUES = 256, 4
@@ -24,9 +24,9 @@ def look_at_end(path: pathlib.Path, samples: int, limit: int | None) -> tuple[in
 
     Both are looked for in the last `limit` bytes. Raises `OSError`.
     """
-    end = HEAD_LENGTH + samples * SAMPLE_LENGTH
-    most = samples if limit is None else min(samples, limit // SAMPLE_LENGTH)
-    first = end - most * SAMPLE_LENGTH
+    end = HEAD_BYTES + samples * SAMPLE_BYTES
+    most = samples if limit is None else min(samples, limit // SAMPLE_BYTES)
+    first = end - most * SAMPLE_BYTES
     with path.open("rb") as file:
 
         def content(start: int, stop: int) -> bytes:
@@ -38,43 +38,43 @@ def look_at_end(path: pathlib.Path, samples: int, limit: int | None) -> tuple[in
 
 def _still_end(content: Slice, first: int, end: int) -> int:
     """Returns how many samples at the end are one value."""
-    value = content(end - SAMPLE_LENGTH, end)
+    value = content(end - SAMPLE_BYTES, end)
     at, step = end, 1 << 16
-    while at - step >= first and content(at - step, at) == value * (step // SAMPLE_LENGTH):
+    while at - step >= first and content(at - step, at) == value * (step // SAMPLE_BYTES):
         at -= step
     rest = content(max(first, at - step), at)
     while rest.endswith(value) and value:
-        rest = rest[:-SAMPLE_LENGTH]
-        at -= SAMPLE_LENGTH
-    return (end - at) // SAMPLE_LENGTH
+        rest = rest[:-SAMPLE_BYTES]
+        at -= SAMPLE_BYTES
+    return (end - at) // SAMPLE_BYTES
 
 
 def _repeated_end(content: Slice, first: int, end: int) -> int:
     """Returns how many samples at the end are the same as those before them, or 0."""
-    start = end - NEEDLE_SAMPLES * SAMPLE_LENGTH
+    start = end - NEEDLE_SAMPLES * SAMPLE_BYTES
     if start < first:
         return 0
     needle = content(start, end)
-    values = {needle[at : at + SAMPLE_LENGTH] for at in range(0, len(needle), SAMPLE_LENGTH)}
+    values = {needle[at : at + SAMPLE_BYTES] for at in range(0, len(needle), SAMPLE_BYTES)}
     if len(values) < NEEDLE_VALUES:
         return 0
     for at in itertools.islice(_earlier(content, needle, first, start), NEEDLE_TRIES):
         length = start - at
-        if length >= LEAST_REPEAT * SAMPLE_LENGTH and end - 2 * length >= first:
+        if length >= LEAST_REPEAT * SAMPLE_BYTES and end - 2 * length >= first:
             if _same(content, end - length, length):
-                return length // SAMPLE_LENGTH
+                return length // SAMPLE_BYTES
     return 0
 
 
 def _earlier(content: Slice, needle: bytes, first: int, start: int) -> Iterator[int]:
     """Yields the places before a start where the bytes stand at whole samples, the last first."""
-    end = start + len(needle) - SAMPLE_LENGTH
+    end = start + len(needle) - SAMPLE_BYTES
     while end - first >= len(needle):
         window = max(first, end - WINDOW)
         block = content(window, end)
         at = block.rfind(needle)
         while at >= 0:
-            if (window + at - HEAD_LENGTH) % SAMPLE_LENGTH == 0:
+            if (window + at - HEAD_BYTES) % SAMPLE_BYTES == 0:
                 yield window + at
             at = block.rfind(needle, 0, at + len(needle) - 1)
         # The next window reaches over this one's front, so that nothing is missed between them.

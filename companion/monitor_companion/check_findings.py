@@ -6,7 +6,7 @@ from collections.abc import Iterator
 from dataclasses import dataclass, field
 from enum import Enum
 
-from monitor_companion.refusals import Place, Status
+from monitor_companion.refusals import Place, Refusal, Status
 
 
 class Severity(Enum):
@@ -39,9 +39,12 @@ class Finding:
     needs_store: bool = False
 
     def __str__(self) -> str:
-        line = f"{self.place}: {self.severity.value}: {self.text}"
-        # A name in a file may have any letters; none of them may begin another line.
-        return "".join(letter if letter.isprintable() else "?" for letter in line)
+        return _one_line(f"{self.place}: {self.severity.value}: {self.text}")
+
+
+def _one_line(text: str) -> str:
+    """Returns a text whose letters, which may come from a file, begin no other line."""
+    return "".join(letter if letter.isprintable() else "?" for letter in text)
 
 
 @dataclass
@@ -84,3 +87,9 @@ class Findings:
     def verdict(self) -> Told | None:
         """What the program would tell: the first fault in its order."""
         return next((finding.told for finding in self.found if finding.told is not None), None)
+
+    def refuse(self) -> None:
+        """Raises a `Refusal` with the first fault, where there is one."""
+        for finding in self.found:
+            if finding.severity is Severity.FAULT:
+                raise Refusal(finding.place, _one_line(finding.text))

@@ -3,12 +3,12 @@
 from __future__ import annotations
 
 import pathlib
-from collections.abc import Mapping
 from fractions import Fraction
 
 from monitor_companion.check_findings import Findings
 from monitor_companion.check_hints import KPA_PER_STEP
-from monitor_companion.site import MAX_SPAN, Detail, Gauge, Grid, Site
+from monitor_companion.curves import Curve
+from monitor_companion.site import MAX_SPAN, Detail, Gauge, Grid, Site, line_of
 
 # a step of the logger over so many classes leaves most of them empty
 MANY_CLASSES = 4
@@ -28,17 +28,6 @@ def n_mm2(kpa: int | Fraction) -> str:
 def span_text(grid: Grid) -> str:
     """Returns from where to where the classes reach."""
     return f"the classes reach from {n_mm2(grid.low)} to {n_mm2(grid.top)} N/mm²"
-
-
-def cut_off(detail: Detail) -> Fraction:
-    """Returns a detail's cut-off limit in kPa, divided by its factor (EN 1993-1-9, 7.1)."""
-    share = Fraction(457, 1000) if detail.kind == "shear" else Fraction(549 * 737, 10**6)
-    return share * detail.category * KPA_PER_N_MM2 * 100 / detail.gamma
-
-
-def line_of(lines: Mapping[str, int | None], key: str) -> int | None:
-    """Returns the line of a key, or that of its table."""
-    return lines.get(key, lines.get(""))
 
 
 def warn_meaning(site: Site, findings: Findings) -> None:
@@ -137,7 +126,7 @@ def _warn_file(site: Site, gauge: Gauge, findings: Findings) -> None:
 
 def _warn_detail(site: Site, grid: Grid, detail: Detail, findings: Findings) -> None:
     """The ranges of the grid have to reach what damages a detail, and to tell it apart."""
-    limit = cut_off(detail)
+    limit = KPA_PER_N_MM2 * detail.curve.cut_off
     place = site.place(line_of(detail.lines, ""))
     widest = (grid.classes - 1) * grid.step
     if widest < limit:
@@ -161,20 +150,21 @@ def _finer(limit: Fraction) -> int:
 
 def _warn_kinds(site: Site, findings: Findings) -> None:
     """A gauge measures normal or shear stress, and its details are of that kind."""
-    first: dict[int, Detail] = {}
+    first: dict[str, Detail] = {}
     for detail in site.details:
         other = first.setdefault(detail.gauge, detail)
-        if other.kind != detail.kind:
-            text = f'{detail.title}: kind = "{detail.kind}", but {other.title} on the same gauge'
+        kind, other_kind = detail.curve.kind.value, other.curve.kind.value
+        if other_kind != kind:
+            text = f'{detail.title}: kind = "{kind}", but {other.title} on the same gauge'
             place = site.place(line_of(detail.lines, "kind"))
-            findings.warn(place, f'{text} has "{other.kind}"')
+            findings.warn(place, f'{text} has "{other_kind}"')
 
 
 def _note_same_details(site: Site, findings: Findings) -> None:
     """Two details that differ in their names alone have one damage."""
-    first: dict[tuple[int, str, int, int], Detail] = {}
+    first: dict[tuple[str, Curve], Detail] = {}
     for detail in site.details:
-        other = first.setdefault((detail.gauge, detail.kind, detail.category, detail.gamma), detail)
+        other = first.setdefault((detail.gauge, detail.curve), detail)
         if other is not detail:
             text = f"{detail.title} has the gauge, kind, category and gamma of {other.title}"
             findings.note(site.place(line_of(detail.lines, "")), text)

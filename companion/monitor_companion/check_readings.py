@@ -9,10 +9,11 @@ from fractions import Fraction
 
 from monitor_companion.check_findings import Findings
 from monitor_companion.check_hints import KPA_PER_STEP
-from monitor_companion.check_meaning import line_of, n_mm2, span_text
+from monitor_companion.check_meaning import KPA_PER_N_MM2, n_mm2, span_text
 from monitor_companion.check_scan import Readings
 from monitor_companion.refusals import Place
-from monitor_companion.site import MAX_CLASSES, MAX_KPA, MAX_SPAN, Gauge, Grid, Site
+from monitor_companion.report import MAX_CLASSES
+from monitor_companion.site import MAX_KPA, MAX_SPAN, Gauge, Grid, Site, line_of
 
 # spellings of "no reading" that loggers write as numbers
 MARKERS = frozenset(
@@ -40,7 +41,6 @@ EDGE_PART = 20
 # a gauge that rests so many classes from 0 N/mm² needs another offset, where one was given
 FAR_CLASSES = 4
 STILL_SAMPLES, STILL_PART = 10_000, 10
-KPA_PER_N_MM2 = 1000
 
 
 @dataclass(frozen=True)
@@ -100,11 +100,14 @@ def warn_readings(
     for gauge in site.gauges:
         if gauge.number in readings:
             _warn_gauge(site, gauge, readings, limits, findings)
-    names = {gauge.number: gauge for gauge in site.gauges}
+    without = {
+        gauge.name: gauge.title
+        for gauge in site.gauges
+        if gauge.number in readings and not readings[gauge.number].used
+    }
     for detail in site.details:
-        facts = readings.get(detail.gauge)
-        if facts is not None and facts.valid - facts.refused == 0:
-            text = f"{detail.title}: its {names[detail.gauge].title} has no reading in the classes"
+        if detail.gauge in without:
+            text = f"{detail.title}: its {without[detail.gauge]} has no reading in the classes"
             findings.warn(site.place(line_of(detail.lines, "gauge")), f"{text}: its damage is 0")
 
 
@@ -181,7 +184,7 @@ def _warn_end(facts: Readings, place: Place, front: str, findings: Findings) -> 
 def _stresses(gauge: Gauge, facts: Readings) -> tuple[int, int]:
     """Returns the lowest and the highest stress in kPa."""
     assert facts.lowest is not None and facts.highest is not None
-    low, high = sorted((gauge.stress(facts.lowest), gauge.stress(facts.highest)))
+    low, high = sorted((gauge.kpa(facts.lowest), gauge.kpa(facts.highest)))
     return low, high
 
 
@@ -219,7 +222,7 @@ def _holding(site: Site, readings: Mapping[int, Readings]) -> str:
 def _warn_rest(site: Site, grid: Grid, gauge: Gauge, facts: Readings, findings: Findings) -> None:
     """The resting value lies well inside the classes."""
     assert facts.rest is not None
-    rest = gauge.stress(facts.rest)
+    rest = gauge.kpa(facts.rest)
     level = grid.level(rest)
     edge = min(max(1, grid.classes // EDGE_PART), (grid.classes - 1) // 2)
     place = site.place(line_of(gauge.lines, "offset" if "offset" in gauge.lines else "num"))
@@ -256,7 +259,7 @@ def _warn_span(site: Site, grid: Grid, gauge: Gauge, facts: Readings, findings: 
     """The common readings reach over some classes."""
     if facts.common is None:
         return
-    low, high = sorted(gauge.stress(raw) for raw in facts.common)
+    low, high = sorted(gauge.kpa(raw) for raw in facts.common)
     lowest, highest = _stresses(gauge, facts)
     if highest - lowest >= 2 * grid.step:
         return

@@ -7,8 +7,9 @@ from collections.abc import Sequence
 
 from monitor_companion import check_words as words
 from monitor_companion.check_findings import Finding, Findings, Severity
-from monitor_companion.check_heads import MAX_SAMPLES, NOT_TOLD, READ_FAULT, Recording
+from monitor_companion.check_heads import NOT_TOLD, READ_FAULT, Recording
 from monitor_companion.check_store import NEW_STORE, order_of
+from monitor_companion.recording import MOST_SAMPLES
 from monitor_companion.refusals import Place
 from monitor_companion.site import Site
 from monitor_companion.store_head import Store, StoredGauge
@@ -126,9 +127,9 @@ def _tell_fewer(site: Site, recording: Recording, held: int, findings: Findings)
 
 def _tell_end(site: Site, recording: Recording, findings: Findings) -> None:
     name = recording.gauge.name
-    if recording.samples > MAX_SAMPLES:
+    if recording.samples > MOST_SAMPLES:
         text = f"{_front(recording)} has {recording.samples} samples"
-        text += f"; allowed are {MAX_SAMPLES}: begin a new one"
+        text += f"; allowed are {MOST_SAMPLES}: begin a new one"
         findings.fault(
             _place(site, recording), text, TOO_LONG_STATUS, f"recording {name}: too long"
         )

@@ -14,13 +14,12 @@ from dataclasses import dataclass, field
 from typing import TypeAlias
 
 from monitor_companion.check_ends import look_at_end
-from monitor_companion.check_heads import HEAD_LENGTH, SAMPLE_LENGTH, Recording
+from monitor_companion.check_heads import Recording
+from monitor_companion.recording import GREATEST, HEAD_BYTES, LEAST, MISSING, SAMPLE_BYTES
 from monitor_companion.site import Gauge, Grid
 
 Values: TypeAlias = "array[int] | list[int]"
 
-MISSING = -(2**31)
-GREATEST = 2**31 - 1
 PIECE_SAMPLES = 1 << 18
 # how many readings the resting value is taken from, at most
 REST_SAMPLES = 200_000
@@ -71,23 +70,28 @@ class Readings:
         """The readings without a class."""
         return self.below + self.above
 
+    @property
+    def used(self) -> int:
+        """The readings that have a class."""
+        return self.valid - self.refused
+
 
 def raw_limits(grid: Grid, gauge: Gauge) -> tuple[int, int]:
     """Returns the least and the greatest raw value that has a class; every other one is refused."""
     low, top = (grid.low - gauge.offset) * gauge.den, (grid.top - gauge.offset) * gauge.den
     if gauge.num == 0:
-        least, greatest = (MISSING + 1, GREATEST) if low <= 0 < top else (GREATEST + 1, GREATEST)
+        least, greatest = (LEAST, GREATEST) if low <= 0 < top else (GREATEST + 1, GREATEST)
     elif gauge.num > 0:
         least, greatest = -(-low // gauge.num), -(-top // gauge.num) - 1
     else:
         least, greatest = -top // -gauge.num + 1, -low // -gauge.num
-    return max(least, MISSING + 1), min(greatest, GREATEST)
+    return max(least, LEAST), min(greatest, GREATEST)
 
 
 def scan(recording: Recording, grid: Grid | None, limit: int | None) -> Readings:
     """Reads the samples, at most so many bytes of them. Raises `OSError`."""
     readings = Readings(recording.samples)
-    limits = raw_limits(grid, recording.gauge) if grid is not None else (MISSING + 1, GREATEST)
+    limits = raw_limits(grid, recording.gauge) if grid is not None else (LEAST, GREATEST)
     far = _far(grid, recording.gauge)
     places, length = _places(recording.samples, limit)
     stride = max(1, len(places) * length // REST_SAMPLES)
@@ -109,21 +113,21 @@ def _places(samples: int, limit: int | None) -> tuple[list[int], int]:
     """Returns the first sample of each piece that is read, and a piece's length in samples."""
     length = PIECE_SAMPLES
     pieces = -(-samples // length)
-    if limit is None or samples * SAMPLE_LENGTH <= limit:
+    if limit is None or samples * SAMPLE_BYTES <= limit:
         return [piece * length for piece in range(pieces)], length
-    length = min(length, max(1, limit // (16 * SAMPLE_LENGTH)))
-    wanted = max(2, limit // (length * SAMPLE_LENGTH))
+    length = min(length, max(1, limit // (16 * SAMPLE_BYTES)))
+    wanted = max(2, limit // (length * SAMPLE_BYTES))
     last = samples - length
     return [last * number // (wanted - 1) for number in range(wanted)], length
 
 
 def _piece(file: io.FileIO, place: int, samples: int) -> array[int]:
     """Returns so many samples from a place on, or those that are there."""
-    file.seek(HEAD_LENGTH + place * SAMPLE_LENGTH)
-    content = file.read(samples * SAMPLE_LENGTH)
+    file.seek(HEAD_BYTES + place * SAMPLE_BYTES)
+    content = file.read(samples * SAMPLE_BYTES)
     values = array("i")
-    assert values.itemsize == SAMPLE_LENGTH
-    values.frombytes(content[: len(content) // SAMPLE_LENGTH * SAMPLE_LENGTH])
+    assert values.itemsize == SAMPLE_BYTES
+    values.frombytes(content[: len(content) // SAMPLE_BYTES * SAMPLE_BYTES])
     if sys.byteorder == "big":
         values.byteswap()
     return values

@@ -3,23 +3,25 @@
 from __future__ import annotations
 
 import pathlib
-from collections.abc import Mapping, Sequence
+from collections.abc import Sequence
 
 from monitor_companion.check_findings import Findings
 from monitor_companion.check_heads import Recording
 from monitor_companion.refusals import Place
-from monitor_companion.site import Gauge, Site
+from monitor_companion.site import Gauge, Site, line_of
 from monitor_companion.store_head import FILE_NAME, Store, StoreHead, read_store
 
 STORE_STATUS = 3
 NEW_STORE = f"begin a new store (rename {FILE_NAME}, then init and count)"
 
 
-def load_store(folder: pathlib.Path, findings: Findings) -> Store | None:
+def load_store(
+    folder: pathlib.Path, findings: Findings, *, with_bodies: bool = True
+) -> Store | None:
     """Returns the store of a folder, or None where `init` would make one."""
     path = folder / FILE_NAME
     try:
-        return read_store(path)
+        return read_store(path, with_bodies=with_bodies)
     except OSError as error:
         findings.fault(Place(str(path)), f"can't be read: {error.strerror}", 8, "station fault")
         return None
@@ -133,11 +135,6 @@ def _check_gain(head: StoreHead, gauge: Gauge, site: Site, order: str, findings:
             text += f"; {order}"
         else:
             text += f"; put {key} = {kept} back, or {NEW_STORE}"
-        line = _line(gauge.lines, key)
+        line = line_of(gauge.lines, key)
         told = f"store: {key} {gauge.number} was {kept}, is {now}"
         findings.fault(site.place(line), text, STORE_STATUS, told)
-
-
-def _line(lines: Mapping[str, int | None], key: str) -> int | None:
-    """Returns the line of a key, or that of its table where it is left out."""
-    return lines.get(key, lines.get(""))

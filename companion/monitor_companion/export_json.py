@@ -17,13 +17,13 @@ from monitor_companion.export_tables import (
     section_rows,
 )
 from monitor_companion.report_reading import Reading
-from monitor_companion.report_site import Site
+from monitor_companion.report_site import ReportSite
 
 FORMAT = "monitor-report"
 VERSION = 1
 
 
-def json_text(reading: Reading, site: Site) -> str:
+def json_text(reading: Reading, site: ReportSite) -> str:
     """The JSON text of a report."""
     report = reading.report
     gauges: list[Mapping[str, object]] = [

@@ -14,7 +14,8 @@ from monitor_companion.curves import KNEE, NORMAL_CUT_OFF, SHEAR_CUT_OFF, Curve,
 from monitor_companion.report import BILLION, GaugeReport, LevelCount, RangeCount, Section
 from monitor_companion.report_agreement import DetailDamage
 from monitor_companion.report_reading import Reading
-from monitor_companion.report_site import Grid, Site
+from monitor_companion.report_site import ReportSite
+from monitor_companion.site import Grid
 
 Value = int | Decimal | str | bool | None
 Row = dict[str, Value]
@@ -208,7 +209,7 @@ def damage_rows(damage: DetailDamage) -> list[Row]:
     ]
 
 
-def tables(reading: Reading, site: Site) -> list[Table]:
+def tables(reading: Reading, site: ReportSite) -> list[Table]:
     """All tables of a report; those of gauges and details have these names first in each row."""
     report, grid = reading.report, site.grid
     gauges = [gauge_row(*each) for each in zip(report.gauges, site.periods, strict=True)]

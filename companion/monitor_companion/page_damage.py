@@ -18,7 +18,7 @@ from monitor_companion.page_svg import (
 from monitor_companion.page_text import fixed, grouped, percent_of_life, small_percent
 from monitor_companion.report_agreement import DetailDamage
 from monitor_companion.curves import Curve, RangeDamage
-from monitor_companion.report_site import Grid
+from monitor_companion.site import Grid
 
 BOTTOM = 262
 # Rows of the table; those that do less are added up in one row.

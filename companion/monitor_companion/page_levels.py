@@ -20,7 +20,7 @@ from monitor_companion.page_svg import (
 )
 from monitor_companion.page_text import cycles_text, plain
 from monitor_companion.report import GaugeReport, LevelCount, Section
-from monitor_companion.report_site import Grid
+from monitor_companion.site import Grid
 
 BOTTOM = 262
 MATRIX_BOTTOM = 322

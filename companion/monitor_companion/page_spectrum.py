@@ -19,7 +19,8 @@ from monitor_companion.page_svg import (
 )
 from monitor_companion.page_text import escaped
 from monitor_companion.report import GaugeReport, RangeCount
-from monitor_companion.report_site import Site, SiteDetail
+from monitor_companion.report_site import ReportSite
+from monitor_companion.site import Detail
 
 LEAST_CYCLES = 0.2
 # The curves are drawn from 10^4 cycles on, as the standard draws them.
@@ -42,7 +43,7 @@ class DrawnCurve:
     names: tuple[str, ...]
 
 
-def drawn_curves(details: list[SiteDetail]) -> list[DrawnCurve]:
+def drawn_curves(details: list[Detail]) -> list[DrawnCurve]:
     """The different curves of a gauge's details, the one that bears least first."""
     names: dict[Curve, list[str]] = {}
     for detail in details:
@@ -54,7 +55,7 @@ def drawn_curves(details: list[SiteDetail]) -> list[DrawnCurve]:
     ]
 
 
-def spectrum_figure(gauge: GaugeReport, site: Site) -> str:
+def spectrum_figure(gauge: GaugeReport, site: ReportSite) -> str:
     """The spectrum's figure."""
     curves = drawn_curves(site.details_of(gauge.name))
     rows = gauge.rainflow.rows

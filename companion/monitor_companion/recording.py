@@ -42,24 +42,55 @@ class Head:
         )
 
 
-def head_from_bytes(data: bytes, file: str) -> Head:
-    """Reads a head; the first thing that is wrong with it is refused, in the program's order."""
-    place = Place(file)
+@dataclass(frozen=True)
+class HeadFault:
+    """Why bytes are no head: a text for people, and what the program tells, with its status."""
+
+    text: str
+    told: str
+    status: int = 4
+
+
+def head_of(data: bytes) -> Head | HeadFault:
+    """Reads a head, or tells the first thing that is wrong with it, in the program's order."""
     if len(data) < HEAD_BYTES:
-        raise Refusal(place, f"is no recording: it has {len(data)} bytes, and a head has 32")
-    if data[:4] != MAGIC:
-        raise Refusal(place, "is no recording: it doesn't begin with SGRC")
+        what = f"has {len(data)} bytes" if data else "is empty"
+        return HeadFault(f"{what}; the head of a recording has {HEAD_BYTES} bytes", "short")
+    if not data.startswith(MAGIC):
+        return HeadFault(f"doesn't begin with SGRC{_meant(data)}", "no SGRC")
     if data[4] != VERSION:
-        raise Refusal(place, f"is a recording of version {data[4]}, and only 1 is known")
-    if any(data[5:8]) or any(data[28:32]):
-        raise Refusal(place, "is no recording: a byte of its head that has to be 0 is not")
+        return HeadFault(
+            f"is of version {data[4]}; allowed is {VERSION}", f"version {data[4]}"
+        )
+    for place in (5, 6, 7, 28, 29, 30, 31):
+        if data[place]:
+            text = f"has {data[place]:02x} in byte {place}, which is 0 in a recording"
+            return HeadFault(text, "not zero")
     return Head(data[8:24], int.from_bytes(data[24:28], "little"))
 
 
+def _meant(data: bytes) -> str:
+    """Returns what a file that is no recording probably is."""
+    if data.startswith((b"\xff\xfe", b"\xfe\xff", b"\xef\xbb\xbf")) or all(
+        byte in b"\t\r\n" or 32 <= byte < 127 for byte in data
+    ):
+        return "; it is a text, probably a logger's export: import it"
+    if data.startswith((b"\x1f\x8b", b"PK\x03\x04")):
+        return "; it is packed: unpack it"
+    if data.startswith(b"CRGS"):
+        return "; its bytes stand in the other order"
+    if data.startswith(b"\x01SGST"):
+        return "; it is a store"
+    return ""
+
+
 def read_head(path: Path) -> Head:
-    """Reads the head of a recording."""
+    """Reads the head of a recording. Raises a `Refusal` where it has none."""
     with path.open("rb") as file:
-        return head_from_bytes(file.read(HEAD_BYTES), str(path))
+        head = head_of(file.read(HEAD_BYTES))
+    if isinstance(head, HeadFault):
+        raise Refusal(Place(str(path)), head.text)
+    return head
 
 
 def sample_bytes(samples: array[int]) -> bytes:
@@ -68,14 +99,3 @@ def sample_bytes(samples: array[int]) -> bytes:
         samples = samples[:]
         samples.byteswap()
     return samples.tobytes()
-
-
-def read_samples(path: Path) -> array[int]:
-    """Reads all whole samples of a recording, whose head is checked."""
-    data = path.read_bytes()
-    head_from_bytes(data[:HEAD_BYTES], str(path))
-    samples = array("i")
-    samples.frombytes(data[HEAD_BYTES : len(data) - (len(data) - HEAD_BYTES) % SAMPLE_BYTES])
-    if sys.byteorder == "big":
-        samples.byteswap()
-    return samples

@@ -22,19 +22,20 @@ from monitor_companion.report import (
     Section,
 )
 from monitor_companion.report_history import Counts, possible_counts
-from monitor_companion.report_site import Grid, Site, SiteDetail
+from monitor_companion.report_site import ReportSite
+from monitor_companion.site import Detail, Grid
 
 
 @dataclass(frozen=True)
 class DetailDamage:
     """A detail of the configuration, what the report prints of it, and its damage by range."""
 
-    detail: SiteDetail
+    detail: Detail
     printed: DetailReport
     ranges: tuple[RangeDamage, ...]
 
 
-def check_report(report: Report, site: Site) -> tuple[DetailDamage, ...]:
+def check_report(report: Report, site: ReportSite) -> tuple[DetailDamage, ...]:
     """Returns the damage by range of each detail, which adds up to what the report prints.
 
     Raises a `Refusal` where the configuration doesn't fit the report, or where the report doesn't
@@ -49,7 +50,7 @@ def check_report(report: Report, site: Site) -> tuple[DetailDamage, ...]:
     )
 
 
-def _check_names(report: Report, site: Site) -> None:
+def _check_names(report: Report, site: ReportSite) -> None:
     """Gauges and details have to be those of the configuration, in its order."""
     found = [(gauge.line, f"gauge {gauge.name}") for gauge in report.gauges]
     found += [(each.line, f"detail {each.name} on {each.gauge}") for each in report.details]
@@ -178,7 +179,7 @@ def _line_near(section: Section[LevelCount], level: int) -> int:
 
 
 def _check_damage(
-    report: Report, printed: DetailReport, detail: SiteDetail, site: Site
+    report: Report, printed: DetailReport, detail: Detail, site: ReportSite
 ) -> DetailDamage:
     """Compares the damage of a detail with the printed fraction, which is in the detail's terms."""
     place = Place(report.file, printed.line)

@@ -24,7 +24,7 @@ from monitor_companion.report import (
     parse_report,
 )
 from monitor_companion.report_agreement import DetailDamage, check_report
-from monitor_companion.report_site import Site
+from monitor_companion.report_site import ReportSite
 
 STANDARD_INPUT = "-"
 
@@ -46,13 +46,13 @@ class Series:
     `whole` is the last of a growing history, or the sum of the windows.
     """
 
-    site: Site
+    site: ReportSite
     readings: tuple[Reading, ...]
     are_windows: bool
     whole: Reading
 
 
-def read_reading(name: str, site: Site) -> Reading:
+def read_reading(name: str, site: ReportSite) -> Reading:
     """Reads a report from a file, or from standard input where the name is `-`, and checks it."""
     if name == STANDARD_INPUT:
         label, file, content = "standard input", "standard input", sys.stdin.buffer.read()
@@ -67,7 +67,7 @@ def read_reading(name: str, site: Site) -> Reading:
     return Reading(label, report, check_report(report, site), digest)
 
 
-def read_series(names: Sequence[str], site: Site, are_windows: bool) -> Series:
+def read_series(names: Sequence[str], site: ReportSite, are_windows: bool) -> Series:
     """Reads reports, the oldest first; raises a `Refusal` where one that should grow has less."""
     readings = tuple(read_reading(name, site) for name in names)
     _check_different(readings)

@@ -2,6 +2,7 @@
 
 from __future__ import annotations
 
+from collections.abc import Sequence
 from dataclasses import dataclass, replace
 from fractions import Fraction
 from pathlib import Path
@@ -17,7 +18,7 @@ from monitor_companion.profiles import (
     read_step,
 )
 from monitor_companion.refusals import Place, Refusal
-from monitor_companion.site_gauges import SiteGauge
+from monitor_companion.site import FILE_NAME, Gauge
 
 
 @dataclass(frozen=True)
@@ -80,7 +81,7 @@ class Request:
     allow_gaps: bool = False
     adopt: bool = False
 
-    def profile_name(self, gauges: list[SiteGauge]) -> str:
+    def profile_name(self, gauges: Sequence[Gauge]) -> str:
         """The profile that is said, or the one of the last import, or plain CSV."""
         if self.profile is not None:
             return self.profile
@@ -95,7 +96,7 @@ class Request:
         """A profile with what the options say."""
         return self.overrides.over(load_profile(name))
 
-    def chosen(self, gauges: list[SiteGauge], profile: Profile) -> list[SiteGauge]:
+    def chosen(self, gauges: Sequence[Gauge], profile: Profile) -> list[Gauge]:
         """The gauges that the export has to have; a name that the site hasn't is refused."""
         known = {gauge.name for gauge in gauges}
         choices = [choice.gauge for choice in profile.columns]
@@ -103,7 +104,7 @@ class Request:
         named += [gauge for gauge, _ in (*self.steps, *self.ids) if gauge]
         for name in named:
             if name not in known:
-                place = Place(str(self.site / "monitor.toml"))
+                place = Place(str(self.site / FILE_NAME))
                 raise Refusal(place, f"has no gauge {name!r}; there are {', '.join(sorted(known))}")
         wanted = set(self.gauges) or set(choices) or known
         return [gauge for gauge in gauges if gauge.name in wanted]

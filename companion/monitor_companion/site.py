@@ -1,6 +1,7 @@
 """The configuration of a site, `monitor.toml`, by all rules of the program, with its keys' lines.
 
-The faults stand in the order in which the program looks for them, so the first is what it tells.
+Every command reads it here. The faults stand in the order in which the program looks for them, so
+the first is what it tells.
 """
 
 from __future__ import annotations
@@ -8,25 +9,31 @@ from __future__ import annotations
 import pathlib
 from collections.abc import Iterator, Mapping
 from dataclasses import dataclass, field
+from decimal import Decimal
+from typing import TypeAlias
 
 from monitor_companion import check_hints as hints
 from monitor_companion import check_words as words
 from monitor_companion.check_findings import Findings
 from monitor_companion.check_toml import Node, NotToml, read_toml
-from monitor_companion.refusals import Place, Refusal
-from monitor_companion.site_parts import CONFIG_STATUS, Part
+from monitor_companion.curves import PARTIAL_FACTORS, Curve
+from monitor_companion.refusals import Place
+from monitor_companion.report import MAX_CLASSES, MAX_DETAILS, MAX_GAUGES
+from monitor_companion.site_parts import CONFIG_STATUS, Part, TakenNames
 
 FILE_NAME = "monitor.toml"
 MAX_BYTES = 65_536
-MAX_GAUGES, MAX_DETAILS = 32, 64
-MIN_CLASSES, MAX_CLASSES, MAX_SPAN = 2, 1024, 2000
+MIN_CLASSES, MAX_SPAN = 2, 2000
 MAX_KPA, MAX_NUM, MAX_DEN = 10**9, 10**9, 10**6
 MAX_BLOCK, DEFAULT_BLOCK, MAX_WORKERS, DEFAULT_WORKERS = 4096, 1024, 8, 4
-CATEGORIES = {
-    "normal": (160, 140, 125, 112, 100, 90, 80, 71, 63, 56, 50, 45, 40, 36),
-    "shear": (100, 80),
-}
-FACTORS = (100, 115, 135)
+
+# The line of each key of a table, and its own behind the empty key; None where it isn't known.
+Lines: TypeAlias = Mapping[str, int | None]
+
+
+def line_of(lines: Lines, key: str) -> int | None:
+    """Returns the line of a key, or that of its table where it is left out."""
+    return lines.get(key, lines.get(""))
 
 
 @dataclass(frozen=True)
@@ -37,7 +44,7 @@ class Grid:
     width: int
     low: int
     reference: int
-    lines: Mapping[str, int | None] = field(default_factory=dict, compare=False)
+    lines: Lines = field(default_factory=dict, compare=False)
 
     @property
     def step(self) -> int:
@@ -53,6 +60,10 @@ class Grid:
         """Returns the class of a stress in kPa; below 0 or from `classes` on there is none."""
         return (stress - self.low) // self.step
 
+    def stress(self, boundary: int) -> Decimal:
+        """Returns the stress in N/mm² of the boundary below a class."""
+        return Decimal(self.low + boundary * self.step) / 1000
+
 
 @dataclass(frozen=True)
 class Gauge:
@@ -64,29 +75,33 @@ class Gauge:
     num: int
     den: int
     offset: int
-    lines: Mapping[str, int | None] = field(default_factory=dict, compare=False)
+    lines: Lines = field(default_factory=dict, compare=False)
+    folder: pathlib.Path = pathlib.Path()
 
     @property
     def title(self) -> str:
         """What findings call it."""
         return f'gauge {self.number} "{self.name}"'
 
-    def stress(self, raw: int) -> int:
+    @property
+    def recording(self) -> pathlib.Path:
+        """Where its file is."""
+        return self.folder / self.file
+
+    def kpa(self, raw: int) -> int:
         """Returns the stress of a raw value in kPa."""
         return raw * self.num // self.den + self.offset
 
 
 @dataclass(frozen=True)
 class Detail:
-    """A weld detail: `gauge` is a gauge's number, `gamma` in hundredths. `number` counts from 0."""
+    """A weld detail: `gauge` is a gauge's name. `number` counts from 0."""
 
     number: int
     name: str
-    gauge: int
-    kind: str
-    category: int
-    gamma: int
-    lines: Mapping[str, int | None] = field(default_factory=dict, compare=False)
+    gauge: str
+    curve: Curve
+    lines: Lines = field(default_factory=dict, compare=False)
 
     @property
     def title(self) -> str:
@@ -101,10 +116,9 @@ class Site:
     path: pathlib.Path
     grid: Grid | None
     block: int
-    workers: int
     gauges: tuple[Gauge, ...]
     details: tuple[Detail, ...]
-    lines: Mapping[str, int | None] = field(default_factory=dict, compare=False)
+    lines: Lines = field(default_factory=dict, compare=False)
     # how many tables there are, sound ones and others
     gauge_tables: int = 0
     detail_tables: int = 0
@@ -114,39 +128,37 @@ class Site:
         return Place(str(self.path), line)
 
 
-def read_site(folder: pathlib.Path) -> Site:
-    """Returns the configuration of a folder. Raises `Refusal` with its first fault."""
+def read_gauges(folder: pathlib.Path) -> tuple[Gauge, ...]:
+    """Returns the gauges by their names and files alone, as if a raw value were a stress in kPa.
+
+    So samples are kept whatever else the configuration says. Raises `Refusal`.
+    """
     findings = Findings()
-    site = check_site(folder, findings)
-    for finding in findings:
-        if finding.told is not None:
-            raise Refusal(finding.place, finding.text)
-    assert site is not None
-    return site
+    root = _root(folder, findings)
+    gauges = [] if root is None else _gauges(root, folder, with_gains=False)[0]
+    findings.refuse()
+    return tuple(gauges)
 
 
 def check_site(folder: pathlib.Path, findings: Findings) -> Site | None:
     """Returns what is sound of a folder's configuration, or None where it can't be read."""
-    path = folder / FILE_NAME
-    node = _root(path, findings)
-    if node is None:
+    root = _root(folder, findings)
+    if root is None:
         return None
-    root = Part("the configuration", "", node, str(path), findings)
     grid = _grid(root)
-    block, workers = _count(root)
-    gauges, gauge_names = _gauges(root)
+    block = _block(root)
+    gauges, gauge_names = _gauges(root, folder, with_gains=True)
     details = _details(root, gauge_names)
     _tell_unknown(root)
     return Site(
-        path,
+        folder / FILE_NAME,
         grid,
         block,
-        workers,
         tuple(gauges),
         tuple(details),
-        _lines(node.members.get("count")),
-        _tables(node, "gauge"),
-        _tables(node, "detail"),
+        _lines(root.node.members.get("count")),
+        _tables(root.node, "gauge"),
+        _tables(root.node, "detail"),
     )
 
 
@@ -154,21 +166,25 @@ def _tables(root: Node, part: str) -> int:
     return len(root.members[part].items) if part in root.members else 0
 
 
-def _root(path: pathlib.Path, findings: Findings) -> Node | None:
+def _root(folder: pathlib.Path, findings: Findings) -> Part | None:
     """Reads the file, and returns its table."""
+    path = folder / FILE_NAME
     place = Place(str(path))
     try:
         with path.open("rb") as file:
             content = file.read(MAX_BYTES + 1)
     except OSError as error:
-        findings.fault(place, f"can't be read: {error.strerror}", 6, "read fault")
+        missing = isinstance(error, FileNotFoundError)
+        text = "isn't there: --site names the folder that has it"
+        text = text if missing else f"can't be read: {error.strerror}"
+        findings.fault(place, text, 6, "read fault")
         return None
     if len(content) > MAX_BYTES:
         text = f"has {path.stat().st_size} bytes; allowed are {MAX_BYTES}"
         findings.fault(place, text, CONFIG_STATUS, "config: too long")
         return None
     try:
-        return read_toml(content)
+        return Part("the configuration", "", read_toml(content), str(path), findings)
     except NotToml as error:
         column = "" if error.column is None else f" in column {error.column}"
         place = Place(str(path), error.line)
@@ -176,8 +192,7 @@ def _root(path: pathlib.Path, findings: Findings) -> Node | None:
         return None
 
 
-def _lines(node: Node | None) -> dict[str, int | None]:
-    """Returns the line of each key of a table, and its own behind the empty key."""
+def _lines(node: Node | None) -> Lines:
     if node is None:
         return {}
     return {"": node.line} | {key: below.line for key, below in node.members.items()}
@@ -232,13 +247,14 @@ def _grid(root: Part) -> Grid | None:
     return Grid(classes, width, low, reference, _lines(part.node))
 
 
-def _count(root: Part) -> tuple[int, int]:
+def _block(root: Part) -> int:
+    """Returns the samples of a block; the other key of its table is of the program alone."""
     part = _table(root, "count", needed=False)
     if part is None:
-        return DEFAULT_BLOCK, DEFAULT_WORKERS
+        return DEFAULT_BLOCK
     block = part.whole("block", 1, MAX_BLOCK, DEFAULT_BLOCK)
-    workers = part.whole("workers", 1, MAX_WORKERS, DEFAULT_WORKERS)
-    return block or DEFAULT_BLOCK, workers or DEFAULT_WORKERS
+    part.whole("workers", 1, MAX_WORKERS, DEFAULT_WORKERS)
+    return block or DEFAULT_BLOCK
 
 
 def _items(root: Part, name: str, least: int, most: int) -> list[Node]:
@@ -265,61 +281,69 @@ def _several(root: Part, name: str, least: int, most: int) -> Iterator[tuple[int
     """Yields each table of a part that has several, with its number."""
     for number, node in enumerate(_items(root, name, least, most)):
         if isinstance(node.value, dict):
-            own = node.value.get("name")
-            title = (
-                f"{name} {number} {hints.shown(own)}"
-                if isinstance(own, str)
-                else f"{name} {number}"
-            )
+            title = _title(name, number, node)
             yield number, Part(title, f"{name} {number}", node, root.file, root.findings)
         else:
             text = f"{name} {number} is {hints.kind_of(node.value)}; a table belongs here"
             root.tell_part(f"wrong kind {name} {number}", node.line, text, "")
 
 
-def _gauges(root: Part) -> tuple[list[Gauge], dict[str, tuple[int, int | None]]]:
-    """Returns the sound gauges, and of each name the number and line of its first gauge."""
+def _title(part: str, number: int, table: Node) -> str:
+    """Returns what findings call a table of a part that has several."""
+    own = table.members.get("name")
+    name = f" {hints.shown(own.value)}" if own is not None and isinstance(own.value, str) else ""
+    return f"{part} {number}{name}"
+
+
+def _gauges(
+    root: Part, folder: pathlib.Path, *, with_gains: bool
+) -> tuple[list[Gauge], TakenNames]:
+    """Returns the sound gauges, and all names that a gauge has."""
     gauges: list[Gauge] = []
-    names: dict[str, tuple[int, int | None]] = {}
+    names: TakenNames = {}
     for number, part in _several(root, "gauge", 1, MAX_GAUGES):
         name = part.name("name")
         file = part.file_name("file")
-        num = part.whole("num", -MAX_NUM, MAX_NUM)
-        den = part.whole("den", 1, MAX_DEN, 1)
-        offset = part.whole(
-            "offset", -MAX_KPA, MAX_KPA, 0, meant=lambda value: hints.meant_kpa("offset", value)
-        )
+        gain = _gain(part) if with_gains else (1, 1, 0)
         if name is not None:
             name = part.unless_taken(name, number, names)
-        if name is None or file is None or num is None or den is None or offset is None:
-            continue
-        gauges.append(Gauge(number, name, file, num, den, offset, _lines(part.node)))
+        if name is not None and file is not None and gain is not None:
+            gauges.append(Gauge(number, name, file, *gain, _lines(part.node), folder))
     return gauges, names
 
 
-def _details(root: Part, gauges: Mapping[str, tuple[int, int | None]]) -> list[Detail]:
+def _gain(part: Part) -> tuple[int, int, int] | None:
+    """Returns numerator, denominator and offset of a gauge."""
+    num = part.whole("num", -MAX_NUM, MAX_NUM)
+    den = part.whole("den", 1, MAX_DEN, 1)
+    offset = part.whole(
+        "offset", -MAX_KPA, MAX_KPA, 0, meant=lambda value: hints.meant_kpa("offset", value)
+    )
+    return None if num is None or den is None or offset is None else (num, den, offset)
+
+
+def _details(root: Part, gauges: TakenNames) -> list[Detail]:
     details: list[Detail] = []
-    names: dict[str, tuple[int, int | None]] = {}
+    names: TakenNames = {}
+    # Where a gauge's own name is wrong, that is the fault, and its details are right.
+    are_all_named = 0 < len(gauges) == _tables(root.node, "gauge")
     for number, part in _several(root, "detail", 0, MAX_DETAILS):
         name = part.name("name")
         gauge = part.text("gauge", "the name of a gauge")
-        kind = part.kind(tuple(CATEGORIES))
-        category = part.category(kind, CATEGORIES)
-        gamma = part.choice("gamma", FACTORS, meant=lambda value: hints.meant_gamma(value, FACTORS))
-        # Where a gauge's own name is wrong, that is the fault, and its details are right.
-        if (
-            gauge is not None
-            and gauge not in gauges
-            and 0 < len(gauges) == _tables(root.node, "gauge")
-        ):
+        kind = part.kind()
+        category = part.category(kind)
+        gamma = part.choice(
+            "gamma", PARTIAL_FACTORS, meant=lambda value: hints.meant_gamma(value, PARTIAL_FACTORS)
+        )
+        if gauge is not None and gauge not in gauges and are_all_named:
             part.tell_no_gauge(number, gauge, gauges)
         if name is not None:
             name = part.unless_taken(name, number, names)
-        if name is None or gauge is None or kind is None or category is None or gamma is None:
+        if name is None or kind is None or category is None or gamma is None:
             continue
-        if gauge in gauges:
-            lines = _lines(part.node)
-            details.append(Detail(number, name, gauges[gauge][0], kind, category, gamma, lines))
+        if gauge is not None and gauge in gauges:
+            curve = Curve(kind, category, gamma)
+            details.append(Detail(number, name, gauge, curve, _lines(part.node)))
     return details
 
 
@@ -327,20 +351,16 @@ def _tell_unknown(root: Part) -> None:
     """Warns of each key that means nothing."""
     for key, node in root.node.members.items():
         if key in words.KEYS:
-            tables = node.items if words.header(key).startswith("[[") else [node]
+            tables = node.items if key in words.ARRAYS else [node]
             for number, table in enumerate(tables):
                 if isinstance(table.value, dict):
                     _tell_unknown_keys(root, key, number, table)
-            continue
-        meant = words.meant_part(key)
-        root.tell_unknown(key, node, "", meant)
+        else:
+            root.tell_unknown(key, node, "", words.meant_part(key))
 
 
 def _tell_unknown_keys(root: Part, part: str, number: int, table: Node) -> None:
-    own = table.value.get("name") if isinstance(table.value, dict) else None
-    title = words.header(part)
-    if part in words.ARRAYS:
-        title = f"{part} {number}" + (f" {hints.shown(own)}" if isinstance(own, str) else "")
+    title = _title(part, number, table) if part in words.ARRAYS else words.header(part)
     for key, node in table.members.items():
         if key not in words.KEYS[part]:
             root.tell_unknown(key, node, title, words.meant_key(part, key))

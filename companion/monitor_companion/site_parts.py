@@ -2,19 +2,24 @@
 
 from __future__ import annotations
 
-from collections.abc import Callable, Mapping, Sequence
+from collections.abc import Callable, Sequence
 from dataclasses import dataclass
+from typing import TypeAlias
 
 from monitor_companion import check_hints as hints
 from monitor_companion import check_words as words
 from monitor_companion.check_findings import Findings
 from monitor_companion.check_toml import Node
+from monitor_companion.curves import CATEGORIES, Kind
 from monitor_companion.refusals import Place
 
 CONFIG_STATUS = 2
-MAX_NAME, MAX_FILE_NAME, MAX_CHOICE = 32, 255, 65_535
+MAX_NAME, MAX_FILE_NAME = 32, 255
 _NAME_LETTERS = frozenset("abcdefghijklmnopqrstuvwxyzABCDEFGHIJKLMNOPQRSTUVWXYZ0123456789-_")
 _NAMES = f"1 to {MAX_NAME} ASCII letters, digits, - or _"
+
+# Of each name the number of the first table that has it, and the line.
+TakenNames: TypeAlias = dict[str, tuple[int, int | None]]
 
 
 def _no_hint(value: int) -> str:
@@ -158,12 +163,15 @@ class Part:
             return None
         return value
 
-    def kind(self, kinds: Sequence[str]) -> str | None:
+    def kind(self) -> Kind | None:
         """Returns the kind of stress, or None after a fault."""
-        allowed = " or ".join(f'"{kind}"' for kind in kinds)
+        allowed = " or ".join(f'"{kind.value}"' for kind in Kind)
         value = self.text("kind", allowed)
-        if value is None or value in kinds:
-            return value
+        if value is None:
+            return None
+        for kind in Kind:
+            if value == kind.value:
+                return kind
         near = words.meant_kind(value)
         meant = f'kind = "{near}"' if near is not None else ""
         self._tell(
@@ -171,26 +179,22 @@ class Part:
         )
         return None
 
-    def category(self, kind: str | None, categories: Mapping[str, Sequence[int]]) -> int | None:
+    def category(self, kind: Kind | None) -> int | None:
         """Returns the category of this kind, or None after a fault."""
         if kind is None:
-            union = sorted(
-                {number for each in categories.values() for number in each}, reverse=True
-            )
-            return self.choice("category", union)
-        own = categories[kind]
+            union = {number for each in CATEGORIES.values() for number in each}
+            return self.choice("category", sorted(union, reverse=True))
+        own = CATEGORIES[kind]
 
         def meant(value: int) -> str:
-            other = next((k for k in categories if k != kind and value in categories[k]), None)
-            if other is not None:
-                return f'{value} is a category of {other} stress: kind = "{other}"'
+            for other in Kind:
+                if other is not kind and value in CATEGORIES[other]:
+                    return f'{value} is a category of {other.value} stress: kind = "{other.value}"'
             return hints.meant_category(value, own)
 
-        return self.choice("category", own, f" for {kind} stress", meant)
+        return self.choice("category", own, f" for {kind.value} stress", meant)
 
-    def unless_taken(
-        self, name: str, number: int, names: dict[str, tuple[int, int | None]]
-    ) -> str | None:
+    def unless_taken(self, name: str, number: int, names: TakenNames) -> str | None:
         """Returns the name where none before has it, and keeps it; None after a fault."""
         if name not in names:
             names[name] = (number, self._line("name"))
@@ -204,9 +208,7 @@ class Part:
         self.findings.fault(place, f"{text}; two {part}s have two names", CONFIG_STATUS, told)
         return None
 
-    def tell_no_gauge(
-        self, number: int, gauge: str, gauges: Mapping[str, tuple[int, int | None]]
-    ) -> None:
+    def tell_no_gauge(self, number: int, gauge: str, gauges: TakenNames) -> None:
         """Tells that a detail's gauge isn't there."""
         near = words.nearest(gauge, gauges)
         tail = f'; gauge = "{near}" was probably meant' if near is not None else ""

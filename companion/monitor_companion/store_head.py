@@ -78,7 +78,7 @@ class Store:
     damage: Damage | None = None
 
 
-def read_store(path: pathlib.Path) -> Store | None:
+def read_store(path: pathlib.Path, *, with_bodies: bool = True) -> Store | None:
     """Returns what the file is, or None where there is none or an empty one. Raises `OSError`."""
     if not path.exists():
         return None
@@ -87,7 +87,7 @@ def read_store(path: pathlib.Path) -> Store | None:
         if size == 0:
             return None
         store = Store(path, size)
-        if _read_head(store, file):
+        if _read_head(store, file) and with_bodies:
             _walk(store, file)
     return store
 

@@ -12,7 +12,7 @@ from monitor_companion.journal import Entry, Journal, journal_path, read_journal
 from monitor_companion.pieces import BLOCK, START, Mark
 from monitor_companion.recording import HEAD_BYTES, SAMPLE_BYTES, read_head
 from monitor_companion.refusals import Place, Refusal
-from monitor_companion.site_gauges import SiteGauge
+from monitor_companion.site import Gauge
 
 
 class State(Enum):
@@ -28,7 +28,7 @@ class State(Enum):
 class Target:
     """A gauge's recording with its journal, as they were when they were looked at."""
 
-    gauge: SiteGauge
+    gauge: Gauge
     journal: Journal | None
     state: State
 
@@ -43,7 +43,7 @@ class Target:
         return self.last if self.state is State.UNFINISHED else None
 
 
-def look(gauge: SiteGauge) -> Target:
+def look(gauge: Gauge) -> Target:
     """Looks at a recording; a length that its journal doesn't explain is refused."""
     path = gauge.recording
     journal = read_journal(journal_path(path))

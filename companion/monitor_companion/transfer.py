@@ -3,9 +3,10 @@
 from __future__ import annotations
 
 import sys
-from collections.abc import Callable, Iterable
+from collections.abc import Callable, Iterable, Sequence
 from contextlib import ExitStack
 from enum import Enum
+from pathlib import Path
 from typing import TypeVar
 
 from monitor_companion.delivery import Delivery, Pass
@@ -14,7 +15,7 @@ from monitor_companion.pieces import Mark
 from monitor_companion.recording import HEAD_BYTES, SAMPLE_BYTES, read_head
 from monitor_companion.refusals import Place, Refusal, Status
 from monitor_companion.request import Request
-from monitor_companion.site_gauges import read_gauges
+from monitor_companion.site import FILE_NAME, Gauge, line_of, read_gauges
 from monitor_companion.targets import State, Target, held, look, mark_behind, prefix_digests
 from monitor_companion.telling import pass_lines, warnings
 
@@ -45,6 +46,7 @@ class Transfer:
         self._request = request
         self._command = command
         gauges = read_gauges(request.site)
+        _refuse_shared_files(request.site / FILE_NAME, gauges)
         self._profile = request.loaded(request.profile_name(gauges))
         self._gauges = request.chosen(gauges, self._profile)
         self._delivery = Delivery(request, self._profile)
@@ -176,6 +178,19 @@ class Transfer:
         for line in warned:
             print(f"monitor-companion: warning: {line}", file=sys.stderr)
         return Status.WARNED if warned else Status.DONE
+
+
+def _refuse_shared_files(configuration: Path, gauges: Sequence[Gauge]) -> None:
+    """Two gauges may count one recording, but it can't get two columns."""
+    first: dict[Path, Gauge] = {}
+    for gauge in gauges:
+        other = first.setdefault(gauge.recording.resolve(), gauge)
+        if other is not gauge:
+            raise Refusal(
+                Place(str(configuration), line_of(gauge.lines, "file")),
+                f'{gauge.title}: file = "{gauge.file}" is that of {other.title} already;'
+                " an import needs a recording for each gauge",
+            )
 
 
 def range_of(target: Target) -> tuple[Mark, int]:

@@ -4,6 +4,7 @@ from __future__ import annotations
 
 import contextlib
 import io
+import struct
 import tempfile
 import unittest
 from argparse import ArgumentParser
@@ -11,7 +12,7 @@ from collections.abc import Sequence
 from pathlib import Path
 
 from monitor_companion import append_command, import_command
-from monitor_companion.recording import MISSING, read_samples
+from monitor_companion.recording import HEAD_BYTES, MISSING
 from monitor_companion.refusals import Refusal, Status
 
 GRID = "[grid]\nclasses = 128\nwidth = 2\nlow = -64000\nreference = 64\n"
@@ -21,6 +22,12 @@ COMMANDS = {"import": import_command, "append": append_command}
 def configuration(gauges: Sequence[str]) -> str:
     """A monitor.toml with these gauges."""
     return GRID + "".join(f'[[gauge]]\nname = "{g}"\nfile = "{g}.sgrc"\nnum = 21\n' for g in gauges)
+
+
+def read_samples(path: Path) -> list[int]:
+    """The samples of a recording."""
+    data = path.read_bytes()[HEAD_BYTES:]
+    return list(struct.unpack(f"<{len(data) // 4}i", data))
 
 
 class SiteTest(unittest.TestCase):

@@ -16,7 +16,7 @@ from dataclasses import dataclass, field
 from monitor_companion import check_command
 from monitor_companion.check_command import check_folder
 from monitor_companion.refusals import Refusal, Status
-from monitor_companion.site import read_site
+from monitor_companion.report_site import read_site
 from tests import check_sites as sites
 from tests.program import ROOT, program, run
 
@@ -152,7 +152,7 @@ class Configurations(unittest.TestCase):
             folder = pathlib.Path(name)
             self.assertEqual(
                 sites.lines(folder),
-                ["monitor.toml: fault: can't be read: No such file or directory"],
+                ["monitor.toml: fault: isn't there: --site names the folder that has it"],
             )
             (folder / "monitor.toml").mkdir()
             self.assertEqual(
@@ -164,11 +164,10 @@ class Configurations(unittest.TestCase):
             folder = pathlib.Path(name)
             sites.make(folder)
             site = read_site(folder)
-            assert site.grid is not None
             self.assertEqual(
-                (site.grid.top, site.grid.level(-1), site.gauges[0].stress(-3)), (64000, 63, -630)
+                (site.grid.top, site.grid.level(-1), site.gauges[0].kpa(-3)), (64000, 63, -630)
             )
-            self.assertEqual([detail.gauge for detail in site.details], [0, 1])
+            self.assertEqual([detail.gauge for detail in site.details], ["span-2", "pier-3"])
             sites.make(folder, sites.CONFIGURATION.replace("den = 1", "den = 0"))
             with self.assertRaisesRegex(
                 Refusal, r"monitor\.toml:20: gauge 1 \"pier-3\": den = 0 is out of range"

@@ -97,7 +97,7 @@ class Recordings(SiteCase):
         )
         self.verdict(5, "recording span-2: ends in 3 odd bytes")
         self.span.write_bytes(sites.SPAN)
-        with mock.patch.object(check_recordings, "MAX_SAMPLES", 499):
+        with mock.patch.object(check_recordings, "MOST_SAMPLES", 499):
             self.finds(
                 f"monitor.toml:13: fault: {SPAN} has 500 samples; allowed are 499: begin a new one",
                 'monitor.toml:18: fault: gauge 1 "pier-3": pier3.sgrc has 500 samples; allowed are 499: begin a new one',

@@ -10,16 +10,16 @@ import time
 import unittest
 from array import array
 from collections.abc import Sequence
-from decimal import Decimal
 from fractions import Fraction
 from unittest import mock
 
 from monitor_companion import check_ends, check_scan
-from monitor_companion.check_heads import HEAD_LENGTH, Recording
-from monitor_companion.check_meaning import cut_off, n_mm2
+from monitor_companion.check_heads import Recording
+from monitor_companion.check_meaning import n_mm2
 from monitor_companion.check_readings import classes_for, percent, wide_classes
-from monitor_companion.check_scan import GREATEST, MISSING, Readings, raw_limits, scan
-from monitor_companion.site import Detail, Gauge, Grid
+from monitor_companion.check_scan import Readings, raw_limits, scan
+from monitor_companion.recording import GREATEST, MISSING
+from monitor_companion.site import Gauge, Grid
 from tests.check_sites import noise, recording
 
 GRID = Grid(128, 2, -64000, 64)
@@ -171,18 +171,6 @@ class Numbers(unittest.TestCase):
         ):
             self.assertEqual(n_mm2(kpa), due)
 
-    def test_cut_off_limits(self) -> None:
-        """The table of docs/RULES.md, divided by the factor."""
-        for kind, category, gamma, due in (
-            ("normal", 160, 100, "64738.08"),
-            ("normal", 71, 100, "28727.523"),
-            ("shear", 80, 100, "36560"),
-            ("normal", 36, 135, "10789.68"),
-        ):
-            self.assertAlmostEqual(
-                Decimal(float(cut_off(Detail(0, "d", 0, kind, category, gamma)))), Decimal(due), 1
-            )
-
     def test_classes_that_hold(self) -> None:
         rng = random.Random(6)
         for _ in range(2000):
@@ -202,7 +190,6 @@ class Numbers(unittest.TestCase):
                 )
                 self.assertLessEqual(start, low)
                 self.assertLess(high, start + classes * 500 * width)
-        self.assertEqual(HEAD_LENGTH, 32)
 
 
 if __name__ == "__main__":

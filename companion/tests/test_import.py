@@ -374,13 +374,3 @@ class Profiles(SiteTest):
                     self.call("import", "export.csv", "--profile", str(path)), Status.REFUSED
                 )
                 self.assertIn(f"mine.toml: {why}", self.err)
-
-    def test_a_gauge_that_the_site_has_not(self) -> None:
-        self.write("export.csv", "time,span,pier\n0,1,2\n1,3,4\n")
-        self.refused(
-            "monitor.toml: has no gauge 'spam'; there are pier, span",
-            "import",
-            "export.csv",
-            "--gauge",
-            "spam",
-        )

@@ -17,9 +17,8 @@ from pathlib import Path
 from unittest import mock
 
 from monitor_companion.progress import Progress
-from monitor_companion.recording import read_samples
 
-from tests.importing import SiteTest
+from tests.importing import SiteTest, read_samples
 from tests.make_exports import BIG_ROWS, write_big
 
 COMPANION = Path(__file__).resolve().parents[1]
@@ -49,7 +48,7 @@ class Size(SiteTest):
         maker = random.Random(7)
         drawn = [maker.randrange(-30_000, 30_000) for _ in range(3 * rows)]
         for place, gauge in enumerate(self.gauges):
-            self.assertEqual(list(read_samples(self.site / f"{gauge}.sgrc")), drawn[place::3])
+            self.assertEqual(read_samples(self.site / f"{gauge}.sgrc"), drawn[place::3])
 
     def test_many_rows(self) -> None:
         """A fiftieth of the rows, with the memory that all may take; a process of its own."""

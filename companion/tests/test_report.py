@@ -271,20 +271,39 @@ MISFITS = (
     ("width = 2  ", "width = 4  ", "no such range"),
     ("reference = 64 ", "reference = 65 ", "there is no peak at a level 64"),
     ("reference = 64 ", "reference = 63 ", "there is no valley at a level 63"),
-    ('name = "span2-flange"', 'name = "span3-flange"', "there is no gauge 'span2-flange'"),
+    (
+        'name = "span2-flange"',
+        'name = "span3-flange"',
+        'detail 0 "stiffener": gauge = "span2-flange" is no gauge; allowed is one of'
+        ' "span3-flange" "pier-flange" "web-shear"',
+    ),
     ('name = "stiffener"', 'name = "stiffner"', "detail stiffener on span2-flange stands where"),
     ('"normal"\ncategory = 80', '"normal"\ncategory = 90', "isn't that of normal 90, factor 1.15"),
     ('"normal"\ncategory = 80', '"shear"\ncategory = 80', "isn't that of shear 80, factor 1.15"),
     ("gamma = 135", "gamma = 115", "normal 50, factor 1.15"),
     ('gauge = "web-shear"', 'gauge = "pier-flange"', "detail web-fillet on web-shear stands where"),
-    ("gamma = 135", "gamma = 130", "detail 1: gamma is 130, and may be 100, 115 or 135"),
+    (
+        "gamma = 135",
+        "gamma = 130",
+        'detail 1 "cover-plate": gamma = 130 is none of them; allowed is one of 100 115 135',
+    ),
     ('kind = "shear"', 'kind = "normal"', "isn't that of normal 80"),
-    ("category = 112", "category = 111", "detail 2: category is 111, and may be 160, 140"),
-    ("num = 210", "num = 1_000_000_001", "gauge 0: num is 1000000001, and may be"),
-    ("num = 210", 'num = "210"', "gauge 0: num is no whole number"),
-    ("num = 210", "num = true", "gauge 0: num is no whole number"),
-    ("low = -64000", "", "grid: low is missing"),
-    ("[grid]", "[grid", "is no TOML"),
+    (
+        "category = 112",
+        "category = 111",
+        'detail 2 "flange-butt": category = 111 is none of them; allowed is one of 160 140 125 112'
+        " 100 90 80 71 63 56 50 45 40 36 for normal stress",
+    ),
+    (
+        "num = 210",
+        "num = 1_000_000_001",
+        'gauge 0 "span2-flange": num = 1000000001 is out of range; allowed is a whole number from'
+        " -1000000000 to 1000000000",
+    ),
+    ("num = 210", 'num = "210"', 'gauge 0 "span2-flange": num = "210" is a text; allowed is'),
+    ("num = 210", "num = true", 'gauge 0 "span2-flange": num = true is true or false; allowed is'),
+    ("low = -64000", "", "monitor.toml:5: [grid]: low is missing"),
+    ("[grid]", "[grid", "monitor.toml:5: no TOML in column 6: "),
 )
 
 
@@ -322,7 +341,8 @@ class Site(unittest.TestCase):
         (folder / "monitor.toml").unlink()
         with self.assertRaises(Refusal) as caught:
             read_site(folder)
-        self.assertIn("monitor.toml: can't be read", str(caught.exception))
+        told = "monitor.toml: isn't there: --site names the folder that has it"
+        self.assertIn(told, str(caught.exception))
 
     def test_period(self) -> None:
         folder = standard_case().folder(self)
@@ -342,19 +362,23 @@ class Site(unittest.TestCase):
         content = bytes.fromhex(head.replace(" ", "") + gain)
         store.write_bytes(content)
         self.assertEqual(read_site(folder).periods, (10_000,))
+        another_gauge = bytes(40)
         changes = (
-            (9, 0x20, "its classes is 32, and monitor.toml has 16"),
-            (11, 1, "its width is 1"),
-            (19, 0xC1, "its low is -7999"),
-            (21, 7, "its reference is 7"),
-            (7, 2, "its number of gauges is 2"),
-            (0, 0, "is no store"),
-            (49, 0xE9, "its num of gauge north is 1001"),
-            (53, 2, "its den of gauge north is 2"),
+            (9, 0x20, "toml:2: [grid]: classes = 16, but monitor.store was made with 32"),
+            (11, 1, "toml:3: [grid]: width = 2, but monitor.store was made with 1"),
+            (19, 0xC1, "toml:4: [grid]: low = -8000, but monitor.store was made with -7999"),
+            (21, 7, "toml:5: [grid]: reference = 8, but monitor.store was made with 7"),
+            (7, 2, "monitor.toml: 1 gauge, but monitor.store was made for 2"),
+            (0, 0, "monitor.store: was not finished by init"),
+            (1, 0, "monitor.store: doesn't begin as a store"),
+            (5, 3, "monitor.store: is of version 3; allowed are 1 and 2"),
+            (49, 0xE9, 'toml:9: gauge 0 "north": num = 1000, but monitor.store was made with 1001'),
+            (53, 2, 'toml:6: gauge 0 "north": den = 1, but monitor.store was made with 2'),
         )
         for place, byte, told in changes:
             with self.subTest(told=told):
-                store.write_bytes(content[:place] + bytes([byte]) + content[place + 1 :])
+                changed = content[:place] + bytes([byte]) + content[place + 1 :]
+                store.write_bytes(changed + another_gauge)
                 with self.assertRaises(Refusal) as caught:
                     read_site(folder)
                 self.assertIn(told, str(caught.exception))
