@@ -8,7 +8,7 @@ from monitor_companion.import_options import add_common, request_of
 from monitor_companion.refusals import Status
 from monitor_companion.transfer import Command, transfer
 
-SUMMARY = "puts an export behind the recordings of a site"
+SUMMARY = "put an export behind the recordings of a site"
 
 
 def add_arguments(parser: ArgumentParser) -> None:

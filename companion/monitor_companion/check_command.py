@@ -17,8 +17,9 @@ from monitor_companion.check_scan import Readings, scan
 from monitor_companion.check_store import check_store, load_store, note_fixed
 from monitor_companion.recording import HEAD_BYTES, SAMPLE_BYTES
 from monitor_companion.refusals import Place, Refusal, Status
-from monitor_companion.site import Site, check_site
+from monitor_companion.site import Site, add_site_option, check_site
 from monitor_companion.store_head import Store
+from monitor_companion.wording import counted
 
 SUMMARY = "explain what monitor would refuse of a site, or take in silence"
 MEGABYTE = 1_000_000
@@ -38,13 +39,7 @@ class Checked:
 
 def add_arguments(parser: argparse.ArgumentParser) -> None:
     """Adds the words of the command."""
-    parser.add_argument(
-        "--site",
-        type=pathlib.Path,
-        default=pathlib.Path(),
-        metavar="DIR",
-        help="the folder with monitor.toml (the current one)",
-    )
+    add_site_option(parser)
     parser.add_argument(
         "--limit",
         type=_megabytes,
@@ -160,13 +155,9 @@ def summary(checked: Checked) -> list[str]:
     verdict = findings.verdict
     if verdict is not None:
         lines.append(f"monitor would end with status {verdict.status}: {verdict.line}")
-    counts = [_counted(findings.count(severity), severity.value) for severity in Severity]
+    counts = [counted(findings.count(severity), severity.value) for severity in Severity]
     lines.append("check: " + ", ".join(counts))
     return lines
-
-
-def _counted(count: int, word: str) -> str:
-    return f"{count} {word}" + ("" if count == 1 else "s")
 
 
 def _read_line(checked: Checked, recording: Recording) -> str:

@@ -7,6 +7,7 @@ from dataclasses import dataclass, field
 from enum import Enum
 
 from monitor_companion.refusals import Place, Refusal, Status
+from monitor_companion.wording import one_line
 
 
 class Severity(Enum):
@@ -39,12 +40,7 @@ class Finding:
     needs_store: bool = False
 
     def __str__(self) -> str:
-        return _one_line(f"{self.place}: {self.severity.value}: {self.text}")
-
-
-def _one_line(text: str) -> str:
-    """Returns a text whose letters, which may come from a file, begin no other line."""
-    return "".join(letter if letter.isprintable() else "?" for letter in text)
+        return one_line(f"{self.place}: {self.severity.value}: {self.text}")
 
 
 @dataclass
@@ -92,4 +88,4 @@ class Findings:
         """Raises a `Refusal` with the first fault, where there is one."""
         for finding in self.found:
             if finding.severity is Severity.FAULT:
-                raise Refusal(finding.place, _one_line(finding.text))
+                raise Refusal(finding.place, one_line(finding.text))

@@ -9,7 +9,7 @@ from collections.abc import Sequence
 from decimal import Decimal
 from fractions import Fraction
 
-from monitor_companion.check_words import cut
+from monitor_companion.wording import shortened
 
 KPA_PER_STEP = 500
 
@@ -26,7 +26,7 @@ def shown(value: object) -> str:
         text = "{...}" if value else "{}"
     else:
         text = str(value)
-    return cut(text)
+    return shortened(text)
 
 
 def kind_of(value: object) -> str:

@@ -10,6 +10,7 @@ from monitor_companion.check_heads import Recording
 from monitor_companion.refusals import Place
 from monitor_companion.site import Gauge, Site, line_of
 from monitor_companion.store_head import FILE_NAME, Store, StoreHead, read_store
+from monitor_companion.wording import counted
 
 STORE_STATUS = 3
 NEW_STORE = f"begin a new store (rename {FILE_NAME}, then init and count)"
@@ -86,11 +87,11 @@ def _check_gauge_count(
 ) -> None:
     if not site.gauge_tables or store.gauge_count == site.gauge_tables:
         return
-    plural = "" if site.gauge_tables == 1 else "s"
-    text = f"{site.gauge_tables} gauge{plural}, but {FILE_NAME} was made for {store.gauge_count}"
+    gauges = counted(site.gauge_tables, "gauge")
+    text = f"{gauges}, but {FILE_NAME} was made for {store.gauge_count}"
     if store.head is not None:
         kept = {gauge.id for gauge in store.head.gauges}
-        new = [r.gauge for r in recordings if r.fault is None and r.id not in kept]
+        new = [each.gauge for each in recordings if each.fault is None and each.id not in kept]
         names = ", ".join(f'"{gauge.name}"' for gauge in new)
         if store.gauge_count < site.gauge_tables:
             text += f" (new: {names})" if names else ""

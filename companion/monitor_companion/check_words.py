@@ -5,6 +5,8 @@ from __future__ import annotations
 import difflib
 from collections.abc import Iterable
 
+from monitor_companion.wording import shortened
+
 # The parts in the order in which the program reads them, and the keys of each in theirs.
 KEYS = {
     "grid": ("classes", "width", "low", "reference"),
@@ -12,7 +14,6 @@ KEYS = {
     "gauge": ("name", "file", "num", "den", "offset"),
     "detail": ("name", "gauge", "kind", "category", "gamma"),
 }
-SHOWN_LENGTH = 60
 ARRAYS = ("gauge", "detail")
 
 # Other words for a key, as people write them.
@@ -91,11 +92,6 @@ def nearest(word: str, known: Iterable[str]) -> str | None:
     return lower[close[0]] if close else None
 
 
-def cut(word: str) -> str:
-    """Returns a word, or the front of a long one."""
-    return word if len(word) <= SHOWN_LENGTH else word[: SHOWN_LENGTH - 3] + "..."
-
-
 def header(part: str) -> str:
     """Returns the header of a part: `[grid]`, `[[gauge]]`."""
     return f"[[{part}]]" if part in ARRAYS else f"[{part}]"
@@ -103,7 +99,7 @@ def header(part: str) -> str:
 
 def header_of(key: str, value: object) -> str:
     """Returns how a key outside all parts stands there, cut where it is long."""
-    key = cut(key)
+    key = shortened(key)
     if isinstance(value, list):
         return f"[[{key}]]"
     return f"[{key}]" if isinstance(value, dict) else key

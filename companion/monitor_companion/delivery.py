@@ -163,7 +163,7 @@ class Delivery:
         """The journal's entry of what was read."""
         read, times = found.read, found.read.times
         timed = times is not None and times.first is not None and times.last is not None
-        plan = next(p for p in found.layout.columns if p.wanted.gauge == target.gauge.name)
+        plan = found.layout.column_of(target.gauge.name)
         begin = target.journal.end if target.journal is not None else 0
         if begin + read.rows > MOST_SAMPLES:
             raise Refusal(Place(str(target.gauge.recording)), "would have too many samples")

@@ -13,6 +13,7 @@ from monitor_companion.refusals import Place, Refusal, Status
 from monitor_companion.report_output import STANDARD_OUTPUT, told_warnings, write_text
 from monitor_companion.report_reading import read_reading
 from monitor_companion.report_site import read_site
+from monitor_companion.site import add_site_option
 
 SUMMARY = "write a report as JSON, and its sections as CSV files"
 
@@ -24,13 +25,7 @@ def add_arguments(parser: argparse.ArgumentParser) -> None:
         "Nothing is written where it doesn't agree with itself or with the site's configuration."
     )
     parser.add_argument("report", metavar="REPORT", help="a report, or - for standard input")
-    parser.add_argument(
-        "--site",
-        type=Path,
-        default=Path(),
-        metavar="DIR",
-        help="the folder with monitor.toml (this folder where it is left out)",
-    )
+    add_site_option(parser)
     parser.add_argument(
         "-o",
         dest="output",

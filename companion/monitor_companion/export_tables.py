@@ -10,7 +10,7 @@ from dataclasses import dataclass
 from decimal import Context, Decimal
 from fractions import Fraction
 
-from monitor_companion.curves import KNEE, NORMAL_CUT_OFF, SHEAR_CUT_OFF, Curve, Kind
+from monitor_companion.curves import Curve
 from monitor_companion.report import BILLION, GaugeReport, LevelCount, RangeCount, Section
 from monitor_companion.report_agreement import DetailDamage
 from monitor_companion.report_reading import Reading
@@ -166,24 +166,19 @@ def _level_rows(section: Section[LevelCount], grid: Grid) -> list[Row]:
 def detail_row(damage: DetailDamage) -> Row:
     """A detail; the limits hold for a range times the partial factor."""
     curve, printed = damage.detail.curve, damage.printed
+    unfactored = Curve(curve.kind, curve.category, gamma=100)
     return {
         "detail": damage.detail.name,
         "gauge": damage.detail.gauge,
         "kind": curve.kind.value,
         "category_n_mm2": curve.category,
         "factor": Decimal(curve.gamma).scaleb(-2),
-        "knee_n_mm2": _decimal(KNEE * curve.category) if curve.kind is Kind.NORMAL else None,
-        "cut_off_n_mm2": _decimal(_cut_off(curve)),
+        "knee_n_mm2": None if unfactored.knee is None else _decimal(unfactored.knee),
+        "cut_off_n_mm2": _decimal(unfactored.cut_off),
         "damage": Decimal(printed.billionths).scaleb(-9),
         "percent_of_life": Decimal(printed.billionths).scaleb(-7),
         "damage_exact": exact(printed.damage),
     }
-
-
-def _cut_off(curve: Curve) -> Fraction:
-    if curve.kind is Kind.SHEAR:
-        return SHEAR_CUT_OFF * curve.category
-    return NORMAL_CUT_OFF * KNEE * curve.category
 
 
 def _decimal(value: Fraction) -> Decimal:

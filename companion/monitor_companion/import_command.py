@@ -8,7 +8,7 @@ from monitor_companion.import_options import add_common, id_choice, request_of
 from monitor_companion.refusals import Status
 from monitor_companion.transfer import Command, transfer
 
-SUMMARY = "makes the recordings of a site from a logger's export"
+SUMMARY = "make the recordings of a site from a logger's export"
 
 
 def add_arguments(parser: ArgumentParser) -> None:

@@ -2,7 +2,6 @@
 
 from __future__ import annotations
 
-import argparse
 import re
 from argparse import ArgumentParser, ArgumentTypeError, Namespace
 from fractions import Fraction
@@ -13,6 +12,7 @@ from monitor_companion.profiles import built_in, check_time_format, read_step
 from monitor_companion.recording import GREATEST_PERIOD
 from monitor_companion.refusals import Place, Refusal
 from monitor_companion.request import Overrides, Request
+from monitor_companion.site import add_site_option
 
 PLACE = re.compile(r"#[1-9]\d{0,4}")
 ID = re.compile(r"[0-9a-f]{32}")
@@ -21,9 +21,7 @@ ID = re.compile(r"[0-9a-f]{32}")
 def add_common(parser: ArgumentParser) -> None:
     """The options of both commands."""
     parser.add_argument("export", metavar="EXPORT", type=Path, help="the logger's file")
-    parser.add_argument(
-        "--site", type=Path, default=Path("."), metavar="DIR", help="the folder of monitor.toml (.)"
-    )
+    add_site_option(parser)
     parser.add_argument(
         "--profile",
         metavar="NAME",
@@ -168,7 +166,7 @@ def time_format(text: str) -> str:
     try:
         check_time_format(text)
     except ValueError as error:
-        raise argparse.ArgumentTypeError(str(error)) from error
+        raise ArgumentTypeError(str(error)) from error
     return text
 
 

@@ -61,6 +61,10 @@ class Layout:
     columns: tuple[ColumnPlan, ...]
     time: TimePlan | None
 
+    def column_of(self, gauge: str) -> ColumnPlan:
+        """The column that goes to a gauge, which has one."""
+        return next(column for column in self.columns if column.wanted.gauge == gauge)
+
 
 @dataclass(frozen=True)
 class Candidate:

@@ -3,13 +3,13 @@
 from __future__ import annotations
 
 import argparse
-from pathlib import Path
 
 from monitor_companion.page_html import page_text
 from monitor_companion.refusals import Place, Refusal, Status
 from monitor_companion.report_output import STANDARD_OUTPUT, told_warnings, write_text
 from monitor_companion.report_reading import STANDARD_INPUT, read_series
 from monitor_companion.report_site import read_site
+from monitor_companion.site import add_site_option
 
 SUMMARY = "draw reports as one HTML page"
 
@@ -26,13 +26,7 @@ def add_arguments(parser: argparse.ArgumentParser) -> None:
         metavar="REPORT",
         help="a report, or - for standard input; several, the oldest first, for damage over time",
     )
-    parser.add_argument(
-        "--site",
-        type=Path,
-        default=Path(),
-        metavar="DIR",
-        help="the folder with monitor.toml (this folder where it is left out)",
-    )
+    add_site_option(parser)
     parser.add_argument(
         "-o",
         dest="output",

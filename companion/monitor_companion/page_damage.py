@@ -4,6 +4,7 @@ from __future__ import annotations
 
 from fractions import Fraction
 
+from monitor_companion.curves import Curve, RangeDamage
 from monitor_companion.page_svg import (
     HEIGHT,
     LEFT,
@@ -17,8 +18,8 @@ from monitor_companion.page_svg import (
 )
 from monitor_companion.page_text import fixed, grouped, percent_of_life, small_percent
 from monitor_companion.report_agreement import DetailDamage
-from monitor_companion.curves import Curve, RangeDamage
 from monitor_companion.site import Grid
+from monitor_companion.wording import counted
 
 BOTTOM = 262
 # Rows of the table; those that do less are added up in one row.
@@ -102,7 +103,7 @@ def _damage_table(damage: DetailDamage, total: Fraction) -> str:
     if others:
         rest = sum((row.damage for row in others), Fraction(0))
         cycles = sum((row.cycles for row in others), Fraction(0))
-        rows.append(_other_row(_several(len(others), "other"), cycles, rest, total))
+        rows.append(_other_row(counted(len(others), "other"), cycles, rest, total))
     below = [row for row in damage.ranges if not row.damage]
     if below:
         cycles = sum((row.cycles for row in below), Fraction(0))
@@ -125,10 +126,6 @@ def _row(row: RangeDamage, total: Fraction) -> str:
         f"<td>{endurance}</td><td>{small_percent(row.damage, LIFE_DECIMALS)}</td>"
         f"<td>{small_percent(row.damage / total, 1)}</td></tr>"
     )
-
-
-def _several(count: int, what: str) -> str:
-    return f"{count} {what}" + ("" if count == 1 else "s")
 
 
 def _other_row(words: str, cycles: Fraction, damage: Fraction, total: Fraction) -> str:

@@ -7,12 +7,13 @@ from monitor_companion.page_damage import damage_parts
 from monitor_companion.page_levels import level_figures
 from monitor_companion.page_spectrum import spectrum_figure
 from monitor_companion.page_style import STYLE
-from monitor_companion.page_summary import summary_section, worst_first
+from monitor_companion.page_summary import summary_section
 from monitor_companion.page_text import cycles_text, escaped, grouped, percent_of_life, stress_text
 from monitor_companion.page_time import time_section
 from monitor_companion.report import GaugeReport
 from monitor_companion.report_agreement import DetailDamage
 from monitor_companion.report_reading import Series
+from monitor_companion.wording import counted
 
 # Nothing may be fetched, whatever stands in the page.
 POLICY = "default-src 'none'; style-src 'unsafe-inline'; img-src data:"
@@ -35,7 +36,7 @@ def page_text(series: Series, title: str) -> str:
 def _header(series: Series, title: str) -> str:
     report = series.whole.report
     what = (
-        f"{_several(len(report.gauges), 'gauge')}, {_several(len(report.details), 'weld detail')}: "
+        f"{counted(len(report.gauges), 'gauge')}, {counted(len(report.details), 'weld detail')}: "
         "rainflow counting by ASTM E1049\u201185, damage by EN 1993-1-9:2005"
     )
     links = '<a href="#summary">Summary</a>'
@@ -50,10 +51,6 @@ def _header(series: Series, title: str) -> str:
     )
 
 
-def _several(count: int, what: str) -> str:
-    return f"{count} {what}" + ("" if count == 1 else "s")
-
-
 def _gauge_section(series: Series, gauge: GaugeReport) -> str:
     grid = series.site.grid
     cycles = cycles_text(sum(row.half_units for row in gauge.rainflow.rows))
@@ -61,8 +58,8 @@ def _gauge_section(series: Series, gauge: GaugeReport) -> str:
     if gauge.rainflow.rows:
         facts += f"; the greatest range is {stress_text(gauge.rainflow.rows[0].half_stress)} N/mm²"
     charts = "".join([spectrum_figure(gauge, series.site), *level_figures(gauge, grid)])
-    details = [each for each in series.whole.damages if each.detail.gauge == gauge.name]
-    parts = "".join(_detail_part(series, each) for each in worst_first(tuple(details)))
+    details = [each for each in series.worst_first if each.detail.gauge == gauge.name]
+    parts = "".join(_detail_part(series, each) for each in details)
     return (
         f'<section class="gauge" id="gauge-{gauge.name}"><h2>Gauge {escaped(gauge.name)}</h2>'
         f'<p class="facts">{facts}.</p><div class="charts">{charts}</div>{parts}</section>'

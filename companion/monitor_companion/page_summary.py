@@ -29,11 +29,6 @@ def summary_section(series: Series) -> str:
     )
 
 
-def worst_first(damages: tuple[DetailDamage, ...]) -> list[DetailDamage]:
-    """Details by their damage; equal ones stay in the order of the configuration."""
-    return sorted(damages, key=lambda each: -each.printed.damage)
-
-
 def _warnings(series: Series) -> str:
     lines = "".join(
         f"<li><b>{escaped(gauge.name)}</b>: {grouped(gauge.refused)} of {grouped(gauge.samples)} "
@@ -58,7 +53,7 @@ def _stress(stress: object) -> str:
 
 
 def _details_table(series: Series) -> str:
-    damages = worst_first(series.whole.damages)
+    damages = series.worst_first
     if not damages:
         return '<p class="note">The configuration has no weld detail.</p>'
     most = damages[0].printed.damage

@@ -40,8 +40,7 @@ def time_section(series: Series) -> str:
     if len(series.readings) < 2:
         return ""
     draw = _windows_figure if series.are_windows else _growth_figure
-    order = sorted(series.whole.damages, key=lambda each: -each.printed.damage)
-    charts = "".join(draw(series, each.detail.name) for each in order)
+    charts = "".join(draw(series, each.detail.name) for each in series.worst_first)
     what = (
         "Each bar is the damage of one window by itself. A cycle that is open where a window ends "
         "counts there as the half cycle that was seen; the sum of windows may differ from the "

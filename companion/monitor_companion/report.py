@@ -12,13 +12,13 @@ from fractions import Fraction
 from typing import Generic, NamedTuple, TypeVar
 
 from monitor_companion.refusals import Place, Refusal
+from monitor_companion.wording import shortened
 
 BILLION = 10**9
 MAX_FIGURE = 2**41
 MAX_GAUGES = 32
 MAX_DETAILS = 64
 MAX_CLASSES = 1024
-SHOWN_CELL = 60
 
 _NATURAL = r"(0|[1-9][0-9]{0,59})"
 _HALVED = r"(0|[1-9][0-9]{0,15})\.([05])"
@@ -170,11 +170,6 @@ class _Lines:
 def billionths_of(damage: Fraction) -> int:
     """A damage in billionths, rounded up, as the program rounds it."""
     return -(-damage * BILLION // 1)
-
-
-def shortened(text: str) -> str:
-    """A text that fits a line of a refusal."""
-    return text if len(text) <= SHOWN_CELL else text[: SHOWN_CELL - 3] + "..."
 
 
 def parse_report(content: bytes, file: str) -> Report:

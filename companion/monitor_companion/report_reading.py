@@ -51,6 +51,11 @@ class Series:
     are_windows: bool
     whole: Reading
 
+    @property
+    def worst_first(self) -> list[DetailDamage]:
+        """Details by their damage; equal ones stay in the order of the configuration."""
+        return sorted(self.whole.damages, key=lambda each: -each.printed.damage)
+
 
 def read_reading(name: str, site: ReportSite) -> Reading:
     """Reads a report from a file, or from standard input where the name is `-`, and checks it."""

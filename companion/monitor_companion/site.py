@@ -6,6 +6,7 @@ the first is what it tells.
 
 from __future__ import annotations
 
+import argparse
 import pathlib
 from collections.abc import Iterator, Mapping
 from dataclasses import dataclass, field
@@ -29,6 +30,17 @@ MAX_BLOCK, DEFAULT_BLOCK, MAX_WORKERS, DEFAULT_WORKERS = 4096, 1024, 8, 4
 
 # The line of each key of a table, and its own behind the empty key; None where it isn't known.
 Lines: TypeAlias = Mapping[str, int | None]
+
+
+def add_site_option(parser: argparse.ArgumentParser) -> None:
+    """The option that all commands have."""
+    parser.add_argument(
+        "--site",
+        type=pathlib.Path,
+        default=pathlib.Path(),
+        metavar="DIR",
+        help="the folder with monitor.toml (the current one)",
+    )
 
 
 def line_of(lines: Lines, key: str) -> int | None:

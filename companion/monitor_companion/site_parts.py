@@ -12,6 +12,7 @@ from monitor_companion.check_findings import Findings
 from monitor_companion.check_toml import Node
 from monitor_companion.curves import CATEGORIES, Kind
 from monitor_companion.refusals import Place
+from monitor_companion.wording import shortened
 
 CONFIG_STATUS = 2
 MAX_NAME, MAX_FILE_NAME = 32, 255
@@ -65,7 +66,7 @@ class Part:
         for other in self.node.members:
             if other not in words.KEYS[part] and words.meant_key(part, other) == key:
                 self._tell(
-                    "missing", key, f"{key} is missing, {words.cut(other)} is there", allowed
+                    "missing", key, f"{key} is missing, {shortened(other)} is there", allowed
                 )
                 return
         self._tell("missing", key, f"{key} is missing", allowed)
@@ -220,7 +221,7 @@ class Part:
 
     def tell_unknown(self, key: str, node: Node, title: str, meant: str | None) -> None:
         """Warns of a key that means nothing."""
-        shown = words.cut(key) if title else words.header_of(key, node.value)
+        shown = shortened(key) if title else words.header_of(key, node.value)
         front = f"{title}: " if title else ""
         kind = "part" if shown.startswith("[") else "key"
         tail = f"; {meant} was probably meant" if meant is not None else ""

@@ -9,11 +9,7 @@ from monitor_companion.delivery import Pass, Staged
 from monitor_companion.readings import text_of
 from monitor_companion.time_check import microseconds_text
 from monitor_companion.times import time_text
-
-
-def counted(number: int, what: str) -> str:
-    """A number with its noun: 1 row, 2 rows."""
-    return f"{number} {what}" if number == 1 else f"{number} {what}s"
+from monitor_companion.wording import counted
 
 
 def pass_lines(export: Path, found: Pass) -> list[str]:
@@ -52,7 +48,7 @@ def times_text(found: Pass) -> str:
 def staged_text(found: Pass, staged: Staged) -> str:
     """What a recording got."""
     entry, cells = staged.entry, staged.column.cells
-    plan = next(p for p in found.layout.columns if p.wanted.gauge == staged.target.gauge.name)
+    plan = found.layout.column_of(staged.target.gauge.name)
     text = (
         f"{staged.target.gauge.name}: column {plan.title!r} in steps of {entry.step}:"
         f" {counted(entry.rows, 'sample')}"
