@@ -49,23 +49,17 @@ def warn_meaning(site: Site, findings: Findings) -> None:
 
 def _warn_grid(site: Site, grid: Grid, findings: Findings) -> None:
     low, place = grid.low, site.place(line_of(grid.lines, "low"))
+    text = f"[grid]: low = {low}: {span_text(grid)}"
+    middle = f"low = {-grid.classes * grid.step // 2} puts 0 N/mm² in the middle"
     if 0 < abs(low) < KPA_PER_N_MM2:
         text = f"[grid]: low = {low} is {n_mm2(low)} N/mm², since it is in kPa"
         findings.warn_setup(place, f"{text}; low = {low * KPA_PER_N_MM2} was probably meant")
     elif low >= grid.step or grid.top <= -grid.step:
-        findings.warn_setup(
-            place, f"[grid]: low = {low}: {span_text(grid)}, and 0 N/mm² has no class"
-        )
+        findings.warn_setup(place, f"{text}, and 0 N/mm² has no class")
     elif low > -grid.step:
-        text = f"[grid]: low = {low}: {span_text(grid)}; stresses below are refused"
-        findings.warn_setup(
-            place, f"{text}; low = {-grid.classes * grid.step // 2} puts 0 N/mm² in the middle"
-        )
+        findings.warn_setup(place, f"{text}; stresses below are refused; {middle}")
     elif grid.top < 2 * grid.step:
-        text = f"[grid]: low = {low}: {span_text(grid)}; stresses above are refused"
-        findings.warn_setup(
-            place, f"{text}; low = {-grid.classes * grid.step // 2} puts 0 N/mm² in the middle"
-        )
+        findings.warn_setup(place, f"{text}; stresses above are refused; {middle}")
     if grid.classes < 8:
         text = f"[grid]: classes = {grid.classes} are very few; {span_text(grid)}"
         findings.warn_setup(site.place(line_of(grid.lines, "classes")), text)

@@ -59,11 +59,8 @@ def find_encoding(data: bytes, said: str, file: str) -> Encoding:
     known = ENCODING_NAMES.get(said)
     if known is not None:
         return known
-    marked = [e for e in Encoding if e.mark and data.startswith(e.mark)]
-    if marked:
-        found = marked[0]
-    else:
-        found = find_unmarked(data)
+    marked = (each for each in Encoding if each.mark and data.startswith(each.mark))
+    found = next(marked, None) or find_unmarked(data)
     if said == "utf-16" and not found.wide:
         raise Refusal(
             Place(file), "is no UTF-16: it has no mark and no zero bytes between characters"

@@ -126,10 +126,13 @@ class LayoutFinder:
             return [SEPARATORS[self._profile.separator]]
         return list(SEPARATORS.values())
 
+    def _dialect(self, separator: bytes) -> Dialect:
+        """The dialect of a separator, before its decimal mark is known."""
+        return Dialect(self._head.encoding, separator, b".", self._profile.quote.encode())
+
     def _candidate(self, separator: bytes) -> Candidate | Refusal:
         """The candidate of a separator, or why there is none."""
-        quote = self._profile.quote.encode()
-        dialect = Dialect(self._head.encoding, separator, b".", quote)
+        dialect = self._dialect(separator)
         try:
             names = self._names_row(dialect)
             behind = 0 if names is None else names.after
@@ -137,8 +140,7 @@ class LayoutFinder:
             rows = self._rows(dialect, first)
             if names is None and not rows:
                 raise self._refusal("has no row of readings")
-            width = len(rows[0].cells) if names is None else len(names.cells)
-            texts = [f"#{n + 1}" for n in range(width)] if names is None else self._texts(names)
+            texts = self._titles(names, rows)
             columns = tuple(self._column(want, texts, names) for want in self._wanted)
             return Candidate(dialect, names, first, units, rows, columns)
         except Refusal as refusal:
@@ -156,11 +158,8 @@ class LayoutFinder:
         if len(wide) > 1:
             if not any(self._fits(one) for one in wide):
                 return wide[0]
-            marks = [
-                name
-                for name, mark in SEPARATORS.items()
-                if mark in {w.dialect.separator for w in wide}
-            ]
+            fitting_marks = {one.dialect.separator for one in wide}
+            marks = [name for name, mark in SEPARATORS.items() if mark in fitting_marks]
             raise self._refusal(f"its cells may be parted by {' or '.join(marks)}: say --separator")
         return wide[0]
 
@@ -219,7 +218,9 @@ class LayoutFinder:
         """The row behind the last line that begins as the profile says."""
         begin = self._profile.names_after.encode(self._head.encoding.inner)
         places = [
-            n for n, line in enumerate(self._head.lines) if line.lstrip(b' "').startswith(begin)
+            place
+            for place, line in enumerate(self._head.lines)
+            if line.lstrip(b' "').startswith(begin)
         ]
         if not places:
             raise self._refusal(f"no line of its head begins with {self._profile.names_after!r}")
@@ -238,7 +239,7 @@ class LayoutFinder:
             row = row_at(self._head, dialect, place)
             if row is None or len(row.cells) <= max(places):
                 before = None
-            elif all(is_reading_like(row.cells[p], self._missing) for p in places):
+            elif all(is_reading_like(row.cells[at], self._missing) for at in places):
                 return before
             elif before is None or len(before.cells) != len(row.cells):
                 before = row
@@ -249,18 +250,21 @@ class LayoutFinder:
         for name in self._named:
             cells: list[str] = []
             for separator in self._separators():
-                dialect = Dialect(
-                    self._head.encoding, separator, b".", self._profile.quote.encode()
-                )
-                rows = [
-                    row_at(self._head, dialect, n) for n in range(min(100, len(self._head.lines)))
-                ]
-                cells += [text for row in rows if row is not None for text in self._texts(row)]
+                dialect = self._dialect(separator)
+                for place in range(min(100, len(self._head.lines))):
+                    row = row_at(self._head, dialect, place)
+                    cells += [] if row is None else self._texts(row)
             if not find_names(cells, name):
                 near = difflib.get_close_matches(name, cells, 1)
                 hint = f"; there is {near[0]!r}" if near else ""
                 return self._refusal(f"no row of its head has the column {name!r}{hint}")
         return self._refusal(f"no row of its head has all of the columns {', '.join(self._named)}")
+
+    def _titles(self, names: Row | None, rows: tuple[Row, ...]) -> list[str]:
+        """What the columns are called: their names, or their places where there are none."""
+        if names is not None:
+            return self._texts(names)
+        return [f"#{place + 1}" for place in range(len(rows[0].cells))]
 
     def _texts(self, row: Row) -> list[str]:
         """The cells of a row of names, as texts."""
@@ -350,14 +354,11 @@ class LayoutFinder:
 
     def _time(self, candidate: Candidate, dialect: Dialect) -> TimePlan | None:
         """The plan of the times, or None where there are none."""
-        if candidate.names is None:
-            texts = [f"#{place + 1}" for place in range(candidate.width)]
-        else:
-            texts = self._texts(candidate.names)
         units: list[bytes] = []
         if candidate.units:
             line = candidate.units[0].encode(self._head.encoding.inner, "replace")
             units = dialect.split(line)
         row = candidate.rows[0] if candidate.rows else None
-        rows = TimedRows(self._head.file, dialect, texts, units, row)
+        titles = self._titles(candidate.names, candidate.rows)
+        rows = TimedRows(self._head.file, dialect, titles, units, row)
         return find_times(rows, self._profile.time)

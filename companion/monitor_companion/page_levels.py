@@ -83,7 +83,8 @@ def _matrix_figure(gauge: GaugeReport, grid: Grid) -> str:
 
 def _shade_steps(most: int) -> list[int]:
     """The half units from which each shade on counts, in equal ratios from half a cycle on."""
-    ratio = next((r for r in (2, 3, 4, 6, 10, 20, 40, 100) if r**SHADES > most), 1000)
+    ratios = (2, 3, 4, 6, 10, 20, 40, 100)
+    ratio = next((ratio for ratio in ratios if ratio**SHADES > most), 1000)
     return [ratio**shade for shade in range(SHADES)]
 
 
@@ -94,7 +95,7 @@ def _draw_cells(
     paths: list[list[str]] = [[] for _ in steps]
     edge = number(size)
     for (lower, upper), half_units in sorted(cells.items()):
-        shade = max(n for n, step in enumerate(steps) if step <= half_units)
+        shade = max(place for place, step in enumerate(steps) if step <= half_units)
         x, y = LEFT + lower * size, MATRIX_BOTTOM - (upper + 1) * size
         paths[shade].append(f"M{x:.2f} {y:.2f}h{edge}v{edge}h-{edge}z")
     for shade, path in enumerate(paths):
@@ -130,7 +131,7 @@ def _count_scale(*sections: Section[LevelCount]) -> Scale:
     return Scale(LEAST_COUNT, high, LEFT, RIGHT, is_log=True)
 
 
-def _level_chart(gauge: GaugeReport, grid: Grid, chart: Chart, x_label: str) -> None:
+def _level_axes(chart: Chart, x_label: str) -> None:
     chart.axes(
         decade_ticks(chart.x.low, chart.x.high),
         round_ticks(chart.y.low, chart.y.high),
@@ -162,10 +163,10 @@ def _crossings_figure(gauge: GaugeReport, grid: Grid) -> str:
         y=_stress_axis(gauge, grid, BOTTOM, TOP),
         height=HEIGHT,
     )
-    _level_chart(gauge, grid, chart, "Crossings")
+    _level_axes(chart, "Crossings")
     half = grid.width / 4
     stresses = [(float(grid.stress(row.level)), row.times) for row in rows]
-    bars_to_right(chart, [(s - half, s + half, n) for s, n in stresses], "bar")
+    bars_to_right(chart, [(at - half, at + half, times) for at, times in stresses], "bar")
     _draw_reference(chart, grid)
     chart.baseline()
     note = (
@@ -185,7 +186,7 @@ def _extremes_figure(gauge: GaugeReport, grid: Grid) -> str:
         y=_stress_axis(gauge, grid, BOTTOM, TOP),
         height=HEIGHT,
     )
-    _level_chart(gauge, grid, chart, "Number")
+    _level_axes(chart, "Number")
     for section, kind in ((gauge.peaks, "bar"), (gauge.valleys, "bar valley")):
         bars = [
             (float(grid.stress(row.level)), float(grid.stress(row.level + 1)), row.times)

@@ -4,6 +4,7 @@ from __future__ import annotations
 
 import math
 from dataclasses import dataclass
+from itertools import cycle
 
 from monitor_companion.curves import KNEE_CYCLES, Curve
 from monitor_companion.page_svg import (
@@ -42,6 +43,11 @@ class DrawnCurve:
     dashes: str
     names: tuple[str, ...]
 
+    @property
+    def dash_attribute(self) -> str:
+        """What gives a line these dashes."""
+        return "" if self.dashes == "none" else f' stroke-dasharray="{self.dashes}"'
+
 
 def drawn_curves(details: list[Detail]) -> list[DrawnCurve]:
     """The different curves of a gauge's details, the one that bears least first."""
@@ -50,8 +56,8 @@ def drawn_curves(details: list[Detail]) -> list[DrawnCurve]:
         names.setdefault(detail.curve, []).append(detail.name)
     ordered = sorted(names, key=lambda curve: curve.cut_off)
     return [
-        DrawnCurve(curve, LETTERS[n % len(LETTERS)], DASHES[n % len(DASHES)], tuple(names[curve]))
-        for n, curve in enumerate(ordered)
+        DrawnCurve(curve, letter, dashes, tuple(names[curve]))
+        for curve, letter, dashes in zip(ordered, cycle(LETTERS), cycle(DASHES), strict=False)
     ]
 
 
@@ -73,8 +79,9 @@ def spectrum_figure(gauge: GaugeReport, site: ReportSite) -> str:
         "Cycles",
         "Stress range, N/mm²",
     )
-    bars = [(r.half_stress / 2, r.half_units / 2) for r in rows]
-    bars_to_right(chart, [(s - half_class, s + half_class, n) for s, n in bars], "bar")
+    bars = [(row.half_stress / 2, row.half_units / 2) for row in rows]
+    shown = [(stress - half_class, stress + half_class, cycles) for stress, cycles in bars]
+    bars_to_right(chart, shown, "bar")
     _draw_cumulated(chart, bars, half_class)
     for drawn in curves:
         _draw_curve(chart, drawn)
@@ -97,8 +104,8 @@ def _stress_scale(
     lowest = min([least] + [float(each.curve.cut_off) for each in curves])
     highest = max([row.half_stress / 2 for row in rows], default=10.0) + half_class
     highest = max([highest] + [_range_at(each.curve, FIRST_CYCLES) for each in curves])
-    low = max((v for v, _ in one_two_five_ticks(0.1, 1000) if v <= lowest), default=0.5)
-    high = min((v for v, _ in one_two_five_ticks(1, 10_000) if v >= highest), default=highest)
+    low = max((at for at, _ in one_two_five_ticks(0.1, 1000) if at <= lowest), default=0.5)
+    high = min((at for at, _ in one_two_five_ticks(1, 10_000) if at >= highest), default=highest)
     return Scale(low, high, BOTTOM, TOP, is_log=True)
 
 
@@ -134,10 +141,11 @@ def _draw_curve(chart: Chart, drawn: DrawnCurve) -> None:
     if curve.knee is not None:
         ends.insert(1, float(KNEE_CYCLES))
     points = [
-        (chart.x.within(n), chart.y.within(_range_at(curve, n))) for n in ends if n <= chart.x.high
+        (chart.x.within(cycles), chart.y.within(_range_at(curve, cycles)))
+        for cycles in ends
+        if cycles <= chart.x.high
     ]
-    dashes = "" if drawn.dashes == "none" else f' stroke-dasharray="{drawn.dashes}"'
-    chart.line(points, "curve", dashes)
+    chart.line(points, "curve", drawn.dash_attribute)
 
 
 def _draw_letters(chart: Chart, curves: list[DrawnCurve]) -> None:
@@ -163,10 +171,9 @@ def _note(curves: list[DrawnCurve]) -> str:
     if curves:
         text += " Lines with a letter: cycles that a detail bears, with its partial factor."
     for drawn in curves:
-        dashes = "" if drawn.dashes == "none" else f' stroke-dasharray="{drawn.dashes}"'
         text += (
-            f'<br><svg class="swatch" viewBox="0 0 34 8" aria-hidden="true">'
-            f'<path class="curve" d="M0 4H34"{dashes}/></svg> <b>{drawn.letter}</b> '
+            '<br><svg class="swatch" viewBox="0 0 34 8" aria-hidden="true">'
+            f'<path class="curve" d="M0 4H34"{drawn.dash_attribute}/></svg> <b>{drawn.letter}</b> '
             f"{escaped(', '.join(drawn.names))}: {escaped(drawn.curve.words)}"
         )
     return text

@@ -50,9 +50,9 @@ def round_ticks(low: float, high: float, about: int = 6) -> list[tuple[float, st
     """Ticks at round numbers between two values, about so many."""
     rough = (high - low) / about
     decade: float = 10.0 ** math.floor(math.log10(rough))
-    step = next(s * decade for s in (1, 2, 5, 10) if s * decade >= rough * 0.999)
+    step = next(each * decade for each in (1, 2, 5, 10) if each * decade >= rough * 0.999)
     first, last = math.ceil(low / step - 1e-9), math.floor(high / step + 1e-9)
-    return [(n * step, round_text(n * step, step)) for n in range(first, last + 1)]
+    return [(at * step, round_text(at * step, step)) for at in range(first, last + 1)]
 
 
 def round_text(value: float, step: float) -> str:
@@ -69,15 +69,16 @@ def decade_ticks(low: float, high: float, most: int = 10) -> list[tuple[float, s
     first, last = math.ceil(math.log10(low) - 1e-9), math.floor(math.log10(high) + 1e-9)
     labelled = 1 + (last - first) // most
     return [
-        (10.0**n, power_of_ten(n) if n % labelled == 0 else "") for n in range(first, last + 1)
+        (10.0**power, power_of_ten(power) if power % labelled == 0 else "")
+        for power in range(first, last + 1)
     ]
 
 
 def one_two_five_ticks(low: float, high: float) -> list[tuple[float, str]]:
     """Ticks at 1, 2 and 5 times the powers of ten between two values."""
     decades = range(math.floor(math.log10(low)), math.ceil(math.log10(high)) + 1)
-    values = [step * 10.0**n for n in decades for step in (1, 2, 5)]
-    return [(v, plain(round(v, 9))) for v in values if low * 0.999 <= v <= high * 1.001]
+    values = [step * 10.0**power for power in decades for step in (1, 2, 5)]
+    return [(at, plain(round(at, 9))) for at in values if low * 0.999 <= at <= high * 1.001]
 
 
 def number(value: float) -> str:

@@ -123,6 +123,6 @@ def _extremes(
     for end in ends:
         (tops if end.is_top else bottoms)[end.level] -= 1
     return (
-        {level: n // 2 for level, n in tops.items() if level >= reference and n > 0},
-        {level: n // 2 for level, n in bottoms.items() if level < reference and n > 0},
+        {level: units // 2 for level, units in tops.items() if level >= reference and units > 0},
+        {level: units // 2 for level, units in bottoms.items() if level < reference and units > 0},
     )
