@@ -18,7 +18,6 @@ from datetime import datetime, timedelta
 from decimal import Decimal
 from pathlib import Path
 
-GAUGES = ("span", "pier")
 ROWS = 400
 BIG_ROWS = 6_000_000
 

@@ -36,9 +36,10 @@ class Browser:
         self.told: list[str] = []
         self.asked: list[str] = []
         self._number = 0
-        self._folder = tempfile.TemporaryDirectory()
         self._rest = b""
-        self._process = self._start(browser_path())
+        path = browser_path()
+        self._folder = tempfile.TemporaryDirectory()
+        self._process = self._start(path)
         target = self.call("Target.createTarget", url="about:blank")["targetId"]
         attached = self.call("Target.attachToTarget", targetId=target, flatten=True)
         self._session: str | None = attached["sessionId"]

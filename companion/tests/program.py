@@ -8,14 +8,16 @@ import subprocess
 import unittest
 
 ROOT = pathlib.Path(__file__).resolve().parents[2]
+COMPANION = ROOT / "companion"
 BUILT = ROOT / "crates" / "monitor_main" / "out" / "monitor_main"
 
 
 def program() -> pathlib.Path:
-    """Returns the built program (MONITOR_PROGRAM names another); skips the test where there is none."""
+    """Returns the built program, or the one of MONITOR_PROGRAM; skips the test without one."""
     path = pathlib.Path(os.environ.get("MONITOR_PROGRAM", BUILT))
     if not path.is_file():
-        raise unittest.SkipTest(f"the program isn't built: there is no {path.name} (./monitor builds it)")
+        why = f"the program isn't built: there is no {path.name} (./monitor builds it)"
+        raise unittest.SkipTest(why)
     return path
 
 

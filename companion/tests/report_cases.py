@@ -2,13 +2,10 @@
 
 from __future__ import annotations
 
-import argparse
-import importlib
 import importlib.util
 import pathlib
 import random
 import struct
-import sys
 import tempfile
 import tomllib
 import unittest
@@ -16,7 +13,7 @@ from dataclasses import dataclass
 from functools import cached_property, lru_cache
 from typing import Any
 
-from monitor_companion.refusals import Refusal, Status
+from monitor_companion.__main__ import main
 from tests.program import ROOT
 
 BRIDGE = ROOT / "examples" / "bridge"
@@ -134,12 +131,5 @@ def random_case(chance: random.Random, samples: int = 200) -> Case:
 
 
 def run_command(command: str, *words: object) -> int:
-    """The status of a command in this process; a refusal is told as the command line tells it."""
-    module = importlib.import_module(f"monitor_companion.{command}_command")
-    parser = argparse.ArgumentParser()
-    module.add_arguments(parser)
-    try:
-        return int(module.run(parser.parse_args([str(word) for word in words])))
-    except Refusal as refusal:
-        print(f"monitor-companion: {refusal}", file=sys.stderr)
-        return int(Status.REFUSED)
+    """The status of a command line in this process."""
+    return main([command, *map(str, words)])

@@ -21,11 +21,11 @@ from monitor_companion.refusals import Status
 
 from tests import program
 from tests.importing import SiteTest
+from tests.program import COMPANION
 
 KILLS = int(os.environ.get("MONITOR_KILLS", "6"))
 SEED = int(os.environ.get("MONITOR_KILLS_SEED", "1"))
 ROWS = 1500
-COMPANION = Path(__file__).resolve().parents[1]
 
 
 def export(day: int) -> str:

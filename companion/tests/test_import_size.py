@@ -13,15 +13,14 @@ import resource
 import subprocess
 import sys
 import time
-from pathlib import Path
 from unittest import mock
 
 from monitor_companion.progress import Progress
 
 from tests.importing import SiteTest, read_samples
 from tests.make_exports import BIG_ROWS, write_big
+from tests.program import COMPANION
 
-COMPANION = Path(__file__).resolve().parents[1]
 MOST_SECONDS = 30
 MOST_MEGABYTES = 300
 

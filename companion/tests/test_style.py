@@ -2,12 +2,12 @@
 
 from __future__ import annotations
 
-import pathlib
 import shutil
 import subprocess
 import unittest
 
-COMPANION = pathlib.Path(__file__).resolve().parents[1]
+from tests.program import COMPANION
+
 PACKAGE = COMPANION / "monitor_companion"
 MODULE_LINES = 400
 
