@@ -130,9 +130,7 @@ def _scan_all(checked: Checked, site: Site, limit: int | None) -> None:
             checked.readings[recording.gauge.number] = scan(recording, site.grid, limit)
         except OSError as error:
             place = site.place(recording.gauge.lines.get("file"))
-            text = (
-                f"{recording.gauge.title}: {recording.gauge.file} can't be read: {error.strerror}"
-            )
+            text = f"{recording.gauge.front} can't be read: {error.strerror}"
             checked.findings.fault(place, text, 6, READ_FAULT)
 
 

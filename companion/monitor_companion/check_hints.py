@@ -109,7 +109,7 @@ def _meant_gain(number: Decimal) -> str:
 
 def meant_width(value: int, classes: int | None) -> str:
     """Returns the width that was probably meant by one that is too great."""
-    if value > 0 and value % KPA_PER_STEP == 0 and value >= KPA_PER_STEP:
+    if value > 0 and value % KPA_PER_STEP == 0:
         return f"width = {value // KPA_PER_STEP} ({value} kPa in steps of 500 kPa)"
     if classes is not None and 1 <= value <= 2000:
         return f"with width = {value} classes is at most {2000 // value + 1}"
@@ -123,7 +123,7 @@ def meant_kpa(key: str, value: int) -> str:
     return ""
 
 
-def meant_reference(value: int, classes: int | None, width: int | None, low: int | None) -> str:
+def meant_reference(classes: int | None, width: int | None, low: int | None) -> str:
     """Returns the boundary at 0 N/mm², where the grid has one."""
     if classes is None or width is None or low is None:
         return ""

@@ -116,7 +116,7 @@ def _warn_gauge(
 ) -> None:
     facts = readings[gauge.number]
     place = site.place(line_of(gauge.lines, "file"))
-    front = f"{gauge.title}: {gauge.file}"
+    front = gauge.front
     if not facts.samples:
         findings.warn(place, f"{front} has no samples")
         return

@@ -45,16 +45,12 @@ def _place(site: Site, recording: Recording) -> Place:
     return site.place(recording.gauge.lines.get("file"))
 
 
-def _front(recording: Recording) -> str:
-    return f"{recording.gauge.title}: {recording.gauge.file}"
-
-
 def _tell_head(
     site: Site, recording: Recording, recordings: Sequence[Recording], findings: Findings
 ) -> None:
     fault = recording.fault
     assert fault is not None
-    text = f"{_front(recording)} {fault.text}"
+    text = f"{recording.gauge.front} {fault.text}"
     if fault.told == READ_FAULT:
         text += _meant_file(recording, recordings)
         findings.fault(_place(site, recording), text, fault.status, READ_FAULT)
@@ -98,7 +94,7 @@ def _tell_other(
     """Tells where the recording is not the one that the store was made for."""
     name = recording.gauge.name
     if recording.id != kept.id:
-        text = f"{_front(recording)} has the id {recording.id.hex()}"
+        text = f"{recording.gauge.front} has the id {recording.id.hex()}"
         text += f", but monitor.store was made for {kept.id.hex()}"
         if order:
             text += f"; {order}"
@@ -108,7 +104,7 @@ def _tell_other(
         findings.fault(_place(site, recording), text, RECORDING_STATUS, told)
     if recording.period != kept.period:
         text = (
-            f"{_front(recording)} has a period of {recording.period} µs,"
+            f"{recording.gauge.front} has a period of {recording.period} µs,"
             f" but monitor.store was made for {kept.period} µs;"
             f" put that recording in its place, or {NEW_STORE}"
         )
@@ -118,7 +114,7 @@ def _tell_other(
 
 def _tell_fewer(site: Site, recording: Recording, held: int, findings: Findings) -> None:
     text = (
-        f"{_front(recording)} has {recording.samples} samples,"
+        f"{recording.gauge.front} has {recording.samples} samples,"
         f" but {held} are held in monitor.store; a recording may only grow: put the longer one back"
     )
     told = f"recording {recording.gauge.name}: {held} held, {recording.samples} there"
@@ -128,14 +124,14 @@ def _tell_fewer(site: Site, recording: Recording, held: int, findings: Findings)
 def _tell_end(site: Site, recording: Recording, findings: Findings) -> None:
     name = recording.gauge.name
     if recording.samples > MOST_SAMPLES:
-        text = f"{_front(recording)} has {recording.samples} samples"
+        text = f"{recording.gauge.front} has {recording.samples} samples"
         text += f"; allowed are {MOST_SAMPLES}: begin a new one"
         findings.fault(
             _place(site, recording), text, TOO_LONG_STATUS, f"recording {name}: too long"
         )
     elif recording.odd_bytes:
         odd = recording.odd_bytes
-        text = f"{_front(recording)} ends with {odd} of the 4 bytes of a sample"
+        text = f"{recording.gauge.front} ends with {odd} of the 4 bytes of a sample"
         text += "; wait until the rest is written"
         told = f"recording {name}: ends in {odd} odd bytes"
         findings.fault(_place(site, recording), text, TORN_STATUS, told)
@@ -163,7 +159,7 @@ def _note_shorter(site: Site, recordings: Sequence[Recording], findings: Finding
         alike = [other for other in recordings if other.period == recording.period]
         longest = max(alike, key=lambda other: other.samples)
         if 0 < recording.samples * 10 <= longest.samples * 9:
-            text = f"{_front(recording)} has {recording.samples} samples"
+            text = f"{recording.gauge.front} has {recording.samples} samples"
             other = f"{longest.gauge.file} {longest.samples}"
             findings.note(_place(site, recording), f"{text}, {other}")
 
@@ -175,13 +171,13 @@ def _warn_shared(site: Site, recordings: Sequence[Recording], findings: Findings
         if recording.identity is not None:
             first = files.setdefault(recording.identity, recording)
             if first is not recording:
-                text = f"{_front(recording)} is the recording of {first.gauge.title} too"
+                text = f"{recording.gauge.front} is the recording of {first.gauge.title} too"
                 findings.warn(_place(site, recording), text)
                 continue
         other = ids.setdefault(recording.id, recording)
         if other is not recording:
             text = (
-                f"{_front(recording)} has the id {recording.id.hex()} of {other.gauge.title}"
+                f"{recording.gauge.front} has the id {recording.id.hex()} of {other.gauge.title}"
                 f" ({other.gauge.file}); each recording has an id of its own"
             )
             findings.warn(_place(site, recording), text)
@@ -189,7 +185,7 @@ def _warn_shared(site: Site, recordings: Sequence[Recording], findings: Findings
 
 def _warn_period(site: Site, recording: Recording, findings: Findings) -> None:
     period = recording.period
-    text = f"{_front(recording)} has a period of {period} µs"
+    text = f"{recording.gauge.front} has a period of {period} µs"
     if period == 0:
         findings.warn(_place(site, recording), f"{text}; 50000 µs are 20 samples a second")
     elif period < 100:

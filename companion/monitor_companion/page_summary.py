@@ -2,6 +2,7 @@
 
 from __future__ import annotations
 
+from decimal import Decimal
 from fractions import Fraction
 
 from monitor_companion.page_text import (
@@ -47,8 +48,8 @@ def _warnings(series: Series) -> str:
     )
 
 
-def _stress(stress: object) -> str:
-    value = Fraction(str(stress))
+def _stress(stress: Decimal) -> str:
+    value = Fraction(stress)
     return fixed(value, 0 if value.denominator == 1 else 3)
 
 

@@ -96,6 +96,11 @@ class Gauge:
         return f'gauge {self.number} "{self.name}"'
 
     @property
+    def front(self) -> str:
+        """What findings of its recording begin with."""
+        return f"{self.title}: {self.file}"
+
+    @property
     def recording(self) -> pathlib.Path:
         """Where its file is."""
         return self.folder / self.file
@@ -252,7 +257,7 @@ def _grid(root: Part) -> Grid | None:
     low = part.whole("low", -MAX_KPA, MAX_KPA, meant=lambda value: hints.meant_kpa("low", value))
     most = classes - 1 if classes is not None else MAX_CLASSES - 1
     reference = part.whole(
-        "reference", 1, most, meant=lambda value: hints.meant_reference(value, classes, width, low)
+        "reference", 1, most, meant=lambda value: hints.meant_reference(classes, width, low)
     )
     if classes is None or width is None or low is None or reference is None:
         return None
