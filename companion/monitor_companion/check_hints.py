@@ -9,7 +9,7 @@ from collections.abc import Sequence
 from decimal import Decimal
 from fractions import Fraction
 
-from monitor_companion.wording import shortened
+from monitor_companion.wording import decimal_text, shortened
 
 KPA_PER_STEP = 500
 
@@ -44,12 +44,6 @@ def kind_of(value: object) -> str:
     if isinstance(value, datetime.date | datetime.time):
         return "a date or time"
     return "a table"
-
-
-def plain(number: Decimal) -> str:
-    """Returns a number without an exponent and without zeros at its end."""
-    text = f"{number:f}"
-    return text.rstrip("0").rstrip(".") if "." in text else text
 
 
 def number_of(value: object) -> Decimal | None:
@@ -89,9 +83,9 @@ def _meant_in_units(key: str, number: Decimal) -> str:
     if key == "gamma" and number < 10 and _whole(number * 100) is not None:
         return f"gamma = {int(number * 100)} (hundredths)"
     if key in ("low", "offset") and 0 < abs(number) < 1000 and _whole(number * 1000) is not None:
-        return f"{key} = {int(number * 1000)} ({plain(number)} N/mm² in kPa)"
+        return f"{key} = {int(number * 1000)} ({decimal_text(Fraction(number))} N/mm² in kPa)"
     if key == "width" and number > 0 and _whole(number * 2) is not None:
-        return f"width = {int(number * 2)} ({plain(number)} N/mm² in steps of 0.5 N/mm²)"
+        return f"width = {int(number * 2)} ({decimal_text(Fraction(number))} N/mm² in steps of 0.5 N/mm²)"
     if key == "num" and _whole(number) is None:
         return _meant_gain(number)
     return ""
@@ -100,7 +94,7 @@ def _meant_in_units(key: str, number: Decimal) -> str:
 def _meant_gain(number: Decimal) -> str:
     """Returns numerator and denominator of a gain; a small one of steel is probably in N/mm²."""
     if Decimal("0.15") <= abs(number) <= Decimal("0.25") and _whole(number * 1000) is not None:
-        return f"num = {int(number * 1000)} ({plain(number)} N/mm² a step in kPa)"
+        return f"num = {int(number * 1000)} ({decimal_text(Fraction(number))} N/mm² a step in kPa)"
     gain = Fraction(number)
     if gain.denominator <= 10**6:
         return f"num = {gain.numerator} and den = {gain.denominator}"

@@ -9,6 +9,7 @@ from monitor_companion.check_findings import Findings
 from monitor_companion.check_hints import KPA_PER_STEP
 from monitor_companion.curves import Curve
 from monitor_companion.site import MAX_SPAN, Detail, Gauge, Grid, Site, line_of
+from monitor_companion.wording import thousandths_text
 
 # a step of the logger over so many classes leaves most of them empty
 MANY_CLASSES = 4
@@ -19,10 +20,7 @@ KPA_PER_N_MM2 = 1000
 
 def n_mm2(kpa: int | Fraction) -> str:
     """Returns a stress in N/mm², exactly where three decimals hold it."""
-    thousandths = round(Fraction(kpa))
-    sign, whole = "-" if thousandths < 0 else "", abs(thousandths)
-    text = f"{whole // KPA_PER_N_MM2}.{whole % KPA_PER_N_MM2:03}".rstrip("0").rstrip(".")
-    return f"{sign}{text}"
+    return thousandths_text(Fraction(kpa, KPA_PER_N_MM2))
 
 
 def span_text(grid: Grid) -> str:

@@ -24,12 +24,13 @@ from monitor_companion.journal import (
     begin_journal,
     journal_path,
     sync_folder,
+    write_beside,
 )
 from monitor_companion.layout import Layout, find_layout
 from monitor_companion.pieces import Mark
 from monitor_companion.profiles import Profile
 from monitor_companion.progress import Progress
-from monitor_companion.readings import missing_spellings, text_of
+from monitor_companion.readings import missing_spellings
 from monitor_companion.recording import HEAD_BYTES, MOST_SAMPLES, SAMPLE_BYTES, Head
 from monitor_companion.refusals import Place, Refusal
 from monitor_companion.request import Request
@@ -37,6 +38,7 @@ from monitor_companion.rows import ColumnRead, RowReader, RowsRead
 from monitor_companion.targets import Target
 from monitor_companion.time_check import MICROSECOND
 from monitor_companion.times import TimeKind, time_from_text, time_text
+from monitor_companion.wording import decimal_text
 
 COPY = 1_048_576
 
@@ -182,7 +184,7 @@ class Delivery:
             first=time_text(times.first, times.kind) if times and times.first is not None else "",
             last=time_text(times.last, times.kind) if times and times.last is not None else "",
             column=plan.wanted.column,
-            step=text_of(plan.wanted.step),
+            step=decimal_text(plan.wanted.step),
             profile=self._profile.name,
         )
 
@@ -229,13 +231,7 @@ def spool_beside(recording: Path) -> IO[bytes]:
 
 def make_recording(path: Path, owner: Owner) -> None:
     """Makes a recording without samples, whole or not at all; one that is there stays."""
-    making = path.with_name(path.name + ".new")
-    # One that a stop left may be a second name of a recording that was put elsewhere meanwhile.
-    making.unlink(missing_ok=True)
-    with making.open("xb") as file:
-        file.write(Head(bytes.fromhex(owner.id), owner.period).to_bytes())
-        file.flush()
-        os.fsync(file.fileno())
+    making = write_beside(path, Head(bytes.fromhex(owner.id), owner.period).to_bytes())
     try:
         os.link(making, path)
         making.unlink()

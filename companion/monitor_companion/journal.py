@@ -150,17 +150,23 @@ def sync_folder(path: Path) -> None:
         os.close(descriptor)
 
 
-def begin_journal(path: Path, owner: Owner, entries: tuple[Entry, ...]) -> Journal:
-    """Makes a journal, whole or not at all; one that has no whole line gives its place."""
-    data = line_of({"journal": VERSION, **asdict(owner)})
-    data += b"".join(line_of(asdict(entry)) for entry in entries)
+def write_beside(path: Path, data: bytes) -> Path:
+    """Writes and syncs a new file beside a place, where it can be put whole. Returns its name."""
     making = path.with_name(path.name + ".new")
+    # One that a stop left may be a second name of a file that was put elsewhere meanwhile.
     making.unlink(missing_ok=True)
     with making.open("xb") as file:
         file.write(data)
         file.flush()
         os.fsync(file.fileno())
-    making.replace(path)
+    return making
+
+
+def begin_journal(path: Path, owner: Owner, entries: tuple[Entry, ...]) -> Journal:
+    """Makes a journal, whole or not at all; one that has no whole line gives its place."""
+    data = line_of({"journal": VERSION, **asdict(owner)})
+    data += b"".join(line_of(asdict(entry)) for entry in entries)
+    write_beside(path, data).replace(path)
     sync_folder(path.parent)
     return Journal(path, owner, entries, len(data))
 

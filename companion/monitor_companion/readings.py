@@ -11,6 +11,7 @@ from fractions import Fraction
 from operator import itemgetter
 
 from monitor_companion.recording import GREATEST, LEAST, MISSING
+from monitor_companion.wording import decimal_text
 
 NUMBER = re.compile(rb"([+-]?)(\d*)(?:\.(\d*))?(?:[eE]([+-]?\d{1,3}))?")
 LONGEST_CELL = 60
@@ -161,13 +162,13 @@ class SampleCells(dict[bytes, int]):
         if rest:
             raw = self._round(cell, above, below)
         if not LEAST <= raw <= GREATEST:
-            raise CellFault(f"is {raw} steps of {text_of(self._step)}, too many for a recording")
+            raise CellFault(f"is {raw} steps of {decimal_text(self._step)}, too many for a recording")
         return raw
 
     def _round(self, cell: bytes, above: int, below: int) -> int:
         """The nearest whole number of steps, the even one of two; refused unless rounding is on."""
         if not self._rounding:
-            raise CellFault(f"is no whole number of steps of {text_of(self._step)}")
+            raise CellFault(f"is no whole number of steps of {decimal_text(self._step)}")
         exact = Fraction(above, below)
         nearest: int = round(exact)
         self._inexact.add(cell)
@@ -247,18 +248,3 @@ def suspects_of(step: Fraction) -> tuple[tuple[int, int], ...]:
         for reading, raw in found
         if raw.denominator == 1 and LEAST <= raw <= GREATEST
     )
-
-
-def text_of(number: Fraction) -> str:
-    """A number as a decimal where it has an end, else as a fraction."""
-    denominator, twos, fives = number.denominator, 0, 0
-    while denominator % 2 == 0:
-        denominator, twos = denominator // 2, twos + 1
-    while denominator % 5 == 0:
-        denominator, fives = denominator // 5, fives + 1
-    if denominator != 1:
-        return f"{number.numerator}/{number.denominator}"
-    places = max(twos, fives)
-    digits = str(abs(number.numerator) * 10**places // number.denominator).rjust(places + 1, "0")
-    sign = "-" if number < 0 else ""
-    return sign + (digits if places == 0 else f"{digits[:-places]}.{digits[-places:]}")

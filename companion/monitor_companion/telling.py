@@ -6,10 +6,9 @@ from fractions import Fraction
 from pathlib import Path
 
 from monitor_companion.delivery import Pass, Staged
-from monitor_companion.readings import text_of
-from monitor_companion.time_check import microseconds_text
+from monitor_companion.time_check import MICROSECOND
 from monitor_companion.times import time_text
-from monitor_companion.wording import counted
+from monitor_companion.wording import counted, decimal_text, thousandths_text
 
 
 def pass_lines(export: Path, found: Pass) -> list[str]:
@@ -41,7 +40,8 @@ def times_text(found: Pass) -> str:
     first, last = (time_text(time, times.kind) for time in (times.first, times.last))
     text = f"{rows} from {first} to {last} by {times.column}, period {found.period} µs"
     if times.jitter:
-        text += f" (steps differ by up to {microseconds_text(Fraction(times.jitter))} µs)"
+        most = thousandths_text(Fraction(times.jitter, MICROSECOND))
+        text += f" (steps differ by up to {most} µs)"
     return f"{text}, {times.fault_text() if times.faults else 'no gaps, no repeated rows'}"
 
 
@@ -57,7 +57,7 @@ def staged_text(found: Pass, staged: Staged) -> str:
         parts = [f"{spelling!r} {count}" for spelling, count in sorted(cells.spellings.items())]
         text += f", {cells.missing} without reading ({', '.join(parts)})"
     if cells.rounded:
-        text += f", {cells.rounded} rounded by up to {text_of(cells.furthest)}"
+        text += f", {cells.rounded} rounded by up to {decimal_text(cells.furthest)}"
     return f"{text}; {staged.target.gauge.recording.name} has {entry.end}"
 
 

@@ -11,6 +11,7 @@ from fractions import Fraction
 from monitor_companion.recording import GREATEST_PERIOD
 from monitor_companion.refusals import Place, Refusal
 from monitor_companion.times import TimeKind, time_text
+from monitor_companion.wording import thousandths_text
 
 MICROSECOND = 1000
 SHOWN = 3
@@ -161,13 +162,8 @@ class TimeCheck:
         rounding = 2 * self.jitter + MICROSECOND
         room = wanted / 500 + (rounding if self.faults else rounding / (self.rows - 1))
         if abs(measured - wanted) > room:
+            every = thousandths_text(measured / MICROSECOND)
             raise Refusal(
                 Place(self.file, None, self.column),
-                f"its rows come every {microseconds_text(measured)} µs, and not every {period}",
+                f"its rows come every {every} µs, and not every {period}",
             )
-
-
-def microseconds_text(time: Fraction) -> str:
-    """Nanoseconds as microseconds, with up to three decimals."""
-    whole, part = divmod(round(time), MICROSECOND)
-    return f"{whole}.{part:03}".rstrip("0").rstrip(".") if part else str(whole)
