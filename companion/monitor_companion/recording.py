@@ -59,9 +59,7 @@ def head_of(data: bytes) -> Head | HeadFault:
     if not data.startswith(MAGIC):
         return HeadFault(f"doesn't begin with SGRC{_meant(data)}", "no SGRC")
     if data[4] != VERSION:
-        return HeadFault(
-            f"is of version {data[4]}; allowed is {VERSION}", f"version {data[4]}"
-        )
+        return HeadFault(f"is of version {data[4]}; allowed is {VERSION}", f"version {data[4]}")
     for place in (5, 6, 7, 28, 29, 30, 31):
         if data[place]:
             text = f"has {data[place]:02x} in byte {place}, which is 0 in a recording"

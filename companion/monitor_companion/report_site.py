@@ -6,9 +6,8 @@ from dataclasses import dataclass
 from pathlib import Path
 
 from monitor_companion.check_findings import Findings
+from monitor_companion.check_heads import read_heads
 from monitor_companion.check_store import check_store, load_store
-from monitor_companion.recording import read_head
-from monitor_companion.refusals import Refusal
 from monitor_companion.site import Detail, Gauge, Grid, check_site
 
 
@@ -41,22 +40,15 @@ def read_site(folder: Path) -> ReportSite:
     site = check_site(folder, findings)
     findings.refuse()
     assert site is not None and site.grid is not None
+    recordings = read_heads(site)
     store = load_store(folder, findings, with_bodies=False)
     if store is not None:
-        check_store(store, site, (), findings)
+        check_store(store, site, recordings, findings)
     findings.refuse()
     periods: tuple[int | None, ...]
     if store is not None and store.head is not None:
         periods = tuple(gauge.period for gauge in store.head.gauges)
     else:
-        periods = tuple(_recording_period(gauge.recording) for gauge in site.gauges)
+        periods = tuple(None if each.fault else each.period for each in recordings)
     file = str(site.path)
     return ReportSite(file, site.grid, site.gauges, site.details, periods, store is not None)
-
-
-def _recording_period(path: Path) -> int | None:
-    """The period that a recording's head says, or None where there is no such recording."""
-    try:
-        return read_head(path).period
-    except (OSError, Refusal):
-        return None

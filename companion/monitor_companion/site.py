@@ -152,7 +152,7 @@ def read_gauges(folder: pathlib.Path) -> tuple[Gauge, ...]:
     """
     findings = Findings()
     root = _root(folder, findings)
-    gauges = [] if root is None else _gauges(root, folder, with_gains=False)[0]
+    gauges = [] if root is None else _gauges(root, with_gains=False)[0]
     findings.refuse()
     return tuple(gauges)
 
@@ -164,7 +164,7 @@ def check_site(folder: pathlib.Path, findings: Findings) -> Site | None:
         return None
     grid = _grid(root)
     block = _block(root)
-    gauges, gauge_names = _gauges(root, folder, with_gains=True)
+    gauges, gauge_names = _gauges(root, with_gains=True)
     details = _details(root, gauge_names)
     _tell_unknown(root)
     return Site(
@@ -191,9 +191,9 @@ def _root(folder: pathlib.Path, findings: Findings) -> Part | None:
         with path.open("rb") as file:
             content = file.read(MAX_BYTES + 1)
     except OSError as error:
-        missing = isinstance(error, FileNotFoundError)
-        text = "isn't there: --site names the folder that has it"
-        text = text if missing else f"can't be read: {error.strerror}"
+        text = f"can't be read: {error.strerror}"
+        if isinstance(error, FileNotFoundError):
+            text = "isn't there: --site names the folder that has it"
         findings.fault(place, text, 6, "read fault")
         return None
     if len(content) > MAX_BYTES:
@@ -312,10 +312,9 @@ def _title(part: str, number: int, table: Node) -> str:
     return f"{part} {number}{name}"
 
 
-def _gauges(
-    root: Part, folder: pathlib.Path, *, with_gains: bool
-) -> tuple[list[Gauge], TakenNames]:
+def _gauges(root: Part, *, with_gains: bool) -> tuple[list[Gauge], TakenNames]:
     """Returns the sound gauges, and all names that a gauge has."""
+    folder = pathlib.Path(root.file).parent
     gauges: list[Gauge] = []
     names: TakenNames = {}
     for number, part in _several(root, "gauge", 1, MAX_GAUGES):

@@ -3,6 +3,7 @@
 from __future__ import annotations
 
 import itertools
+import os
 import random
 import unittest
 from fractions import Fraction
@@ -351,6 +352,11 @@ class Site(unittest.TestCase):
         self.assertEqual(read_site(folder).periods, (10_000,))
         (folder / "north.sgrc").write_bytes(b"SGRX" + model.recording([1])[4:])
         self.assertEqual(read_site(folder).periods, (None,))
+        (folder / "north.sgrc").unlink()
+        os.mkfifo(folder / "north.sgrc")
+        self.assertEqual(read_site(folder).periods, (None,))
+        (folder / "monitor.store").touch()
+        self.assertFalse(read_site(folder).has_store)
         self.assertEqual(read_site(BRIDGE).periods, (50_000,) * 3)
 
     def test_store_of_another_configuration(self) -> None:
