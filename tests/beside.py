@@ -15,7 +15,6 @@ What is expected comes from an independent count (model.py). Last line: beside: 
 import fcntl
 import os
 import random
-import re
 import subprocess
 import sys
 import tempfile
@@ -25,11 +24,10 @@ import time
 # No folder is made in the checkout.
 sys.dont_write_bytecode = True
 
-from model import Count, Grid, recording, repeat, report
+from model import Count, recording, repeat, report
+from trial import GAIN, GRID, Trial, held, other_lines, read, samples
 
 IN_USE = "monitor: monitor.store: in use by another monitor\nstation fault\n"
-GRID = Grid(16, 2, -8000, 8)
-GAIN = (1000, 1, 0)
 NAMES = ["north", "south"]
 
 
@@ -39,16 +37,6 @@ def configuration(block):
     for name in NAMES:
         lines += ["[[gauge]]", 'name = "%s"' % name, 'file = "%s.sgrc"' % name, "num = 1000"]
     return "\n".join(lines) + "\n"
-
-
-def held(told):
-    """The last number that was acknowledged for each name."""
-    return {name: int(n) for name, n in re.findall(r"^held (\S+) (\d+)$", told, re.M)}
-
-
-def samples(text):
-    """How many samples each gauge of a report has."""
-    return [int(n) for n in re.findall(r"^samples (\d+) used", text, re.M)]
 
 
 class Run:
@@ -80,18 +68,11 @@ class Run:
         return self.child.returncode, self.printed, self.told
 
 
-class Trials:
+class Trials(Trial):
     def __init__(self, program, seed):
+        super().__init__("beside")
         self.program, self.rng = program, random.Random(seed)
-        self.passed = self.failed = 0
         self.raws = [[] for _ in NAMES]
-
-    def check(self, what, got, due):
-        if got == due:
-            self.passed += 1
-            return
-        self.failed += 1
-        print("beside: %s: %.300r, due %.300r" % (what, got, due))
 
     def run(self, *words):
         return Run(self.program, *words).end()
@@ -135,7 +116,7 @@ class Trials:
         grown = [low <= n <= len(raws) for low, n, raws in zip(before, there, self.raws)]
         self.check("how much was counted", grown, [True] * len(NAMES))
         self.check("report of count", printed, self.report(there))
-        self.check("lines of count", [line for line in told.splitlines() if line[:5] != "held "], [])
+        self.check("lines of count", other_lines(told), "")
         return held(told), 0
 
     def count_at_once(self, writers):
@@ -197,8 +178,7 @@ class Trials:
         self.check("one init", ends[0], (0, "", "init 2\n"))
         others = [(3, "", "store: not empty, %d bytes\n" % len(store)), (8, "", IN_USE)]
         self.check("the other init", ends[1] in others or ends[1], True)
-        with open("monitor.store", "rb") as there:
-            self.check("the store", there.read(), store)
+        self.check("the store", read("monitor.store"), store)
         return ends[1][0] == 8
 
     def hold(self):
@@ -231,13 +211,11 @@ def main():
         beside = trials.read_beside(due)
         trials.check("readers beside a count", beside, due)
         trials.begin(4)
-        with open("monitor.store", "rb") as there:
-            store = there.read()
+        store = read("monitor.store")
         refused_inits = sum(trials.init_at_once(store) for _ in range(due // 2))
         os.chdir("/")
     print("beside: %d writers and %d makers were refused, %d readers ran beside a writer" % (refused, refused_inits, beside))
-    print("beside: %d passed, %d failed" % (trials.passed, trials.failed))
-    return 1 if trials.failed else 0
+    return trials.end()
 
 
 if __name__ == "__main__":

@@ -9,7 +9,6 @@ the limit of length and one byte longer. Last line: columns: N passed, M failed
 """
 import os
 import random
-import struct
 import subprocess
 import sys
 import tempfile
@@ -18,6 +17,7 @@ import tempfile
 sys.dont_write_bytecode = True
 
 from model import MISSING, recording
+from trial import Trial as Counted
 
 ID = "11" * 16
 LIMIT = 268435456
@@ -124,16 +124,10 @@ FILES = [
 ]
 
 
-class Trial:
+class Trial(Counted):
     def __init__(self, program, room):
-        self.program, self.room, self.passed, self.failed = program, room, 0, 0
-
-    def check(self, what, wanted, got):
-        if wanted == got:
-            self.passed += 1
-        else:
-            self.failed += 1
-            print("columns: %s: wanted %r, got %r" % (what, wanted, got))
+        super().__init__("columns")
+        self.program, self.room = program, room
 
     def run(self, *words):
         ran = subprocess.run([self.program, *words], cwd=self.room, capture_output=True)
@@ -148,7 +142,7 @@ class Trial:
         self.write("d.csv", data)
         sound = not isinstance(wanted, str)
         answer = (0, recording(wanted), "") if sound else (4, b"", wanted)
-        self.check(what, answer, self.run("column", "d.csv", name, ID, "10000"))
+        self.check(what, self.run("column", "d.csv", name, ID, "10000"), answer)
 
 
 def tables(trial):
@@ -156,7 +150,7 @@ def tables(trial):
         wanted = "recording d.csv: row 1 is no number\n" if value is None else [0, value]
         trial.column("cell %r" % cell, b"t,G1\n0,0\n1,%s\n" % cell, b"G1", wanted)
     for data, name, wanted in FILES:
-        trial.check("what is due of %r" % data, wanted, due(data, name))
+        trial.check("what is due of %r" % data, due(data, name), wanted)
         trial.column("file %r" % data, data, name, wanted)
 
 
@@ -194,7 +188,7 @@ def sheets(trial, rng):
         cells = [samples[i] if i < len(samples) else MISSING for samples in gauges]
         rows.append(["NaN" if value == MISSING else str(value) for value in cells])
     text = "".join(",".join(row) + "\n" for row in rows).encode()
-    trial.check("a sheet", (0, text, ""), trial.run("sheet"))
+    trial.check("a sheet", trial.run("sheet"), (0, text, ""))
     for number, samples in enumerate(gauges):
         padded = samples + [MISSING] * (longest - len(samples))
         trial.column("a column of a sheet", text, b"G-%d" % number, padded)
@@ -208,16 +202,16 @@ def grown(trial):
     for part in (1000, 3000):
         trial.write("d.csv", b"t,G\n" + b"".join(rows[:part]))
         status, data, _ = trial.run("column", "d.csv", "G", ID, "10000")
-        trial.check("a column that grows", (0, 32 + 4 * part), (status, len(data)))
+        trial.check("a column that grows", (status, len(data)), (0, 32 + 4 * part))
         trial.write("g", data)
         if not told:
-            trial.check("a store", 0, trial.run("init")[0])
+            trial.check("a store", trial.run("init")[0], 0)
         status, text, lines = trial.run("count")
         told.append((status, lines))
-    trial.check("counts of a recording that grew", [(0, "held G 1000\n"), (0, "held G 3000\n")], told)
+    trial.check("counts of a recording that grew", told, [(0, "held G 1000\n"), (0, "held G 3000\n")])
     os.remove(os.path.join(trial.room, "monitor.store"))
     trial.run("init")
-    trial.check("one count of it all", (0, text), trial.run("count")[:2])
+    trial.check("one count of it all", trial.run("count")[:2], (0, text))
 
 
 def limits(trial):
@@ -225,9 +219,10 @@ def limits(trial):
     for length, answer in ((LIMIT, (4, b"", "recording d.csv: no column\n")), (LIMIT + 1, (10, b"", "recording d.csv: too long\n"))):
         with open(path, "wb") as file:
             file.truncate(length)
-        trial.check("a file of %d bytes" % length, answer, trial.run("column", "d.csv", "G1", ID, "10000"))
+        trial.check("a file of %d bytes" % length, trial.run("column", "d.csv", "G1", ID, "10000"), answer)
     os.remove(path)
-    trial.check("no file", (6, b"", "monitor: d.csv: No such file or directory\nread fault\n"), trial.run("column", "d.csv", "G1", ID, "10000"))
+    due = (6, b"", "monitor: d.csv: No such file or directory\nread fault\n")
+    trial.check("no file", trial.run("column", "d.csv", "G1", ID, "10000"), due)
 
 
 def main():
@@ -246,8 +241,8 @@ def main():
             sheets(trial, rng)
         grown(trial)
         limits(trial)
-    print("columns: %d passed, %d failed" % (trial.passed, trial.failed))
-    sys.exit(1 if trial.failed else 0)
+    return trial.end()
 
 
-main()
+if __name__ == "__main__":
+    sys.exit(main())

@@ -17,6 +17,7 @@ import tempfile
 sys.dont_write_bytecode = True
 
 from model import MISSING, Count, Grid, recording
+from trial import Trial
 
 # What `table` counts by: 64 classes of 1 N/mm² from 0, and raw values in N/mm².
 CLASSES = 64
@@ -73,7 +74,7 @@ def main():
     seed = int(sys.argv[2]) if len(sys.argv) > 2 else 1
     cases = int(sys.argv[3]) if len(sys.argv) > 3 else 300
     rng = random.Random(seed)
-    passed = failed = 0
+    trial = Trial("compare")
     with tempfile.TemporaryDirectory() as room:
         path = os.path.join(room, "recording.sgrc")
         for case in range(cases):
@@ -81,13 +82,8 @@ def main():
             with open(path, "wb") as out:
                 out.write(file)
             run = subprocess.run([program, "table", path], stdout=subprocess.PIPE, stderr=subprocess.DEVNULL)
-            if (run.returncode, run.stdout) == (status, text.encode()):
-                passed += 1
-            else:
-                failed += 1
-                print("compare: seed %d, case %d: status %d, due %d" % (seed, case, run.returncode, status))
-    print("compare: %d passed, %d failed" % (passed, failed))
-    return 1 if failed else 0
+            trial.check("seed %d, case %d" % (seed, case), (run.returncode, run.stdout), (status, text.encode()))
+    return trial.end()
 
 
 if __name__ == "__main__":

@@ -27,11 +27,14 @@ from fractions import Fraction
 
 # No folder is made in the checkout.
 sys.dont_write_bytecode = True
-TOP = pathlib.Path(__file__).resolve().parent.parent
+
+from model import Count, Detail, Grid, report
+from trial import PROGRAM, TOP
+from trial import Trial as Counted
+
 sys.path.insert(0, str(TOP / "examples" / "fleet"))
 
 import make_sites
-from model import Count, Detail, Grid, report
 
 SAMPLES = 3000
 GROWN = 4000
@@ -40,23 +43,16 @@ GRID = Grid(128, 2, -64000, 64)
 EACH = 4
 
 
-class Trial:
+class Trial(Counted):
     """The fleet in a folder, and what held."""
 
     def __init__(self, program: pathlib.Path, room: pathlib.Path, number: int) -> None:
+        super().__init__("fleet")
         self.program, self.number = program, number
         self.fleet, self.sites = room / "fleet", room / "sites"
-        self.passed = self.failed = 0
         shutil.copytree(TOP / "examples" / "fleet", self.fleet, ignore=shutil.ignore_patterns("sites", "damages.*", "__pycache__"))
         self.run_site = TOP / "systemd" / "monitor-site"
         self.environment = {**os.environ, "MONITOR": str(program), "SITE_RUN": str(self.run_site), "PYTHONDONTWRITEBYTECODE": "1"}
-
-    def check(self, what: str, got: object, due: object) -> None:
-        if got == due:
-            self.passed += 1
-            return
-        self.failed += 1
-        print(f"fleet: {what}: {got!r}, due {due!r}")
 
     def make_sites(self, samples: int, sites: int) -> None:
         for site in range(1, sites + 1):
@@ -83,6 +79,10 @@ class Trial:
         categories = [make_sites.CATEGORIES[(number + place) % len(make_sites.CATEGORIES)] for place in range(len(gauges))]
         details = [Detail(f"{it}-weld", place, "normal", categories[place], 115) for place, it in enumerate(gauges)]
         return report(gauges, counts, details)
+
+    def reports(self) -> int:
+        """How many sites have a report."""
+        return sum((self.sites / name / "report.txt").exists() for name in self.names())
 
     def text(self, name: str) -> str:
         return (self.sites / name / "report.txt").read_text()
@@ -155,14 +155,13 @@ def try_killed(trial: Trial, rng: random.Random) -> None:
         for file in ("monitor.store", "report.txt"):
             (trial.sites / name / file).unlink()
     child = subprocess.Popen(trial.words(), env=trial.environment, stdout=subprocess.DEVNULL, stderr=subprocess.DEVNULL, start_new_session=True)
-    reports = lambda: sum((trial.sites / name / "report.txt").exists() for name in trial.names())
     until = time.monotonic() + 120
-    while reports() < trial.number // 4 and time.monotonic() < until:
+    while trial.reports() < trial.number // 4 and time.monotonic() < until:
         time.sleep(0.002)
     time.sleep(rng.random() * 0.01)
     os.killpg(child.pid, signal.SIGKILL)
     child.wait()
-    done = reports()
+    done = trial.reports()
     trial.check("that it was killed on the way", 0 < done < trial.number, True)
     status, counted, _ = trial.make()
     trial.check("what it goes on with", (status, len(counted)), (0, trial.number - done))
@@ -189,8 +188,7 @@ def try_engines(trial: Trial) -> None:
 
 
 def main() -> int:
-    given = sys.argv[1] if len(sys.argv) > 1 else os.environ.get("MONITOR_PROGRAM", TOP / "crates/monitor_main/out/monitor_main")
-    program = pathlib.Path(given).resolve()
+    program = pathlib.Path(sys.argv[1] if len(sys.argv) > 1 else PROGRAM).resolve()
     if not program.is_file() or not shutil.which("make"):
         print("fleet: skipped, since " + ("there is no make" if program.is_file() else "the program isn't built (./monitor builds it)"))
         return 0
@@ -201,8 +199,7 @@ def main() -> int:
         try_failing(trial)
         try_killed(trial, random.Random(1))
         try_engines(trial)
-    print(f"fleet: {trial.passed} passed, {trial.failed} failed")
-    return 1 if trial.failed else 0
+    return trial.end()
 
 
 if __name__ == "__main__":

@@ -30,8 +30,8 @@ sys.dont_write_bytecode = True
 
 import units
 from rooms import ROOMS
+from trial import PROGRAM, TOP
 
-TOP = pathlib.Path(__file__).resolve().parent.parent
 DOCUMENT = TOP / "docs" / "OPERATING.md"
 PLACES = ["/var/lib/monitor", "/run/monitor", "/etc/monitor", "/usr/lib/monitor", "/srv"]
 MARK = "\x1e"
@@ -158,7 +158,7 @@ class Run:
             stdin=subprocess.DEVNULL, capture_output=True, timeout=SECONDS,
         )
         parts = ran.stdout.decode(errors="replace").split(MARK)
-        for step, part in zip(self.section.steps, parts):
+        for step, part in zip(self.section.steps, parts, strict=False):
             yield step, self.lines(part)
 
     def due(self, step: Step) -> list[str]:
@@ -191,7 +191,7 @@ def try_section(section: Section, tools: Tools, show: bool) -> tuple[int, int]:
 
 def main() -> int:
     words = argparse.ArgumentParser(usage=__doc__)
-    words.add_argument("program", nargs="?", default=os.environ.get("MONITOR_PROGRAM", TOP / "crates/monitor_main/out/monitor_main"))
+    words.add_argument("program", nargs="?", default=PROGRAM)
     words.add_argument("--show", action="store_true")
     words.add_argument("--only", default="")
     given = words.parse_args()

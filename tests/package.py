@@ -22,24 +22,14 @@ import subprocess
 import sys
 import tempfile
 
-TOP = pathlib.Path(__file__).resolve().parent.parent
+# No folder is made in the checkout.
+sys.dont_write_bytecode = True
+
+from trial import PROGRAM, TOP, Trial
+
 NAME = "monitor-unproved"
 TABLE = "samples 9 used 9 missing 0 refused 0\nrainflow\n9.0 0.5\n8.0 1.0\n6.0 0.5\n4.0 1.5\n3.0 0.5\n"
 FOLDERS = ["var/lib/dpkg/info", "var/lib/dpkg/updates", "var/lib/dpkg/triggers", "tmp", "etc", "usr/bin", "usr/sbin", "dev"]
-
-
-class Trial:
-    """Counts what held."""
-
-    def __init__(self) -> None:
-        self.passed = self.failed = 0
-
-    def check(self, what: str, got: object, due: object) -> None:
-        if got == due:
-            self.passed += 1
-            return
-        self.failed += 1
-        print(f"package: {what}: {got!r}, due {due!r}")
 
 
 def run(*words: object, **more: object) -> subprocess.CompletedProcess[str]:
@@ -226,7 +216,7 @@ def try_processor(trial: Trial, program: pathlib.Path) -> None:
 
 def main() -> int:
     words = argparse.ArgumentParser(usage=__doc__)
-    words.add_argument("program", nargs="?", default=os.environ.get("MONITOR_PROGRAM", TOP / "crates/monitor_main/out/monitor_main"))
+    words.add_argument("program", nargs="?", default=PROGRAM)
     words.add_argument("--root", type=pathlib.Path)
     given = words.parse_args()
     program = pathlib.Path(given.program).resolve()
@@ -237,7 +227,7 @@ def main() -> int:
     if missing:
         skipped(f"there is no {', '.join(missing)}")
         return 0
-    trial = Trial()
+    trial = Trial("package")
     with tempfile.TemporaryDirectory() as name:
         folder = pathlib.Path(name).resolve()
         deb = try_files(trial, program, folder)
@@ -247,8 +237,7 @@ def main() -> int:
         try_processor(trial, program)
         if given.root:
             try_debian(trial, deb, given.root.resolve())
-    print(f"package: {trial.passed} passed, {trial.failed} failed")
-    return 1 if trial.failed else 0
+    return trial.end()
 
 
 if __name__ == "__main__":

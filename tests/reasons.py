@@ -13,7 +13,6 @@ What is expected comes from an independent count (model.py). Last line: reasons:
 
 import os
 import random
-import re
 import resource
 import shutil
 import signal
@@ -24,22 +23,10 @@ import tempfile
 # No folder is made in the checkout.
 sys.dont_write_bytecode = True
 
-from model import Count, Grid, recording, repeat, report
+from model import Count, recording, repeat, report
+from trial import GAIN, GRID, ONE_GAUGE, other_lines, read, samples, write
+from trial import Trial as Counted
 
-CONFIGURATION = """[grid]
-classes = 16
-width = 2
-low = -8000
-reference = 8
-[count]
-block = 4
-workers = 2
-[[gauge]]
-name = "G1"
-file = "g1.sgrc"
-num = 1000
-"""
-GRID = Grid(16, 2, -8000, 8)
 RNG = random.Random(5)
 RAWS = [RNG.randint(-8, 7) for _ in range(600)]
 NOBODY = 65534
@@ -51,18 +38,8 @@ def reason(name, text, status):
     return "monitor: %s: %s\n%s\n" % (name, text, DOING[status])
 
 
-def text_of(samples):
-    return report(["G1"], [Count(GRID, (1000, 1, 0), RAWS[:samples])], [])
-
-
-def write(name, data):
-    with open(name, "wb") as out:
-        out.write(data)
-
-
-def read(name):
-    with open(name, "rb") as file:
-        return file.read()
+def text_of(count):
+    return report(["G1"], [Count(GRID, GAIN, RAWS[:count])], [])
 
 
 def limit(size):
@@ -92,17 +69,10 @@ def marks(folder):
     return times, [read(name) for name in names]
 
 
-class Trial:
+class Trial(Counted):
     def __init__(self, program, room):
+        super().__init__("reasons")
         self.program, self.room = program, room
-        self.passed = self.failed = 0
-
-    def check(self, what, got, due):
-        if got == due:
-            self.passed += 1
-            return
-        self.failed += 1
-        print("reasons: %s: %.300r, due %.300r" % (what, got, due))
 
     def run(self, *words, before=None, user=None):
         others = {} if user is None else {"user": user, "group": user, "extra_groups": []}
@@ -117,7 +87,7 @@ class Trial:
         folder = os.path.join(self.room, name)
         os.makedirs(folder, exist_ok=True)
         os.chdir(folder)
-        write("monitor.toml", CONFIGURATION.encode())
+        write("monitor.toml", ONE_GAUGE.encode())
         write("g1.sgrc", recording(RAWS[:300]))
         return folder
 
@@ -131,7 +101,7 @@ class Trial:
     def goes_on(self, what):
         """Nothing that was held is lost, and the rest is counted."""
         status, printed, told = self.run("report")
-        held = int((re.findall(r"^samples (\d+) used", printed, re.M) or [-1])[0])
+        (held,) = samples(printed) or [-1]
         self.check(what + ": report", (status, printed, told, held >= 300), (0, text_of(held), "", True))
         self.check(what + ": count", self.run("count")[:2], (0, text_of(600)))
 
@@ -184,9 +154,8 @@ def limits(trial):
     size = os.path.getsize("monitor.store")
     for more in (1, 40, 200, 3000):
         status, printed, told = trial.run("count", before=limit(size + more))
-        told = "".join(line + "\n" for line in told.splitlines() if line[:5] != "held ")
         due = (8, "", reason("monitor.store", text, 8))
-        trial.check("count with a limit of %d bytes more" % more, (status, printed, told), due)
+        trial.check("count with a limit of %d bytes more" % more, (status, printed, other_lines(told)), due)
     trial.goes_on("after a limit")
     trial.enter("limit-of-init")
     trial.fails("init with a limit of no bytes", ("init",), 8, "monitor.store", text, before=limit(0))
@@ -222,7 +191,7 @@ def readers(trial, folder, what, **how):
     """The readers end as ever, and change nothing."""
     before = marks(folder)
     trial.check("report of " + what, trial.run("report", **how), (0, text_of(300), ""))
-    due = repeat(["G1"], [Count(GRID, (1000, 1, 0), RAWS[:300])])
+    due = repeat(["G1"], [Count(GRID, GAIN, RAWS[:300])])
     trial.check("repeat of " + what, trial.run("repeat", **how), (0, due, ""))
     trial.check("audit of " + what, trial.run("audit", **how), (0, "audit G1 same\n", ""))
     trial.check("what is there of " + what, marks(folder), before)
@@ -271,8 +240,8 @@ def mounts(trial):
         write("g1.sgrc", recording(RAWS))
         fill(os.path.join(disk, "rest"))
         status, printed, told = trial.run("count")
-        told = "".join(line + "\n" for line in told.splitlines() if line[:5] != "held ")
-        trial.check("count on a full disk", (status, printed, told), (8, "", reason("monitor.store", text, 8)))
+        due = (8, "", reason("monitor.store", text, 8))
+        trial.check("count on a full disk", (status, printed, other_lines(told)), due)
         store = read("monitor.store")
         os.remove("monitor.store")
         fill(os.path.join(disk, "more"))
@@ -312,8 +281,7 @@ def main():
         else:
             print("reasons: skipped: file systems are mounted by root alone")
         os.chdir("/")
-    print("reasons: %d passed, %d failed" % (trial.passed, trial.failed))
-    return 1 if trial.failed else 0
+    return trial.end()
 
 
 if __name__ == "__main__":

@@ -13,7 +13,6 @@ What is expected comes from an independent count (model.py). It needs a C compil
 """
 
 import os
-import re
 import subprocess
 import sys
 import tempfile
@@ -22,6 +21,8 @@ import tempfile
 sys.dont_write_bytecode = True
 
 from model import Count, Detail, Grid, recording, repeat, report
+from trial import GAIN, GRID, ONE_GAUGE, held, read, write
+from trial import Trial as Counted
 
 LIBRARY = r"""
 #include <errno.h>
@@ -57,19 +58,7 @@ int posix_memalign(void **p, size_t a, size_t n) {
 }
 """
 
-CONFIGURATION = """[grid]
-classes = 16
-width = 2
-low = -8000
-reference = 8
-[count]
-block = 4
-workers = 2
-[[gauge]]
-name = "G1"
-file = "g1.sgrc"
-num = 1000
-[[detail]]
+CONFIGURATION = ONE_GAUGE + """[[detail]]
 name = "W1"
 gauge = "G1"
 kind = "normal"
@@ -77,32 +66,28 @@ category = 71
 gamma = 100
 """
 EXAMPLE = [-2, 1, -3, 5, -1, 3, -4, 4, -2]
-GRID = Grid(16, 2, -8000, 8)
 STORE = bytes.fromhex(
     "015347535402000100100002ffffffffffffe0c00008" + "11" * 16 + "0000271000000000000003e800000001000000000000000000"
 )
 
 
 def report_of(samples):
-    return report(["G1"], [Count(GRID, (1000, 1, 0), EXAMPLE[:samples])], [Detail("W1", 0, "normal", 71, 100)])
+    return report(["G1"], [Count(GRID, GAIN, EXAMPLE[:samples])], [Detail("W1", 0, "normal", 71, 100)])
 
 
 def table_of(raws):
-    lines = Count(Grid(64, 2, 0, 32), (1000, 1, 0), raws).table()
+    lines = Count(Grid(64, 2, 0, 32), GAIN, raws).table()
     return "".join(line + "\n" for line in lines)
 
 
-class Trial:
+class Trial(Counted):
     def __init__(self, program, library):
+        super().__init__("refused")
         self.program, self.library = program, library
-        self.passed = self.failed = 0
 
     def check(self, what, got, due):
-        if got in due:
-            self.passed += 1
-            return
-        self.failed += 1
-        print("refused: %s: %r, due %r" % (what, got, due))
+        """Looks whether it is one of those that are due."""
+        super().check(what, got, got if got in due else due)
 
     def run(self, words, number=0):
         """Status, text and lines of a run of which this request is refused, and whether it came so far."""
@@ -138,17 +123,8 @@ class Trial:
         print("refused: %s: %d requests, %d of them end it" % (name, number - 1, outs))
 
 
-def write(name, data):
-    with open(name, "wb") as file:
-        file.write(data)
-
-
 def store():
-    try:
-        with open("monitor.store", "rb") as file:
-            return file.read()
-    except FileNotFoundError:
-        return b""
+    return read("monitor.store") if os.path.exists("monitor.store") else b""
 
 
 def no_store():
@@ -168,7 +144,7 @@ def rows(trial):
         trial.check("init: line where request %d is refused" % number, "init 1\n" not in told or left == STORE, [True])
 
     def after_count(number, told):
-        acknowledged = max([int(n) for n in re.findall(r"^held G1 (\d+)$", told, re.M)], default=0)
+        acknowledged = held(told).get("G1", 0)
         ended, _ = trial.run(["report"])
         trial.check("report where request %d of count was refused" % number, ended, [(0, report_of(n), "") for n in range(acknowledged, 10)])
         status, text, _ = trial.run(["count"])[0]
@@ -182,7 +158,7 @@ def rows(trial):
     trial.each("count", ["count"], lambda: write("monitor.store", STORE), after_count)
     trial.check("count", trial.run(["count"])[0], [(0, report_of(9), "")])
     image = store()
-    repeated = repeat(["G1"], [Count(GRID, (1000, 1, 0), EXAMPLE)])
+    repeated = repeat(["G1"], [Count(GRID, GAIN, EXAMPLE)])
     for command, due in (("report", report_of(9)), ("repeat", repeated), ("audit", "audit G1 same\n")):
         trial.check(command, trial.run([command])[0], [(0, due, "")])
         trial.each(command, [command], lambda: None, after_reading(image))
@@ -213,8 +189,7 @@ def main():
         trial = Trial(program, os.path.join(room, "refusing.so"))
         rows(trial)
         os.chdir("/")
-    print("refused: %d passed, %d failed" % (trial.passed, trial.failed))
-    return 1 if trial.failed else 0
+    return trial.end()
 
 
 if __name__ == "__main__":

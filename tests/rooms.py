@@ -79,8 +79,7 @@ def exports(room: pathlib.Path, program: pathlib.Path) -> None:
     """In /srv/logger: two days of a logger's exports, with the configuration of examples/logger in the site."""
     folder = room / "srv/logger"
     folder.mkdir()
-    head, *rows = (TOP / "examples/logger/export.csv").read_text().splitlines(keepends=True)[2:]
-    names, rows = rows[0], rows[1:]
+    names, *rows = (TOP / "examples/logger/export.csv").read_text().splitlines(keepends=True)[3:]
     for day, part in (("monday", rows[:600]), ("tuesday", rows[600:])):
         (folder / f"{day}.csv").write_text(names + "".join(part))
     north(room).mkdir()

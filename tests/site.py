@@ -15,7 +15,6 @@ Last line: site: N passed, M failed
 
 import os
 import random
-import re
 import subprocess
 import sys
 import tempfile
@@ -25,6 +24,8 @@ import time
 sys.dont_write_bytecode = True
 
 from model import MISSING, Count, Detail, Grid, recording, repeat, report
+from trial import Trial as Counted
+from trial import held, other_lines, samples
 
 NORMAL = [160, 140, 125, 112, 100, 90, 80, 71, 63, 56, 50, 45, 40, 36]
 
@@ -106,19 +107,15 @@ class Site:
         ]
 
 
-class Trial:
+class Trial(Counted):
     def __init__(self, program, seed):
+        super().__init__("site")
         self.program, self.seed = program, seed
-        self.passed = self.failed = 0
         # how often it was killed, how often while it ran, and how often after it had acknowledged something
         self.kills = self.running = self.acknowledged = 0
 
     def check(self, what, got, due):
-        if got == due:
-            self.passed += 1
-            return
-        self.failed += 1
-        print("site: seed %d: %s: %r, due %r" % (self.seed, what, got, due))
+        super().check("seed %d: %s" % (self.seed, what), got, due)
 
     def run(self, *words):
         done = subprocess.run([self.program, *words], capture_output=True, text=True)
@@ -139,17 +136,6 @@ class Trial:
         self.running += child.returncode == -9
         self.acknowledged += child.returncode == -9 and bool(held(told))
         return held(told)
-
-
-def held(told):
-    """The last number that was acknowledged for each name. A line that was cut off acknowledges nothing."""
-    whole = told[: told.rfind("\n") + 1]
-    return {name: int(n) for name, n in re.findall(r"^held (\S+) (\d+)$", whole, re.M)}
-
-
-def samples(text):
-    """How many samples each gauge of a report has."""
-    return [int(n) for n in re.findall(r"^samples (\d+) used", text, re.M)]
 
 
 def write(site, lengths):
@@ -175,7 +161,7 @@ def grow(trial, site, lengths, kills):
         kept = [acknowledged.get(name, 0) <= n for name, n in zip(site.names, there)]
         trial.check("what was acknowledged", all(kept), True)
     status, text, told = trial.run("count")
-    trial.check("status of count", (status, [n for n in told.splitlines() if n[:5] != "held "]), (0, []))
+    trial.check("status of count", (status, other_lines(told)), (0, ""))
     trial.check("report of count", text, site.report(lengths))
     acknowledged.update(held(told))
     for name, n in zip(site.names, lengths):
@@ -236,8 +222,7 @@ def main():
         # How many come too late is the machine's speed, so this is told; a script that never met a running program tried nothing.
         print("site: killed %d times, %d while it ran, %d of these after a line" % (trial.kills, trial.running, trial.acknowledged))
         trial.check("some kills met a running program after a line", trial.acknowledged > 0, True)
-    print("site: %d passed, %d failed" % (trial.passed, trial.failed))
-    return 1 if trial.failed else 0
+    return trial.end()
 
 
 if __name__ == "__main__":
