@@ -18,7 +18,6 @@ use Rattle.segment_store.specs.Held.{ends_of}
 use Rattle.segment_store.specs.Holds.{AllStand, gain_at, held_of}
 use Rattle.segment_store.specs.Image.{Reads, IsStoreOf}
 use Rattle.segment_store.specs.Moments.{IsOn, StoreValue}
-use Rattle.segment_store.specs.declared.fault.ResumeFault.TheVariants as fault
 use Rattle.segment_store.proofs.HeldKeep.{held_keep}
 use Rattle.segment_store.proofs.HeldStand.{held_stand}
 use Rattle.site_config.specs.Valid.{IsConfig, name_of, no_gauge}

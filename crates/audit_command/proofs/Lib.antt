@@ -1,4 +1,5 @@
 mod AnswerKinds
+mod Asking
 mod Audits
 mod Ended
 mod Opened

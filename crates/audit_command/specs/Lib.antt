@@ -1,4 +1,5 @@
 pub mod Recounted
 pub mod Audited
 pub mod Answers
+pub mod Asked
 pub mod Printing

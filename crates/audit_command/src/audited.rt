@@ -2,9 +2,10 @@ ghost use Rattle.std.specs.Prelude.{◌≡◌, ◌≤◌, ◌<◌, length};
 ghost use Rattle.outside.specs.Fault.{CountRose};
 ghost use Rattle.segment_store.specs.Held.{ends_of};
 ghost use Rattle.site_config.specs.Valid.{IsConfig};
-ghost use Rattle.site_config.specs.recorded.Asked.{AsksFirst, file_names};
+ghost use Rattle.site_config.specs.recorded.Asked.{file_names};
 ghost use Rattle.status.specs.declared.status.Status.TheVariants.{Done, ReadFault, WriteFault};
 ghost use Rattle.audit_command.specs.Audited.{IsItem};
+ghost use Rattle.audit_command.specs.Asked.{AuditAsks};
 ghost use Rattle.audit_command.specs.Answers.{HeldAnswers, IsAuditing};
 ghost use Rattle.audit_command.specs.Printing.{Prints};
 
@@ -37,7 +38,7 @@ pub(crate) fn audit_held<T: Site, O: Sink>(
     ensures kind { IsAuditing result }
     ensures read { result ≡ ReadFault → CountRose (T.faults site.old) (T.faults site.new) }
     ensures write { result ≡ WriteFault → CountRose (O.faults out.old) (O.faults out.new) }
-    ensures asked { AsksFirst (T.names_asked site.old) (T.names_asked site.new)
+    ensures asked { AuditAsks result (T.names_asked site.old) (T.names_asked site.new)
         (file_names bridge.now) }
     ensures back { T.out site.new ≡ 0 }
     ensures files { T.tells → T.files site.new ≡ T.files site.old }

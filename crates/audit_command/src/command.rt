@@ -7,12 +7,13 @@ ghost use Rattle.site_config.specs.Valid.{IsConfig};
 ghost use Rattle.site_config.specs.declared.config.Config.{Config};
 ghost use Rattle.site_config.specs.declared.limits.TheConstants.{MAX_NAME_BYTES};
 ghost use Rattle.site_config.specs.recorded.Recorded.{recordings};
-ghost use Rattle.site_config.specs.recorded.Asked.{AsksFirst, file_names, names_in};
+ghost use Rattle.site_config.specs.recorded.Asked.{file_names, names_in};
 ghost use Rattle.status.specs.fault_lines.FaultLine.{fault_line, name_by};
 ghost use Rattle.status.specs.fault_lines.Telling.{TellsAtMost};
 ghost use Rattle.status.specs.declared.status.Status.TheVariants.{Done, Usage, ReadFault, WriteFault, DiskFault, OutOfMemory};
 ghost use Rattle.status.specs.Printing.{IsPrinting};
 ghost use Rattle.audit_command.specs.Audited.{FindsDifference, IsStanding};
+ghost use Rattle.audit_command.specs.Asked.{AuditAsks};
 ghost use Rattle.audit_command.specs.Answers.{MayAnswerOver, AuditAnswers, IsAudited, IsSound};
 ghost use Rattle.audit_command.specs.Printing.{Prints};
 
@@ -73,8 +74,9 @@ pub fn audit_command<C: Source, T: Site, K: Station, O: Sink>(
         CountRose (T.faults site.old) (T.faults site.new) }
     ensures write { result ≡ WriteFault → CountRose (O.faults out.old) (O.faults out.new) }
     ensures disk { result ≡ DiskFault → CountRose (K.faults station.old) (K.faults station.new) }
-    // The gauges' files are asked for, in their order and each once, and no other.
-    ensures asked { C.tells → AsksFirst (T.names_asked site.old) (T.names_asked site.new)
+    // The gauges' files are asked for, gauge by gauge, and no other: none where the
+    // configuration or the store is refused, and none behind a recording that is refused.
+    ensures asked { C.tells → AuditAsks result (T.names_asked site.old) (T.names_asked site.new)
         (names_in (config_of_bytes (C.left config.old))) }
     ensures back { T.out site.new ≡ 0 }
     ensures files { T.tells → T.files site.new ≡ T.files site.old }
@@ -127,7 +129,7 @@ fn audit_by<T: Site, K: Station, O: Sink>(
     ensures read { result ≡ ReadFault → CountRose (T.faults site.old) (T.faults site.new) }
     ensures write { result ≡ WriteFault → CountRose (O.faults out.old) (O.faults out.new) }
     ensures disk { result ≡ DiskFault → CountRose (K.faults station.old) (K.faults station.new) }
-    ensures asked { AsksFirst (T.names_asked site.old) (T.names_asked site.new)
+    ensures asked { AuditAsks result (T.names_asked site.old) (T.names_asked site.new)
         (file_names bridge.now) }
     ensures back { T.out site.new ≡ 0 }
     ensures files { T.tells → T.files site.new ≡ T.files site.old }

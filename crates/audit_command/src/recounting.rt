@@ -7,8 +7,9 @@ ghost use Rattle.recount.specs.Counted.{IsRecount};
 ghost use Rattle.segment_store.specs.Held.{ends_of};
 ghost use Rattle.site_config.specs.Valid.{IsConfig, file_of};
 ghost use Rattle.site_config.specs.recorded.Recorded.{body_in, recordings};
-ghost use Rattle.site_config.specs.recorded.Asked.{AsksFirst, file_names};
+ghost use Rattle.site_config.specs.recorded.Asked.{file_names};
 ghost use Rattle.site_lanes.specs.Answers.{GaugeAnswers, OpenAnswers};
+ghost use Rattle.site_lanes.specs.Asked.{IsOfGauge, OpeningAsks};
 ghost use Rattle.site_lanes.specs.Opening.{fault_of};
 ghost use Rattle.status.specs.declared.status.Status.TheVariants.{ReadFault};
 ghost use Rattle.audit_command.specs.Recounted.{
@@ -52,7 +53,7 @@ pub(crate) fn recount_all<T: Site>(
     ensures answer { T.tells → OpenAnswers bridge.now store.now.head.heads
         (slice_index (ends_of store.now.held)) (T.files site.old) result }
     ensures kind { IfErr result IsRecounting }
-    ensures asked { AsksFirst (T.names_asked site.old) (T.names_asked site.new)
+    ensures asked { OpeningAsks result (T.names_asked site.old) (T.names_asked site.new)
         (file_names bridge.now) }
     ensures back { T.out site.new ≡ 0 }
     ensures files { T.tells → T.files site.new ≡ T.files site.old }
@@ -87,6 +88,7 @@ fn recount_gauge<T: Site>(
     ensures answer { T.tells → GaugeAnswers bridge.now store.now.head.heads
         (slice_index (ends_of store.now.held)) (T.files site.old) gauge result }
     ensures kind { IfErr result IsRecounting }
+    ensures own { IfErr result (IsOfGauge gauge) }
     ensures asked { Asks (T.names_asked site.old) (T.names_asked site.new)
         (file_of bridge.now gauge ∷ []) }
     ensures back { T.out site.new ≡ 0 }
@@ -128,6 +130,7 @@ fn recount_source<S: Source>(
     ensures answer { S.tells → SourceAnswers (fault_of kept.now held (S.left src.old)) gauge
         result }
     ensures kind { IfErr result IsRecounting }
+    ensures own { IfErr result (IsOfGauge gauge) }
     ensures cause { result ≡ Err ReadFault → CountRose (S.faults src.old) (S.faults src.new) }
     ensures later { S.faults src.old ≤ S.faults src.new }
 {

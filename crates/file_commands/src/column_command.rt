@@ -7,6 +7,8 @@
 //! It takes memory for the file and for four bytes a row.
 
 mod command;
+/// A law over the definitions alone.
+pub mod laws;
 mod reading;
 mod writing;
 

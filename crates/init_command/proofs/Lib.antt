@@ -1,3 +1,5 @@
+mod Asking
 mod Reading
 mod StoreMade
 mod Lines
+pub mod MakingMoments

@@ -1,5 +1,5 @@
 -- The heads that were read so far, and the first that is refused.
-use Rattle.std.proofs.Common.{◌≡◌, ◌<◌, ◌≤◌, ◌⊎◌, inl, inr, ℕ, ◌+◌, List, [], ◌∷◌, ◌++◌, length, get_or, sym, ◌∙◌, ap, subst, arith}
+use Rattle.std.proofs.Common.{◌≡◌, ◌<◌, ◌≤◌, ◌⊎◌, inl, inr, ℕ, ◌+◌, List, [], ◌∷◌, ◌++◌, length, get_or, refl, sym, ◌∙◌, ap, subst, arith}
 use Rattle.std.specs.Prelude.{Option, Ok, Err, slice_index_or}
 use Rattle.std.proofs.Math.ListN.{get_or-append}
 use Rattle.std.proofs.Math.Seq.{get_or-append_seam}
@@ -14,7 +14,7 @@ use Rattle.site_config.specs.declared.config.Gauge.{Gauge}
 use Rattle.site_config.specs.Valid.{no_gauge, file_of}
 use Rattle.status.specs.declared.status.Status.{Status}
 use Rattle.status.specs.declared.status.Status.TheVariants.{Done, Usage, Config as BadConfig, Store, Recording, Torn, ReadFault, WriteFault, DiskFault, OutOfMemory, TooLong, Differs}
-use Rattle.init_command.specs.Heads.{HasHead, AreHeadsBelow, AreSound, AreHeads, HeadAnswer, HeadsAnswer, HasFault, IsHeadsStatus, head_status}
+use Rattle.init_command.specs.Heads.{HasHead, AreHeadsBelow, AreSound, AreHeads, HeadAnswer, HeadsAnswer, HasFault, IsHeadStatus, head_status}
 
 no_head : Head
 no_head = record { id = []; period_us = 0 }
@@ -73,9 +73,9 @@ module _ (c : Config) (files : Files) where
   heads_refused k heads (TooLong g) lt each has = absurd has
   heads_refused k heads (Differs g w h f) lt each has = absurd has
 
-pub head_kind : (g : ℕ) (f : HeadFault) → IsHeadsStatus (head_status g f)
-head_kind g head.Short = tt
-head_kind g head.Magic = tt
-head_kind g (head.Version v) = tt
-head_kind g head.NotZero = tt
+pub head_kind : (g : ℕ) (f : HeadFault) → IsHeadStatus g (head_status g f)
+head_kind g head.Short = refl
+head_kind g head.Magic = refl
+head_kind g (head.Version v) = refl
+head_kind g head.NotZero = refl
 head_kind g head.ReadFault = tt

@@ -3,14 +3,13 @@ use Rattle.std.proofs.Common.{◌≡◌, ◌⊎◌, inl, inr, ℕ, List, [], len
 use Rattle.std.specs.Prelude.{Option, Some, Result, Ok, Err}
 use Rattle.outside.specs.Fault.{CountRose}
 use Rattle.outside.specs.Site.{Files}
-use Rattle.outside.specs.station.Station.{Image, Lines, MomentsSince, Since}
+use Rattle.outside.specs.station.Station.{Image}
 use Rattle.recording.specs.Head.{recording_head}
 use Rattle.recording.specs.declared.head.Head.{Head}
 use Rattle.recording.specs.declared.head.HeadFault.{HeadFault}
 use Rattle.site_config.specs.declared.config.Config.{Config}
 use Rattle.site_config.specs.declared.fault.ConfigFault.{ConfigFault}
 use Rattle.site_config.specs.Valid.{file_of}
-use Rattle.segment_store.specs.Beginning.{IsBegunAs, InInit}
 use Rattle.status.specs.declared.status.RecordingFault.{RecordingFault}
 use Rattle.status.specs.declared.status.StoreFault.TheVariants as store
 use Rattle.status.specs.declared.status.Status.{Status}
@@ -20,12 +19,6 @@ use Rattle.init_command.specs.Heads.{HasHeadIn, HasFaultIn, AreHeads, AreSound}
 use Rattle.init_command.specs.Init.{AnswersBy, InitAnswers}
 use Rattle.init_command.specs.Making.{MakesBy, IsMaking}
 use Rattle.init_command.proofs.Reading.{heads_sound}
-
--- what a crash may leave now
-pub begun_now : (start now : ℕ) (past since : MomentsSince) (told told2 : Lines) (bytes : List ℕ) (leaves : Image → Type 0)
-    → Since start past now since (InInit told bytes) → ((c : Image) → leaves c → since start told2 c) → (c : Image) → leaves c →
-    IsBegunAs bytes c
-begun_now start now past since told told2 bytes leaves run counts c has = (run.each told2 c (counts c has)).1
 
 -- no gauge is named in what making the store is answered with
 pub no_name : (c : Config) (s : Status) → IsMaking s → name_for c s ≡ []

@@ -4,6 +4,7 @@
 --   AreSound       the recordings of the gauges below one are there, with a head
 --   HasFault       the head of a gauge's recording is refused for this
 --   HeadsAnswer    what reading them answers
+--   IsHeadStatus   the answers that the head of a gauge may have; IsHeadsStatus: those of all
 use Rattle.std.specs.Prelude.{◌≡◌, ◌<◌, ℕ, ⊤, List, length, slice_index_or, Option, Some, Result, Ok, Err}
 use Rattle.std.specs.Option.{option_map_or}
 use Rattle.outside.specs.Site.{Files}
@@ -57,6 +58,11 @@ HeadsAnswer c files (Err (Recording g fault)) = (g < length c.gauges) × AreSoun
 HeadsAnswer c files (Err ReadFault) = ⊤
 HeadsAnswer c files (Err OutOfMemory) = ⊤
 HeadsAnswer c files (Err status) = ⊥
+
+abbrev pub IsHeadStatus : ℕ → Status → Type 0
+IsHeadStatus g (Recording gauge fault) = gauge ≡ g
+IsHeadStatus g ReadFault = ⊤
+IsHeadStatus g status = ⊥
 
 abbrev pub IsHeadsStatus : Status → Type 0
 IsHeadsStatus (Recording g fault) = ⊤

@@ -1,15 +1,17 @@
 -- What `init` answers, and what it leaves.
 --   init_line       the line that is told of a new store
 --   IsNewStore      an image is the store that is to be made
---   IsBegun         what may be there at a moment of making it
+--   IsBegun         what may be there before it is made
+--   AddsAtMost      one line more was told, or none
+--   InMaking        what was told and what is there at a moment of making it
 --   IsMade          it is made, and a crash leaves nothing else
 --   InitAnswers     what the command answers, by the configuration, the site and the store
 --   IsInit          which answers there are
 --   IsUnmade        which statuses leave the store as it was
-use Rattle.std.specs.Prelude.{◌≡◌, ◌≢◌, ◌<◌, ◌⊎◌, ℕ, ⊤, List, ◌++◌, codes, length, slice_index, Result, Ok, Err}
+use Rattle.std.specs.Prelude.{◌≡◌, ◌≢◌, ◌<◌, ◌⊎◌, ℕ, ⊤, List, [], ◌∷◌, ◌++◌, codes, length, slice_index, Result, Ok, Err}
 use Rattle.std.specs.Fmt.{decimal}
 use Rattle.outside.specs.Site.{Files}
-use Rattle.outside.specs.station.Station.{Image, IsMoment, Only}
+use Rattle.outside.specs.station.Station.{Image, Lines, IsMoment, Only}
 use Rattle.recording.specs.declared.head.Head.{Head}
 use Rattle.site_config.specs.declared.config.Config.{Config}
 use Rattle.site_config.specs.declared.fault.ConfigFault.{ConfigFault}
@@ -36,8 +38,16 @@ IsNewStore c files image = (heads : List Head) × AreHeads c files heads × (ima
 abbrev pub IsBegun : Config → Files → Image → Type 0
 IsBegun c files image = (length image < FRONT_LENGTH) ⊎ ((slice_index image 0 ≢ 1) ⊎ IsNewStore c files image)
 
-abbrev pub InMaking : Config → Files → IsMoment
-InMaking c files lines image = IsBegun c files image
+-- behind the lines that were told before, at most this one
+abbrev pub AddsAtMost : List ℕ → Lines → Lines → Type 0
+AddsAtMost line before lines = (lines ≡ before) ⊎ (lines ≡ before ++ line ∷ [])
+
+-- By the lines from before and the line of the answer: until `init G` is told the store is begun, and from then on it
+-- is the new one. The answer's line comes last, if at all.
+abbrev pub InMaking : Config → Files → Lines → List ℕ → IsMoment
+InMaking c files told last lines image =
+    (AddsAtMost last told lines × IsBegun c files image)
+    ⊎ (AddsAtMost last (told ++ init_line (length c.gauges) ∷ []) lines × IsNewStore c files image)
 
 pub record IsMade (c : Config) (files : Files) (seen : Image) (leaves : Image → Type 0) : Type 0 where
   pub is : IsNewStore c files seen

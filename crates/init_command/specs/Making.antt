@@ -1,6 +1,6 @@
 -- What making the store answers, and what is there at a moment of it.
-use Rattle.std.specs.Prelude.{◌≡◌, ◌≢◌, ℕ, ⊤, List}
-use Rattle.outside.specs.station.Station.{IsMoment}
+use Rattle.std.specs.Prelude.{◌≡◌, ◌≢◌, ◌⊎◌, ℕ, ⊤, List, [], ◌∷◌, ◌++◌}
+use Rattle.outside.specs.station.Station.{Lines, IsMoment}
 use Rattle.segment_store.specs.Beginning.{IsBegunAs}
 use Rattle.segment_store.specs.declared.fault.InitFault.{InitFault}
 use Rattle.segment_store.specs.declared.fault.InitFault.TheVariants as inits
@@ -8,9 +8,10 @@ use Rattle.status.specs.declared.status.StoreFault.TheVariants.{NotEmpty}
 use Rattle.status.specs.declared.status.Status.{Status}
 use Rattle.status.specs.declared.status.Status.TheVariants.{Done, Store, DiskFault, OutOfMemory}
 
--- whatever was told, the image is too short for a head, or has no open ready byte, or is the new store
-abbrev pub InStore : List ℕ → IsMoment
-InStore bytes lines c = IsBegunAs bytes c
+-- nothing was told yet, and the image is too short for a head, or has no open ready byte, or is the new store; or this
+-- line was told, and it is the new store
+abbrev pub InStore : Lines → List ℕ → List ℕ → IsMoment
+InStore told line bytes lines c = ((lines ≡ told) × IsBegunAs bytes c) ⊎ ((lines ≡ told ++ line ∷ []) × (c ≡ bytes))
 
 abbrev pub init_status : InitFault → Status
 init_status (inits.NotEmpty size) = Store (NotEmpty size)

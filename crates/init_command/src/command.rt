@@ -4,10 +4,11 @@ ghost use Rattle.outside.specs.station.Station.{Image, Since};
 ghost use Rattle.site_config.specs.Configuration.{config_of_bytes};
 ghost use Rattle.site_config.specs.Valid.{IsConfig};
 ghost use Rattle.site_config.specs.declared.config.Config.{Config};
-ghost use Rattle.site_config.specs.recorded.Asked.{AsksFirst, file_names, names_in};
+ghost use Rattle.site_config.specs.recorded.Asked.{file_names, names_in};
 ghost use Rattle.status.specs.declared.status.Status.TheVariants.{Done, ReadFault, DiskFault, OutOfMemory};
 ghost use Rattle.status.specs.fault_lines.FaultLine.{fault_line, name_for, name_by};
 ghost use Rattle.status.specs.fault_lines.Telling.{TellsAtMost, EndsIn};
+ghost use Rattle.init_command.specs.Asked.{InitAsks};
 ghost use Rattle.init_command.specs.Heads.{AreSound};
 ghost use Rattle.init_command.specs.Init.{init_line, InMaking, IsMade, AnswersBy, InitAnswers, IsUnmade, IsInit};
 
@@ -38,13 +39,15 @@ pub fn init_command<C: Source, T: Site, K: Station>(
     ensures told { K.tells → C.tells → result ≡ Done → (bridge : Config) →
         config_of_bytes (C.left config.old) ≡ Ok bridge →
         K.told station.new ≡ K.told station.old ++ init_line (length bridge.gauges) ∷ [] }
-    // On an empty station each moment is too short for a head, or has no open ready byte, or is the
-    // new store.
+    // On an empty station, at each moment: until `init G` is told, what is there is too short for a
+    // head, or has no open ready byte, or is the new store; from then on it is the new store.
+    // Besides at most the line of the answer is told, as the last one.
     ensures any_moment { K.tells → T.tells → C.tells → (bridge : Config) →
         config_of_bytes (C.left config.old) ≡ Ok bridge →
         ((c : Image) → K.leaves station.old c → length c ≡ 0) →
         Since (K.clock station.old) (K.moments station.old) (K.clock station.new)
-        (K.moments station.new) (InMaking bridge (T.files site.old)) }
+        (K.moments station.new) (InMaking bridge (T.files site.old) (K.told station.old)
+        (fault_line result (name_by (config_of_bytes (C.left config.old)) result))) }
     // Where it is refused, and over a station that is not empty, nothing changes and at most the
     // line of the answer is told.
     ensures unmade { K.tells → C.tells → IsUnmade result → TellsAtMost
@@ -76,8 +79,9 @@ pub fn init_command<C: Source, T: Site, K: Station>(
     ensures read { result ≡ ReadFault → CountRose (C.faults config.old) (C.faults config.new) ⊎
         CountRose (T.faults site.old) (T.faults site.new) }
     ensures disk { result ≡ DiskFault → CountRose (K.faults station.old) (K.faults station.new) }
-    // The gauges' files are asked for, in their order and each once, and no other.
-    ensures asked { C.tells → AsksFirst (T.names_asked site.old) (T.names_asked site.new)
+    // The gauges' files are asked for, gauge by gauge, and no other: none where the
+    // configuration is refused, and none behind a recording that is refused.
+    ensures asked { C.tells → InitAsks result (T.names_asked site.old) (T.names_asked site.new)
         (names_in (config_of_bytes (C.left config.old))) }
     ensures back { T.out site.new ≡ 0 }
     ensures files { T.tells → T.files site.new ≡ T.files site.old }
@@ -113,7 +117,8 @@ fn init_by<T: Site, K: Station>(
     ensures any_moment { K.tells → T.tells →
         ((c : Image) → K.leaves station.old c → length c ≡ 0) →
         Since (K.clock station.old) (K.moments station.old) (K.clock station.new)
-        (K.moments station.new) (InMaking bridge (T.files site.old)) }
+        (K.moments station.new) (InMaking bridge (T.files site.old) (K.told station.old)
+        (fault_line result (name_for bridge result))) }
     ensures unmade { K.tells → IsUnmade result → TellsAtMost
         (fault_line result (name_for bridge result))
         (K.clock station.old) (K.moments station.old) (K.clock station.new) (K.moments station.new)
@@ -132,7 +137,7 @@ fn init_by<T: Site, K: Station>(
     ensures kind { IsInit result }
     ensures read { result ≡ ReadFault → CountRose (T.faults site.old) (T.faults site.new) }
     ensures disk { result ≡ DiskFault → CountRose (K.faults station.old) (K.faults station.new) }
-    ensures asked { AsksFirst (T.names_asked site.old) (T.names_asked site.new)
+    ensures asked { InitAsks result (T.names_asked site.old) (T.names_asked site.new)
         (file_names bridge) }
     ensures back { T.out site.new ≡ 0 }
     ensures files { T.tells → T.files site.new ≡ T.files site.old }

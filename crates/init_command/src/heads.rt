@@ -1,10 +1,11 @@
-ghost use Rattle.std.specs.Prelude.{◌≡◌, ◌≤◌, ◌<◌, [], ◌∷◌, Err, IfOk, IfErr, length};
+ghost use Rattle.std.specs.Prelude.{◌≡◌, ◌≤◌, ◌<◌, [], ◌∷◌, Err, IfOk, IfErr, MatchResult, length};
 ghost use Rattle.outside.specs.Fault.{CountRose};
 ghost use Rattle.outside.specs.Site.{Asks};
 ghost use Rattle.site_config.specs.Valid.{IsConfig};
-ghost use Rattle.site_config.specs.recorded.Asked.{AsksFirst, file_names};
+ghost use Rattle.site_config.specs.recorded.Asked.{file_names};
 ghost use Rattle.status.specs.declared.status.Status.TheVariants.{ReadFault};
-ghost use Rattle.init_command.specs.Heads.{HeadAnswer, HeadsAnswer, IsHeadsStatus, head_status as head_status_of};
+ghost use Rattle.init_command.specs.Asked.{InitAsks};
+ghost use Rattle.init_command.specs.Heads.{HeadAnswer, HeadsAnswer, IsHeadStatus, IsHeadsStatus, head_status as head_status_of};
 
 use outside::Site;
 use recording::{Head, HeadFault, read_head};
@@ -26,8 +27,11 @@ pub(crate) fn read_heads<T: Site>(
     ensures kind { IfErr result IsHeadsStatus }
     ensures cause { result ≡ Err ReadFault → CountRose (T.faults site.old) (T.faults site.new) }
     ensures later { T.faults site.old ≤ T.faults site.new }
-    ensures asked { AsksFirst (T.names_asked site.old) (T.names_asked site.new)
-        (file_names bridge.now) }
+    // Where a head is refused no later file is asked for.
+    ensures asked { MatchResult result (λ heads. Asks (T.names_asked site.old)
+        (T.names_asked site.new) (file_names bridge.now))
+        (λ status. InitAsks status (T.names_asked site.old) (T.names_asked site.new)
+        (file_names bridge.now)) }
     ensures back { T.out site.new ≡ 0 }
     ensures files { T.tells → T.files site.new ≡ T.files site.old }
 {
@@ -49,7 +53,7 @@ pub(crate) fn read_heads<T: Site>(
 fn read_head_of<T: Site>(gauge: u16, file: &str, site: &mut T) -> Result<Head, Status>
     requires home { T.out site.old ≡ 0 }
     ensures answer { T.tells → HeadAnswer (T.files site.old file.now) gauge result }
-    ensures kind { IfErr result IsHeadsStatus }
+    ensures kind { IfErr result (IsHeadStatus gauge) }
     ensures cause { result ≡ Err ReadFault → CountRose (T.faults site.old) (T.faults site.new) }
     ensures later { T.faults site.old ≤ T.faults site.new }
     ensures asked { Asks (T.names_asked site.old) (T.names_asked site.new) (file.now ∷ []) }

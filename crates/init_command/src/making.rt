@@ -3,7 +3,6 @@ ghost use Rattle.outside.specs.Fault.{CountRose};
 ghost use Rattle.outside.specs.station.Station.{Image, Since, Only};
 ghost use Rattle.store_bytes.specs.declared.segment_bytes.layout.Layout.TheVariants.{Two};
 ghost use Rattle.store_bytes.specs.store_head.Head.{see_head, empty_store};
-ghost use Rattle.segment_store.specs.Beginning.{IsBegunAs};
 ghost use Rattle.segment_store.specs.Quiet.{IsQuiet};
 ghost use Rattle.status.specs.declared.status.Status.TheVariants.{Done, DiskFault};
 ghost use Rattle.init_command.specs.Init.{init_line};
@@ -31,9 +30,8 @@ pub(crate) fn make_store<K: Station>(alloc: Global, head: &StoreHead, station: &
         K.told station.old ++ init_line (length head.now.setup.gains) ∷ [] }
     ensures any_moment { K.tells → ((c : Image) → K.leaves station.old c → length c ≡ 0) →
         Since (K.clock station.old) (K.moments station.old) (K.clock station.new)
-        (K.moments station.new) (InStore (empty_store (see_head Two head.now))) }
-    ensures left { K.tells → ((c : Image) → K.leaves station.old c → length c ≡ 0) → (c : Image) →
-        K.leaves station.new c → IsBegunAs (empty_store (see_head Two head.now)) c }
+        (K.moments station.new) (InStore (K.told station.old)
+        (init_line (length head.now.setup.gains)) (empty_store (see_head Two head.now))) }
     // Over a station that is not empty nothing is done, and so where it is refused.
     ensures quiet { K.tells → 0 < length (K.seen station.old) → IsQuiet (K.clock station.old)
         (K.moments station.old) (K.clock station.new) (K.moments station.new)

@@ -22,9 +22,10 @@ ghost use Rattle.count_workers.specs.lane_loans.Lent.{CanRound};
 ghost use Rattle.segment_store.specs.Held.{ends_of};
 ghost use Rattle.site_config.specs.Valid.{IsConfig, file_of};
 ghost use Rattle.site_config.specs.recorded.Recorded.{recordings};
-ghost use Rattle.site_config.specs.recorded.Asked.{AsksFirst, file_names};
+ghost use Rattle.site_config.specs.recorded.Asked.{file_names};
 ghost use Rattle.site_lanes.specs.Lanes.{IsLane, AreLanes, AreHeldTo, HasSource, IsNew};
 ghost use Rattle.site_lanes.specs.Answers.{IsOpening, GaugeAnswers, OpenAnswers};
+ghost use Rattle.site_lanes.specs.Asked.{IsOfGauge, OpeningAsks};
 ghost use Rattle.site_lanes.specs.Opening.{opened_status};
 ghost use Rattle.status.specs.declared.status.Status.TheVariants.{ReadFault};
 ghost use Rattle.outside.specs.declared.site.TheConstants.{MAX_SOURCES_OUT};
@@ -69,6 +70,7 @@ fn open_lane<T: Site>(
     ensures answer { T.tells → GaugeAnswers bridge.now store.now.head.heads
         (slice_index (ends_of store.now.held)) (T.files site.old) gauge result }
     ensures opening { IfErr result IsOpening }
+    ensures own { IfErr result (IsOfGauge gauge) }
     ensures one_more { OnOk result (T.out site.new ≡ T.out site.old + 1) }
     ensures no_more { OnErr result (T.out site.new ≡ T.out site.old) }
     ensures asked { Asks (T.names_asked site.old) (T.names_asked site.new)
@@ -127,7 +129,8 @@ pub fn open_lanes<T: Site>(
         (slice_index (ends_of store.now.held)) (T.files site.old) result }
     ensures opening { IfErr result IsOpening }
     ensures out { T.out site.new ≡ vec_len lanes.new }
-    ensures asked { AsksFirst (T.names_asked site.old) (T.names_asked site.new)
+    // Where a recording is refused no later file is asked for.
+    ensures asked { OpeningAsks result (T.names_asked site.old) (T.names_asked site.new)
         (file_names bridge.now) }
     ensures files { T.tells → T.files site.new ≡ T.files site.old }
     ensures cause { result ≡ Err ReadFault → CountRose (T.faults site.old) (T.faults site.new) }

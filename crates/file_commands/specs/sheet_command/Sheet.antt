@@ -5,8 +5,10 @@
 --   sheet_answer    the answer where nothing outside fails and memory lasts
 --   MayAnswer       what may be answered, whatever fails
 --   Prints          what is written, by the answer
-use Rattle.std.specs.Prelude.{◌≡◌, ⊤, ℕ, ℤ, ◌+◌, List, [], ◌∷◌, ◌++◌, map, Result, Ok, Err}
-use Rattle.outside.specs.Site.{Files}
+--   IsOfGauge       the answer is this gauge's, where a recording is refused
+--   SheetAsks       which files are asked for, by the answer
+use Rattle.std.specs.Prelude.{◌≡◌, ◌<◌, ⊤, ℕ, ℤ, ◌+◌, List, [], ◌∷◌, ◌++◌, length, map, take, Result, Ok, Err}
+use Rattle.outside.specs.Site.{Files, Asked, Asks, AsksNothing}
 use Rattle.outside.specs.Sink.{AppendsPrefix}
 use Rattle.recording.specs.Samples.{samples}
 use Rattle.csv_recording.specs.Sheet.{sheet_text}
@@ -16,6 +18,7 @@ use Rattle.site_config.specs.Configuration.{gauge_names}
 use Rattle.site_config.specs.declared.config.Config.{Config}
 use Rattle.site_config.specs.declared.config.Gauge.{Gauge}
 use Rattle.site_config.specs.declared.fault.ConfigFault.{ConfigFault}
+use Rattle.site_config.specs.recorded.Asked.{AsksFirst}
 use Rattle.site_config.specs.recorded.Recorded.{body_in}
 use Rattle.status.specs.declared.status.Status.{Status}
 use Rattle.status.specs.declared.status.Status.TheVariants.{Done, Usage, Config as BadConfig, Recording, Torn, ReadFault, WriteFault, OutOfMemory, TooLong}
@@ -66,3 +69,24 @@ abbrev pub Prints : Status → List ℕ → List ℕ → List ℕ → Type 0
 Prints Done text old new = new ≡ old ++ text
 Prints WriteFault text old new = AppendsPrefix old new text
 Prints answer text old new = new ≡ old
+
+abbrev pub IsOfGauge : ℕ → Status → Type 0
+IsOfGauge g (Recording h fault) = h ≡ g
+IsOfGauge g (Torn h bytes) = h ≡ g
+IsOfGauge g (TooLong h) = h ≡ g
+IsOfGauge g status = ⊤
+
+-- up to this gauge
+abbrev pub AsksUpTo : ℕ → Asked → Asked → List (List ℕ) → Type 0
+AsksUpTo g before after names = (g < length names) × Asks before after (take (g + 1) names)
+
+-- None where the configuration is refused, up to the gauge whose recording is refused, and all where they were printed.
+-- Where a read fails or memory runs out it is some first ones.
+abbrev pub SheetAsks : Status → Asked → Asked → List (List ℕ) → Type 0
+SheetAsks (BadConfig fault) before after names = AsksNothing before after
+SheetAsks (Recording g fault) before after names = AsksUpTo g before after names
+SheetAsks (Torn g bytes) before after names = AsksUpTo g before after names
+SheetAsks (TooLong g) before after names = AsksUpTo g before after names
+SheetAsks ReadFault before after names = AsksFirst before after names
+SheetAsks OutOfMemory before after names = AsksFirst before after names
+SheetAsks status before after names = Asks before after names

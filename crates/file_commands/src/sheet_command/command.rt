@@ -3,11 +3,11 @@ ghost use Rattle.outside.specs.Fault.{CountRose};
 ghost use Rattle.site_config.specs.Configuration.{config_of_bytes};
 ghost use Rattle.site_config.specs.Valid.{IsConfig};
 ghost use Rattle.site_config.specs.declared.config.Config.{Config};
-ghost use Rattle.site_config.specs.recorded.Asked.{AsksFirst, file_names, names_in};
+ghost use Rattle.site_config.specs.recorded.Asked.{file_names, names_in};
 ghost use Rattle.status.specs.declared.status.Status.TheVariants.{Done, Usage, ReadFault, WriteFault, OutOfMemory};
 ghost use Rattle.status.specs.fault_lines.FaultLine.{fault_line, name_by};
 ghost use Rattle.status.specs.fault_lines.Telling.{TellsAtMost, EndsIn};
-ghost use Rattle.file_commands.specs.sheet_command.Sheet.{sheet_of, answer_over, sheet_answer, MayAnswer, Prints};
+ghost use Rattle.file_commands.specs.sheet_command.Sheet.{sheet_of, answer_over, sheet_answer, MayAnswer, Prints, SheetAsks};
 
 use crate::sheet_command::reading::read_recordings;
 use crate::sheet_command::writing::write_sheet;
@@ -60,8 +60,9 @@ pub fn sheet_command<C: Source, T: Site, K: Station, O: Sink>(
     ensures read { result ≡ ReadFault → CountRose (C.faults config.old) (C.faults config.new) ⊎
         CountRose (T.faults site.old) (T.faults site.new) }
     ensures write { result ≡ WriteFault → CountRose (O.faults out.old) (O.faults out.new) }
-    // The gauges' files are asked for, in their order and each once, and no other.
-    ensures asked { C.tells → AsksFirst (T.names_asked site.old) (T.names_asked site.new)
+    // The gauges' files are asked for, gauge by gauge, and no other: none where the
+    // configuration is refused, and none behind a recording that is refused.
+    ensures asked { C.tells → SheetAsks result (T.names_asked site.old) (T.names_asked site.new)
         (names_in (config_of_bytes (C.left config.old))) }
     ensures back { T.out site.new ≡ 0 }
     ensures files { T.tells → T.files site.new ≡ T.files site.old }
@@ -96,7 +97,7 @@ fn sheet_by<T: Site, O: Sink>(alloc: Global, bridge: &Config, site: &mut T, out:
     ensures named { result ≢ Usage }
     ensures read { result ≡ ReadFault → CountRose (T.faults site.old) (T.faults site.new) }
     ensures write { result ≡ WriteFault → CountRose (O.faults out.old) (O.faults out.new) }
-    ensures asked { AsksFirst (T.names_asked site.old) (T.names_asked site.new)
+    ensures asked { SheetAsks result (T.names_asked site.old) (T.names_asked site.new)
         (file_names bridge.now) }
     ensures back { T.out site.new ≡ 0 }
     ensures files { T.tells → T.files site.new ≡ T.files site.old }

@@ -1,15 +1,22 @@
-ghost use Rattle.std.specs.Prelude.{◌≡◌, ◌≤◌, ℕ, [], ◌∷◌, Err, IfOk, IfErr, OnOk, drop, length, map};
+ghost use Rattle.std.specs.Prelude.{◌≡◌, ◌≤◌, ℕ, [], ◌∷◌, Err, IfOk, IfErr, OnOk, MatchResult, drop, length, map};
 ghost use Rattle.outside.specs.Fault.{CountRose};
 ghost use Rattle.outside.specs.Site.{Asks};
 ghost use Rattle.recording.specs.Samples.{samples};
 ghost use Rattle.site_config.specs.Valid.{IsConfig};
-ghost use Rattle.site_config.specs.recorded.Asked.{AsksFirst, file_names};
+ghost use Rattle.site_config.specs.recorded.Asked.{file_names};
 ghost use Rattle.site_config.specs.recorded.Recorded.{body_in};
 ghost use Rattle.file_commands.specs.file_tasks.FileState.{Sound, body_state, file_state, state_of};
 ghost use Rattle.file_commands.specs.file_tasks.Answer.{MayAnswer as MayAnswerFor, MayGive};
 ghost use Rattle.file_commands.specs.declared.file_tasks.refusal.Refusal.TheVariants as refusal;
 ghost use Rattle.status.specs.declared.status.Status.TheVariants.{Done, ReadFault};
-ghost use Rattle.file_commands.specs.sheet_command.Sheet.{recordings_of, answer_over, MayAnswer, IsReadStatus};
+ghost use Rattle.file_commands.specs.sheet_command.Sheet.{
+  recordings_of,
+  answer_over,
+  MayAnswer,
+  IsReadStatus,
+  IsOfGauge,
+  SheetAsks,
+};
 ghost use Rattle.recording.specs.declared.TheConstants.{PIECE};
 ghost use Rattle.recording.specs.declared.head.TheConstants.{HEAD_LENGTH};
 
@@ -40,8 +47,11 @@ pub(crate) fn read_recordings<T: Site>(
     ensures kind { IfErr result IsReadStatus }
     ensures cause { result ≡ Err ReadFault → CountRose (T.faults site.old) (T.faults site.new) }
     ensures later { T.faults site.old ≤ T.faults site.new }
-    ensures asked { AsksFirst (T.names_asked site.old) (T.names_asked site.new)
-        (file_names bridge.now) }
+    // Where a recording is refused no later file is asked for.
+    ensures asked { MatchResult result (λ recordings. Asks (T.names_asked site.old)
+        (T.names_asked site.new) (file_names bridge.now))
+        (λ status. SheetAsks status (T.names_asked site.old) (T.names_asked site.new)
+        (file_names bridge.now)) }
     ensures back { T.out site.new ≡ 0 }
     ensures files { T.tells → T.files site.new ≡ T.files site.old }
 {
@@ -59,7 +69,7 @@ pub(crate) fn read_recordings<T: Site>(
 }
 
 // The samples of the recording of the gauge with this number.
-#[tactic(auto, using(crate::proofs::on_sheet_command::Recordings::given_kind))]
+#[tactic(auto, using(crate::proofs::on_sheet_command::Recordings::given_kind, crate::proofs::on_sheet_command::Asking::given_own))]
 fn read_recording<T: Site>(
     alloc: Global,
     number: u16,
@@ -73,6 +83,7 @@ fn read_recording<T: Site>(
     ensures refused { T.tells → IfErr result (λ status.
         MayAnswerFor number status (file_state (T.files site.old gauge.now.file))) }
     ensures kind { IfErr result IsReadStatus }
+    ensures own { IfErr result (IsOfGauge number) }
     ensures cause { result ≡ Err ReadFault → CountRose (T.faults site.old) (T.faults site.new) }
     ensures later { T.faults site.old ≤ T.faults site.new }
     ensures asked { Asks (T.names_asked site.old) (T.names_asked site.new)

@@ -5,6 +5,8 @@ use Rattle.site_config.specs.recorded.Recorded.{recordings}
 use Rattle.segment_store.specs.Holds.{held_of}
 use Rattle.audit_command.specs.Audited.{IsItem}
 use Rattle.audit_command.specs.Recounted.{AreOf, AreOver}
+use Rattle.site_config.specs.recorded.Asked.{file_names}
+use Rattle.audit_command.proofs.Asking.{recounting_asks, other_asks}
 use Rattle.audit_command.proofs.Ended.{recounting_answers, recounting_unprinted, recounting_kind, recounting_no_write, other_answers, other_unprinted, other_kind, other_no_fault}
 use Rattle.audit_command.proofs.Recounts.{are_of, are_over}
 use Rattle.audit_command.proofs.audited.audit_held.Goals as goal
@@ -32,7 +34,18 @@ returns-in-Err-clause-kind g c = recounting_kind c.in-Err.status c.in-Err.ensure
 pub returns-in-Err-clause-write : goal.returns-in-Err-clause-write
 returns-in-Err-clause-write g c = λ is. absurd (recounting_no_write c.in-Err.status c.in-Err.ensures.kind is)
 
+pub returns-in-Err-clause-asked : goal.returns-in-Err-clause-asked
+returns-in-Err-clause-asked g c =
+    recounting_asks (g.T.Site.names_asked c.args.site.now) (g.T.Site.names_asked c.recount_all.new.site)
+    (file_names c.args.bridge.now)
+    c.in-Err.status c.in-Err.ensures.kind c.in-Err.ensures.asked
+
 -- something differs
+pub returns-in-Some-clause-asked : goal.returns-in-Some-clause-asked
+returns-in-Some-clause-asked g c =
+    other_asks (g.T.Site.names_asked c.args.site.now) (g.T.Site.names_asked c.recount_all.new.site) (file_names c.args.bridge.now)
+    c.in-Some.status c.in-Some.ensures.kind c.in_default-recount_all.ensures.asked
+
 pub returns-in-Some-clause-prints : goal.returns-in-Some-clause-prints
 returns-in-Some-clause-prints g c =
     λ writes. other_unprinted c.in-Some.status c.in-Some.ensures.kind c.args.bridge.now (g.O.Sink.written c.args.out.now)

@@ -4,13 +4,13 @@ use Rattle.segment_store.specs.Moments.{StoreValue}
 use Rattle.store_bytes.specs.store_head.Head.{HeadValue}
 use Rattle.site_config.specs.recorded.Recorded.{recordings}
 use Rattle.site_config.specs.recorded.Asked.{file_names}
-use Rattle.site_config.proofs.on_recorded.Asking.{none_is_first}
 use Rattle.status.specs.declared.status.Status.{Status}
 use Rattle.status.specs.declared.status.Status.TheVariants.{Done, OutOfMemory}
 use Rattle.segment_store.specs.Holds.{held_of}
 use Rattle.status.proofs.Refusals.{refused_complete}
 use Rattle.audit_command.specs.Answers.{HeldAnswers}
 use Rattle.audit_command.specs.Audited.{FindsDifference, HasKept, IsItem, IsStanding}
+use Rattle.audit_command.proofs.Asking.{refused_asks}
 use Rattle.audit_command.proofs.Audits.{finds_by}
 use Rattle.audit_command.proofs.Ended.{answers_by, answers_over, auditing_no_disk, finds_of, held_complete, items_keep, items_stand, read_as}
 use Rattle.audit_command.proofs.AnswerKinds.{audited_named, refused_named}
@@ -89,5 +89,5 @@ pub returns-in-Err-clause-named : goal.returns-in-Err-clause-named
 returns-in-Err-clause-named g c = refused_named c.status_of.result c.in-Err.fault c.status_of.ensures
 
 pub returns-in-Err-clause-asked : goal.returns-in-Err-clause-asked
-returns-in-Err-clause-asked g c = none_is_first (g.T.Site.names_asked c.args.site.now) (g.T.Site.names_asked c.args.site.now)
-    (file_names c.args.bridge.now) (λ names has. has)
+returns-in-Err-clause-asked g c = refused_asks (g.T.Site.names_asked c.args.site.now) (file_names c.args.bridge.now) c.status_of.result
+    c.in-Err.fault c.status_of.ensures

@@ -8,7 +8,6 @@ use Rattle.site_config.specs.declared.config.Config.{Config}
 use Rattle.site_config.specs.declared.fault.ConfigFault.{ConfigFault}
 use Rattle.site_config.specs.recorded.Recorded.{recordings}
 use Rattle.site_config.specs.recorded.Asked.{names_in}
-use Rattle.site_config.proofs.on_recorded.Asking.{first_read, none_is_first}
 use Rattle.status.specs.fault_lines.FaultLine.{fault_line, name_by}
 use Rattle.status.specs.fault_lines.Room.{FaultLineValue}
 use Rattle.status.specs.fault_lines.Telling.{TellsAtMost}
@@ -17,8 +16,10 @@ use Rattle.status.proofs.on_fault_lines.Telling.{quiet_tells}
 use Rattle.status.proofs.on_config_reading.Refusing.{unread_other}
 use Rattle.outside.proofs.on_station.Told.{last_after}
 use Rattle.audit_command.specs.Answers.{IsAudited}
+use Rattle.audit_command.specs.Asked.{AuditAsks}
 use Rattle.audit_command.specs.Audited.{FindsDifference, IsStanding}
 use Rattle.audit_command.specs.Printing.{Prints}
+use Rattle.audit_command.proofs.Asking.{none_first, unread_asks}
 use Rattle.audit_command.proofs.Ended.{finds_unread, name_short, not_printed, over_config, unread_answer, unread_complete, unread_unprinted}
 use Rattle.audit_command.proofs.AnswerKinds.{unread_named}
 use Rattle.audit_command.proofs.command.audit_command.Goals as goal
@@ -148,15 +149,15 @@ returns-clause-named g c = unread_named c.in-Err.status c.in-Err.ensures.refusal
 -- which files are asked for
 pub returns-in_default-clause-asked : goal.returns-in_default-clause-asked
 returns-in_default-clause-asked g c = λ gives.
-    none_is_first (g.T.Site.names_asked c.args.site.now) (g.T.Site.names_asked c.args.site.now)
-    (names_in (config_of_bytes (g.C.Source.left c.args.config.now))) (λ names has. has)
+    none_first (g.T.Site.names_asked c.args.site.now) (names_in (config_of_bytes (g.C.Source.left c.args.config.now)))
 
 pub returns-clause-asked : goal.returns-clause-asked
 returns-clause-asked g c = λ gives.
-    none_is_first (g.T.Site.names_asked c.args.site.now) (g.T.Site.names_asked c.args.site.now)
-    (names_in (config_of_bytes (g.C.Source.left c.args.config.now))) (λ names has. has)
+    unread_asks (g.T.Site.names_asked c.args.site.now) (names_in (config_of_bytes (g.C.Source.left c.args.config.now)))
+    c.in-Err.status c.in-Err.ensures.refusal
 
 pub returns-in-Ok-read_config-clause-asked : goal.returns-in-Ok-read_config-clause-asked
 returns-in-Ok-read_config-clause-asked g c = λ gives.
-    first_read (config_of_bytes (g.C.Source.left c.args.config.now)) c.in-Ok-read_config.bridge (g.T.Site.names_asked c.args.site.now)
-    (g.T.Site.names_asked c.audit_by-status.new.site) (c.in-Ok-read_config.ensures.meaning gives) c.audit_by-status.ensures.asked
+    let asked = g.T.Site.names_asked in
+    subst (λ (r : Result Config ConfigFault). AuditAsks c.audit_by-status.result (asked c.args.site.now)
+    (asked c.audit_by-status.new.site) (names_in r)) (sym (c.in-Ok-read_config.ensures.meaning gives)) c.audit_by-status.ensures.asked

@@ -4,8 +4,10 @@ use Rattle.outside.specs.Site.{Files}
 use Rattle.recount.specs.declared.count.Recount.{Recount}
 use Rattle.segment_store.specs.Held.{ends_of}
 use Rattle.site_config.specs.recorded.Recorded.{recordings}
-use Rattle.site_config.proofs.on_recorded.Asking.{asks_more, stops_behind, first_names}
+use Rattle.site_config.specs.recorded.Asked.{file_names}
+use Rattle.site_config.proofs.on_recorded.Asking.{asks_more}
 use Rattle.site_lanes.specs.Answers.{GaugeAnswers, FaultOf}
+use Rattle.site_lanes.proofs.Asking.{up_to, all_asked, refused_asks}
 use Rattle.site_lanes.proofs.Opened.{open_refused, all_more_opened}
 use Rattle.audit_command.proofs.Recounts.{recounts_more, first_again}
 use Rattle.audit_command.proofs.recounting.recount_all.Goals as goal
@@ -52,10 +54,12 @@ returns-clause-answer g c =
 pub returns-in-Err-clause-asked : goal.returns-in-Err-clause-asked
 returns-in-Err-clause-asked g c =
     let asked = g.T.Site.names_asked in
-    stops_behind c.args.bridge.now c.loop-gauge.gauge (asked c.args.site.now) (asked c.loop-gauge.site) c.loop-gauge.invariant.asked
-    (asked c.recount_gauge.new.site) (omega (arith, ap length c.as_slice-gauge-end.ensures)) c.recount_gauge.ensures.asked
+    refused_asks c.loop-gauge.gauge (asked c.args.site.now) (asked c.recount_gauge.new.site) (file_names c.args.bridge.now)
+    (up_to c.args.bridge.now c.loop-gauge.gauge (asked c.args.site.now) (asked c.loop-gauge.site) c.loop-gauge.invariant.asked
+    (asked c.recount_gauge.new.site) (omega (arith, ap length c.as_slice-gauge-end.ensures)) c.recount_gauge.ensures.asked)
+    c.in-Err.status c.in-Err.ensures.own
 
 pub returns-clause-asked : goal.returns-clause-asked
 returns-clause-asked g c =
-    first_names c.args.bridge.now c.loop-gauge.gauge (g.T.Site.names_asked c.args.site.now) (g.T.Site.names_asked c.loop-gauge.site)
-    c.loop-gauge.invariant.asked (omega (arith, c.loop-gauge.auto.gauge-end, ap length c.as_slice-gauge-end.ensures))
+    all_asked c.args.bridge.now c.loop-gauge.gauge (g.T.Site.names_asked c.args.site.now) (g.T.Site.names_asked c.loop-gauge.site)
+    c.loop-gauge.invariant.asked (omega (arith, c.loop-gauge-test.false, ap length c.as_slice-gauge-end.ensures))

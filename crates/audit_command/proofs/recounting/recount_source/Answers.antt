@@ -1,6 +1,8 @@
 use Rattle.std.proofs.Common.{◌∙◌, ap, take}
 use Rattle.std.specs.Prelude.{Err}
 use Rattle.recount.specs.declared.count.Recount.{Recount}
+use Rattle.site_lanes.proofs.Asking.{opened_own}
+use Rattle.audit_command.proofs.Asking.{recounted_own}
 use Rattle.audit_command.proofs.Opened.{has_enough, not_opened, not_recounted}
 use Rattle.audit_command.proofs.recounting.recount_source.Goals as goal
 
@@ -27,3 +29,10 @@ pub returns-in-Err-clause-answer : goal.returns-in-Err-clause-answer
 returns-in-Err-clause-answer g c = λ tells.
     not_opened c.args.kept.now c.args.held (g.S.Source.left c.args.src.now) (g.S.Source.left c.open_recording.new.src) c.args.gauge Recount
     c.in-Err.fault c.opened_status.result c.opened_status.ensures (c.in-Err.ensures.answer tells)
+
+pub returns-in-Err-count_again-clause-own : goal.returns-in-Err-count_again-clause-own
+returns-in-Err-count_again-clause-own g c =
+    recounted_own c.args.gauge c.args.held c.in-Err-count_again.fault c.recounted_status.result c.recounted_status.ensures
+
+pub returns-in-Err-clause-own : goal.returns-in-Err-clause-own
+returns-in-Err-clause-own g c = opened_own c.args.gauge c.in-Err.fault c.opened_status.result c.opened_status.ensures

@@ -1,9 +1,13 @@
-use Rattle.std.proofs.Common.{◌<◌, ◌+◌, List, [], ◌∷◌, ◌∙◌, length, ap, sym, subst, length-append, arith}
+use Rattle.std.proofs.Common.{◌<◌, ◌+◌, ℕ, List, [], ◌∷◌, inl, ◌∙◌, length, ap, sym, subst, length-append, arith}
+use Rattle.std.proofs.lemmas.List.{length-map, take_all}
 use Rattle.std.specs.Prelude.{Ok, Err}
+use Rattle.outside.specs.Site.{Asks}
 use Rattle.recording.specs.declared.head.Head.{Head}
 use Rattle.site_config.specs.recorded.Asked.{file_names}
-use Rattle.site_config.proofs.on_recorded.Asking.{asks_file, asks_more, stops_behind, first_names, none_is_first}
+use Rattle.site_config.specs.declared.config.Gauge.{Gauge}
+use Rattle.site_config.proofs.on_recorded.Asking.{asks_file, asks_more}
 use Rattle.init_command.specs.Heads.{AreHeadsBelow, AreHeads, HasHeadIn, HeadAnswer}
+use Rattle.init_command.proofs.Asking.{head_asks, heads_status}
 use Rattle.init_command.proofs.Reading.{heads_more, heads_all, heads_refused, file_for}
 use Rattle.init_command.proofs.heads.read_heads.Goals as goal
 
@@ -56,21 +60,31 @@ returns-clause-answer g c = λ tells.
     (heads_all c.args.bridge.now files c.loop-gauge.gauge c.loop-gauge.heads.items was.many
     (omega (arith, c.loop-gauge-test.false, c.loop-gauge.auto.gauge-end, ap length c.as_slice-gauges.ensures)) (was.each tells))
 
+pub returns-in-Err-clause-kind : goal.returns-in-Err-clause-kind
+returns-in-Err-clause-kind g c = heads_status c.loop-gauge.gauge c.in-Err.status c.in-Err.ensures.kind
+
 pub returns-in-Err-clause-asked : goal.returns-in-Err-clause-asked
 returns-in-Err-clause-asked g c =
     let asked = g.T.Site.names_asked in
-    let lt : c.loop-gauge.gauge < length c.args.bridge.now.gauges =
-    omega (arith, c.loop-gauge-test.true, ap length c.as_slice-gauges.ensures) in
-    stops_behind c.args.bridge.now c.loop-gauge.gauge (asked c.args.site.now) (asked c.loop-gauge.site) c.loop-gauge.invariant.asked
-    (asked c.read_head_of.new.site) lt (asks_file c.args.bridge.now c.loop-gauge.gauge c.as_slice-gauges.result.now
+    let bridge = c.args.bridge.now in
+    let lt : c.loop-gauge.gauge < length bridge.gauges = omega (arith, c.loop-gauge-test.true, ap length c.as_slice-gauges.ensures) in
+    head_asks (asked c.args.site.now) (asked c.read_head_of.new.site) (file_names bridge) c.loop-gauge.gauge
+    (omega (arith, lt, length-map bridge.gauges (λ (gauge : Gauge). gauge.file)))
+    (asks_more bridge c.loop-gauge.gauge (asked c.args.site.now) (asked c.loop-gauge.site) c.loop-gauge.invariant.asked
+    (asked c.read_head_of.new.site) lt (asks_file bridge c.loop-gauge.gauge c.as_slice-gauges.result.now
     c.index-gauges-gauge.result c.as_str.result.now lt c.as_slice-gauges.ensures c.as_str.ensures (asked c.loop-gauge.site)
-    (asked c.read_head_of.new.site) c.read_head_of.ensures.asked)
+    (asked c.read_head_of.new.site) c.read_head_of.ensures.asked)) c.in-Err.status c.in-Err.ensures.kind
 
 pub returns-clause-asked : goal.returns-clause-asked
 returns-clause-asked g c =
-    first_names c.args.bridge.now c.loop-gauge.gauge (g.T.Site.names_asked c.args.site.now) (g.T.Site.names_asked c.loop-gauge.site)
-    c.loop-gauge.invariant.asked (omega (arith, c.loop-gauge.auto.gauge-end, ap length c.as_slice-gauges.ensures))
+    let names = file_names c.args.bridge.now in
+    subst (λ (l : List (List ℕ)). Asks (g.T.Site.names_asked c.args.site.now) (g.T.Site.names_asked c.loop-gauge.site) l)
+    (take_all c.loop-gauge.gauge names (omega (
+      arith,
+      c.loop-gauge-test.false,
+      ap length c.as_slice-gauges.ensures,
+      length-map c.args.bridge.now.gauges (λ (gauge : Gauge). gauge.file),
+    ))) c.loop-gauge.invariant.asked
 
 pub returns-in_default-clause-asked : goal.returns-in_default-clause-asked
-returns-in_default-clause-asked g c = none_is_first (g.T.Site.names_asked c.args.site.now) (g.T.Site.names_asked c.args.site.now)
-    (file_names c.args.bridge.now) (λ names has. has)
+returns-in_default-clause-asked g c = inl (λ names has. has)

@@ -6,6 +6,7 @@ use Rattle.segment_store.specs.Held.{ends_of}
 use Rattle.store_bytes.specs.store_head.Head.{HeadValue}
 use Rattle.count_workers.specs.declared.lane_loans.lane.Lane.{Lane}
 use Rattle.site_config.proofs.on_recorded.Asking.{asks_file, file_is}
+use Rattle.site_lanes.proofs.Asking.{opened_own}
 use Rattle.site_lanes.proofs.Opened.{gauge_fault, gauge_refused}
 use Rattle.site_lanes.proofs.lanes.open_lane.Goals as goal
 use Rattle.outside.proofs.Asked.{asks_no_more}
@@ -28,6 +29,10 @@ returns-in-Err-open_recording-clause-answer g c = λ shows.
     (c.as_slice-2.ensures ∙ ap (λ (h : HeadValue). h.heads) c.head.ensures)
     (ap (λ (x : Name). x.to) c.name-held.ensures.value ∙ c.held.ensures.end) (Lane g.row.T-Src.Denot) c.in-Err-open_recording.fault _
     c.opened_status.ensures (c.in-Err-open_recording.ensures.answer (c.in-Ok.ensures.source_tells shows))
+
+pub returns-in-Err-open_recording-clause-own : goal.returns-in-Err-open_recording-clause-own
+returns-in-Err-open_recording-clause-own g c =
+    opened_own c.args.gauge c.in-Err-open_recording.fault c.opened_status.result c.opened_status.ensures
 
 pub returns-in-Err-clause-asked : goal.returns-in-Err-clause-asked
 returns-in-Err-clause-asked g c =

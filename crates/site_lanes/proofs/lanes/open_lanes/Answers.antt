@@ -6,9 +6,11 @@ use Rattle.count_workers.specs.lane_loans.Lent.{CanRound}
 use Rattle.count_workers.specs.declared.lane_loans.lane.Lane.{Lane}
 use Rattle.recording.specs.declared.lane_ends.end.End.TheVariants.{More}
 use Rattle.site_config.specs.recorded.Recorded.{recordings}
-use Rattle.site_config.proofs.on_recorded.Asking.{asks_more, stops_behind, first_names}
+use Rattle.site_config.specs.recorded.Asked.{file_names}
+use Rattle.site_config.proofs.on_recorded.Asking.{asks_more}
 use Rattle.site_lanes.specs.Answers.{GaugeAnswers, FaultOf}
 use Rattle.site_lanes.specs.Lanes.{HasSource, IsLane}
+use Rattle.site_lanes.proofs.Asking.{up_to, all_asked, refused_asks}
 use Rattle.site_lanes.proofs.Opened.{open_refused, all_more_opened}
 use Rattle.site_lanes.proofs.lanes.open_lanes.Goals as goal
 use Rattle.lemmas.proofs.Lists.{each_more}
@@ -66,10 +68,12 @@ returns-clause-answer g c =
 pub returns-in-Err-clause-asked : goal.returns-in-Err-clause-asked
 returns-in-Err-clause-asked g c =
     let asked = g.T.Site.names_asked in
-    stops_behind c.args.bridge.now c.loop-gauge.gauge (asked c.args.site.now) (asked c.loop-gauge.site) c.loop-gauge.invariant.asked
-    (asked c.open_lane.new.site) (omega (arith, ap length c.as_slice-gauge-end.ensures)) c.open_lane.ensures.asked
+    refused_asks c.loop-gauge.gauge (asked c.args.site.now) (asked c.open_lane.new.site) (file_names c.args.bridge.now)
+    (up_to c.args.bridge.now c.loop-gauge.gauge (asked c.args.site.now) (asked c.loop-gauge.site) c.loop-gauge.invariant.asked
+    (asked c.open_lane.new.site) (omega (arith, ap length c.as_slice-gauge-end.ensures)) c.open_lane.ensures.asked)
+    c.in-Err.status c.in-Err.ensures.own
 
 pub returns-clause-asked : goal.returns-clause-asked
 returns-clause-asked g c =
-    first_names c.args.bridge.now c.loop-gauge.gauge (g.T.Site.names_asked c.args.site.now) (g.T.Site.names_asked c.loop-gauge.site)
-    c.loop-gauge.invariant.asked (omega (arith, c.loop-gauge.auto.gauge-end, ap length c.as_slice-gauge-end.ensures))
+    all_asked c.args.bridge.now c.loop-gauge.gauge (g.T.Site.names_asked c.args.site.now) (g.T.Site.names_asked c.loop-gauge.site)
+    c.loop-gauge.invariant.asked (omega (arith, c.loop-gauge-test.false, ap length c.as_slice-gauge-end.ensures))

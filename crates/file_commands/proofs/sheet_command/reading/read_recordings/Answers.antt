@@ -1,16 +1,17 @@
-use Rattle.std.proofs.Common.{◌≡◌, ◌<◌, ℤ, ◌+◌, List, [], ◌∷◌, ◌++◌, length, drop, map, get_or, ◌∙◌, ap, subst, length-append, arith}
+use Rattle.std.proofs.Common.{◌≡◌, ◌<◌, ℕ, ℤ, ◌+◌, List, [], ◌∷◌, ◌++◌, length, drop, map, get_or, ◌∙◌, ap, subst, length-append, arith}
 use Rattle.std.specs.Prelude.{Vec}
-use Rattle.std.proofs.lemmas.List.{map-append}
+use Rattle.std.proofs.lemmas.List.{map-append, length-map, take_all}
 use Rattle.std.specs.declared.alloc.Global.{Global}
-use Rattle.outside.specs.Site.{Files}
+use Rattle.outside.specs.Site.{Asks, Files}
 use Rattle.site_config.specs.declared.config.Gauge.{Gauge}
 use Rattle.recording.specs.Samples.{samples as all_samples}
 use Rattle.site_config.specs.recorded.Asked.{file_names}
 use Rattle.site_config.specs.recorded.Recorded.{body_in}
-use Rattle.site_config.proofs.on_recorded.Asking.{asks_file, asks_more, stops_behind, first_names, none_is_first}
+use Rattle.site_config.proofs.on_recorded.Asking.{asks_file, asks_more, none_is_first}
 use Rattle.file_commands.specs.file_tasks.FileState.{Sound, file_state}
 use Rattle.file_commands.specs.file_tasks.Answer.{MayAnswer as MayAnswerFor}
 use Rattle.file_commands.specs.sheet_command.Sheet.{recordings_of, answer_over}
+use Rattle.file_commands.proofs.on_sheet_command.Asking.{reading_asks}
 use Rattle.file_commands.proofs.on_sheet_command.Recordings.{read_more, sound_more, refused, sound_all}
 use Rattle.file_commands.proofs.sheet_command.reading.read_recordings.Goals as goal
 
@@ -71,18 +72,28 @@ returns-clause-sound g c = λ tells.
 pub returns-in-Err-clause-asked : goal.returns-in-Err-clause-asked
 returns-in-Err-clause-asked g c =
     let asked = g.T.Site.names_asked in
+    let bridge = c.args.bridge.now in
+    let number = c.loop-number.number in
     let here = c.index-gauges-number.result in
-    let lt : c.loop-number.number < length c.args.bridge.now.gauges =
-    omega (arith, c.loop-number-test.true, ap length c.as_slice-gauges.ensures) in
-    stops_behind c.args.bridge.now c.loop-number.number (asked c.args.site.now) (asked c.loop-number.site) c.loop-number.invariant.asked
-    (asked c.read_recording.new.site) lt (asks_file c.args.bridge.now c.loop-number.number c.as_slice-gauges.result.now here here.file lt
-    c.as_slice-gauges.ensures (ap (λ (x : Gauge). x.file) c.index-gauges-number.is) (asked c.loop-number.site)
-    (asked c.read_recording.new.site) c.read_recording.ensures.asked)
+    let lt : number < length bridge.gauges = omega (arith, c.loop-number-test.true, ap length c.as_slice-gauges.ensures) in
+    reading_asks (asked c.args.site.now) (asked c.read_recording.new.site) (file_names bridge) number (
+      omega (arith, lt, length-map bridge.gauges (λ (gauge : Gauge). gauge.file)),
+      asks_more bridge number (asked c.args.site.now) (asked c.loop-number.site) c.loop-number.invariant.asked
+          (asked c.read_recording.new.site) lt (asks_file bridge number c.as_slice-gauges.result.now here here.file lt
+          c.as_slice-gauges.ensures (ap (λ (x : Gauge). x.file) c.index-gauges-number.is) (asked c.loop-number.site)
+          (asked c.read_recording.new.site) c.read_recording.ensures.asked),
+    ) c.in-Err.status c.in-Err.ensures.kind c.in-Err.ensures.own
 
 pub returns-clause-asked : goal.returns-clause-asked
 returns-clause-asked g c =
-    first_names c.args.bridge.now c.loop-number.number (g.T.Site.names_asked c.args.site.now) (g.T.Site.names_asked c.loop-number.site)
-    c.loop-number.invariant.asked (omega (arith, c.loop-number.auto.number-end, ap length c.as_slice-gauges.ensures))
+    let names = file_names c.args.bridge.now in
+    subst (λ (l : List (List ℕ)). Asks (g.T.Site.names_asked c.args.site.now) (g.T.Site.names_asked c.loop-number.site) l)
+    (take_all c.loop-number.number names (omega (
+      arith,
+      c.loop-number-test.false,
+      ap length c.as_slice-gauges.ensures,
+      length-map c.args.bridge.now.gauges (λ (gauge : Gauge). gauge.file),
+    ))) c.loop-number.invariant.asked
 
 pub returns-in_default-clause-asked : goal.returns-in_default-clause-asked
 returns-in_default-clause-asked g c = none_is_first (g.T.Site.names_asked c.args.site.now) (g.T.Site.names_asked c.args.site.now)
