@@ -4,11 +4,13 @@ ghost use Rattle.outside.specs.Fault.{CountRose};
 ghost use Rattle.outside.specs.Site.{Files};
 ghost use Rattle.calibration.specs.declared.limits.TheConstants.{MAX_WORKERS};
 ghost use Rattle.segment_store.specs.Held.{ends_of};
-ghost use Rattle.segment_store.specs.Moments.{IsThere};
+ghost use Rattle.segment.specs.segment_rules.Parts.{PartsValue};
+ghost use Rattle.segment_store.specs.Moments.{IsOn, IsThere};
 ghost use Rattle.segment_store.specs.Quiet.{IsQuiet};
 ghost use Rattle.site_config.specs.Valid.{IsConfig};
 ghost use Rattle.site_config.specs.recorded.Recorded.{recordings};
-ghost use Rattle.count_command.specs.held_samples.Going.{HoldsSinceEntry, IsStored};
+ghost use Rattle.count_command.specs.held_samples.Kept.{beginning};
+ghost use Rattle.count_command.specs.held_samples.Going.{HoldsSince, HoldsSinceEntry, IsStored};
 ghost use Rattle.count_command.specs.held_samples.Told.{Acknowledges};
 ghost use Rattle.site_lanes.specs.Lanes.{AreLanes, AreHeldTo, HasSource, IsFaulty, HasNotFailed};
 ghost use Rattle.report_command.specs.site_report.Room.{HasRoom};
@@ -84,6 +86,14 @@ pub fn count_opened<
         IsStored (recordings bridge.now files) store.old (K.seen station.old)
         (K.leaves station.old) →
         HoldsSinceEntry (recordings bridge.now files) (ends_of store.old.held)
+        (K.clock station.old) (K.moments station.old) (K.told station.old)
+        (K.clock station.new) (K.moments station.new) (K.told station.new)
+        (K.leaves station.new) (ends_of store.new.held) }
+    // Whatever bodies the store had, each image reads as these and more.
+    ensures appends { K.tells → (files : Files) (front : List PartsValue) →
+        IsOn store.old front (K.seen station.old) (K.leaves station.old) →
+        HoldsSince (beginning store.old.head front) (recordings bridge.now files)
+        (ends_of store.old.held)
         (K.clock station.old) (K.moments station.old) (K.told station.old)
         (K.clock station.new) (K.moments station.new) (K.told station.new)
         (K.leaves station.new) (ends_of store.new.held) }

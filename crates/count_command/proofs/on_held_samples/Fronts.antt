@@ -1,9 +1,13 @@
 -- The front of one gauge, among those of a round.
-use Rattle.std.proofs.Common.{◌≡◌, ◌≢◌, ◌≤◌, ◌<◌, ◌+◌, ◌++◌, inl, inr, ℕ, List, length, slice_index, slice_range, sym, ◌∙◌, ap, subst, arith}
+use Rattle.std.proofs.Common.{◌≡◌, ◌≢◌, ◌≤◌, ◌<◌, ◌+◌, ◌++◌, [], ◌∷◌, inl, inr, ℕ, ℤ, List, length, slice_index, slice_range, append_assoc, sym, ◌∙◌, ap, subst, arith}
 use Rattle.std.proofs.lemmas.Bool.{cases_eq}
 use Rattle.outside.specs.station.Station.{Lines}
 use Rattle.count_command.specs.held_samples.Told.{gauge_lines}
 use Rattle.calibration.specs.Grid.{GridValue}
+use Rattle.calibration.specs.declared.setup.Setup.{Setup}
+use Rattle.board.specs.Board.{StandsIn as StandsFor}
+use Rattle.segment.specs.segment_rules.Parts.{PartsValue}
+use Rattle.store_bytes.specs.store_head.Head.{HeadValue}
 use Rattle.segment.specs.Segment.{SegmentValue, IsSegment}
 use Rattle.segment.specs.Parts.{parts_of}
 use Rattle.segment.specs.Standing.{PartsStand}
@@ -11,20 +15,33 @@ use Rattle.segment.proofs.PartsStanding.{parts_stand}
 use Rattle.segment_store.specs.Holds.{gain_at, StandsIn}
 use Rattle.site_config.specs.declared.config.Config.{Config}
 use Rattle.site_config.specs.Valid.{IsConfig, name_of}
-use Rattle.site_config.specs.recorded.Recorded.{Recorded}
 use Rattle.count_command.specs.held_samples.Going.{AreNames}
-use Rattle.count_command.specs.held_samples.Fronts.{IsHeldTo, StandsInRecording}
+use Rattle.count_command.specs.held_samples.Fronts.{IsHeldTo}
+use Rattle.count_command.specs.held_samples.Kept.{Kept, standing, beginning, Meets, MayFollow}
+use Rattle.count_command.proofs.on_held_samples.Going.{all_more}
 
 pub are_names : (bridge : Config) → IsConfig bridge → AreNames (name_of bridge) (length bridge.gauges)
 are_names bridge is = record { letters = is.names; differ = is.differ }
 
 -- what stands for samples does so by its parts
-pub stands_in : (r : Recorded) (front : SegmentValue) → IsSegment front → front.grid ≡ r.setup.grid → StandsInRecording r front
-    → StandsIn r.setup r.samples (parts_of front)
-stands_in r front rules over stands =
-    let gain = gain_at r.setup front.gauge in
-    let samples = slice_range (r.samples front.gauge) front.from front.to in
+stands_in : (setup : Setup) (w : ℕ → List ℤ) (front : SegmentValue) → IsSegment front → front.grid ≡ setup.grid
+    → StandsFor front (gain_at setup front.gauge) (w front.gauge) → StandsIn setup w (parts_of front)
+stands_in setup w front rules over stands =
+    let gain = gain_at setup front.gauge in
+    let samples = slice_range (w front.gauge) front.from front.to in
     subst (λ (g : GridValue). PartsStand g gain (parts_of front) samples) over (parts_stand front rules gain samples stands)
+
+-- what a store has keeps what it must with a front behind it that may follow
+pub meets_more : (kept : Kept) (head : HeadValue) (bodies : List PartsValue) (front : SegmentValue) → IsSegment front
+    → front.grid ≡ head.setup.grid → Meets kept head bodies → MayFollow kept front → Meets kept head (bodies ++ parts_of front ∷ [])
+meets_more (standing setup w) head bodies front rules over meets follows = (
+  meets.0,
+  all_more (StandsIn setup w) bodies (parts_of front) meets.1
+      (stands_in setup w front rules (over ∙ ap (λ (s : Setup). s.grid) meets.0) follows),
+)
+meets_more (beginning first was) head bodies front rules over meets follows =
+    let last = parts_of front ∷ [] in
+    (meets.0, (meets.1.0 ++ last, ap (λ (b : List PartsValue). b ++ last) meets.1.1 ∙ append_assoc was meets.1.0 last))
 
 pub not_same : (h k g : ℕ) → h < k → g ≡ k → h ≢ g
 not_same h k g lt is e = omega (arith, lt, is, e)

@@ -17,8 +17,9 @@ use Rattle.site_config.specs.declared.config.Config.{Config}
 use Rattle.site_config.specs.Valid.{name_of}
 use Rattle.site_config.specs.recorded.Recorded.{recordings}
 use Rattle.count_command.specs.held_samples.Told.{round_lines}
-use Rattle.count_command.specs.held_samples.Going.{HoldsSinceEntry, IsStored}
-use Rattle.count_command.specs.held_samples.Fronts.{AreFronts, FrontsEnd, FrontsStand}
+use Rattle.count_command.specs.held_samples.Kept.{Kept}
+use Rattle.count_command.specs.held_samples.Going.{HoldsSince, IsStoredAs}
+use Rattle.count_command.specs.held_samples.Fronts.{AreFronts, FrontsEnd, FrontsFollow}
 
 -- a board for rounds of so many gauges
 abbrev pub IsBoardFor : PreparedValue → BoardValue → Type 0
@@ -34,13 +35,12 @@ pub record Stores {E : Type 0} (tells : Type 0) (bridge : Config) (board : Board
     (moments moments2 : MomentsSince) (told told2 : Lines) (seen seen2 : Image) (leaves leaves2 : Image → Type 0)
     (faults faults2 : ℕ)
     (result : Result (Unit {0}) E) : Type 0 where
-  pub going : tells → (files : Files) → IsStored (recordings bridge files) old seen leaves →
-      FrontsStand (recordings bridge files) board →
-      HoldsSinceEntry (recordings bridge files) (ends_of old.held) clock moments told clock2 moments2 told2 leaves2
+  pub going : tells → (files : Files) (kept : Kept) → IsStoredAs kept old seen leaves →
+      FrontsFollow kept (length bridge.gauges) board →
+      HoldsSince kept (recordings bridge files) (ends_of old.held) clock moments told clock2 moments2 told2 leaves2
       (ends_of new.held)
-  pub stored : tells → (files : Files) → IsStored (recordings bridge files) old seen leaves →
-      FrontsStand (recordings bridge files) board →
-      OnOk result (IsStored (recordings bridge files) new seen2 leaves2)
+  pub stored : tells → (kept : Kept) → IsStoredAs kept old seen leaves →
+      FrontsFollow kept (length bridge.gauges) board → OnOk result (IsStoredAs kept new seen2 leaves2)
   pub lines : tells → OnOk result (told2 ≡ told ++
       round_lines (name_of bridge) (slice_index (ends_of old.held)) (slice_index (ends_of new.held))
       (length bridge.gauges))

@@ -2,13 +2,15 @@
 --   IsHeldTo                           one gauge is held up to there, and the others as before
 --   IsNextFront                        a front begins where its gauge's held segment ends
 --   StandsInRecording                  a segment stands for the samples of a recording that its name names
---   AreFronts, FrontsEnd, FrontsStand  whichever segments a board gives as fronts
+--   AreFronts, FrontsEnd               whichever segments a board gives as fronts
+--   FrontsFollow                       those that are not empty may follow on what a store keeps
+--   FrontsStand                        those that are not empty stand for the recordings
 use Rattle.std.specs.Prelude.{◌≡◌, ◌≢◌, ◌<◌, ◌≤◌, ℕ, List, slice_index}
 use Rattle.calibration.specs.declared.setup.Setup.{Setup}
 use Rattle.segment.specs.Segment.{SegmentValue}
-use Rattle.board.specs.Board.{BoardValue, IsFront, StandsIn}
+use Rattle.board.specs.Board.{BoardValue, IsFront}
 use Rattle.site_config.specs.recorded.Recorded.{Recorded}
-use Rattle.segment_store.specs.Holds.{gain_at}
+use Rattle.count_command.specs.held_samples.Kept.{Kept, recorded, MayFollow}
 
 pub record IsHeldTo (ends : List ℕ) (gauge to : ℕ) (now : List ℕ) : Type 0 where
   pub here : slice_index now gauge ≡ to
@@ -28,10 +30,12 @@ abbrev pub FrontsEnd : (ℕ → ℕ) → BoardValue → ℕ → Type 0
 FrontsEnd to board gauges = (g : ℕ) (front : SegmentValue) → g < gauges → IsFront board g front → front.to ≡ to g
 
 abbrev pub StandsInRecording : Recorded → SegmentValue → Type 0
-StandsInRecording r s = StandsIn s (gain_at r.setup s.gauge) (r.samples s.gauge)
+StandsInRecording r s = MayFollow (recorded r) s
 
--- those that are not empty do
+-- those that are not empty may
+abbrev pub FrontsFollow : Kept → ℕ → BoardValue → Type 0
+FrontsFollow kept gauges board =
+    (g : ℕ) (front : SegmentValue) → g < gauges → IsFront board g front → front.from < front.to → MayFollow kept front
+
 abbrev pub FrontsStand : Recorded → BoardValue → Type 0
-FrontsStand r board =
-    (g : ℕ) (front : SegmentValue) → g < r.gauges → IsFront board g front → front.from < front.to →
-    StandsInRecording r front
+FrontsStand r board = FrontsFollow (recorded r) r.gauges board

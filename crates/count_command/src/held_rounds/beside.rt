@@ -6,12 +6,14 @@ ghost use Rattle.outside.specs.Site.{Files};
 ghost use Rattle.outside.specs.station.Station.{Lines};
 ghost use Rattle.count_workers.specs.round_making.Round.{RoundDone};
 ghost use Rattle.segment_store.specs.Held.{ends_of};
-ghost use Rattle.segment_store.specs.Moments.{IsThere};
+ghost use Rattle.segment.specs.segment_rules.Parts.{PartsValue};
+ghost use Rattle.segment_store.specs.Moments.{IsOn, IsThere};
 ghost use Rattle.site_config.specs.Valid.{IsConfig, name_of};
 ghost use Rattle.site_config.specs.recorded.Recorded.{recordings};
 ghost use Rattle.count_command.specs.held_samples.Told.{round_lines};
-ghost use Rattle.count_command.specs.held_samples.Going.{HoldsSinceEntry, IsStored};
-ghost use Rattle.count_command.specs.held_samples.Fronts.{AreFronts, FrontsStand};
+ghost use Rattle.count_command.specs.held_samples.Kept.{Kept, beginning};
+ghost use Rattle.count_command.specs.held_samples.Going.{HoldsSince, HoldsSinceEntry, IsStored, IsStoredAs};
+ghost use Rattle.count_command.specs.held_samples.Fronts.{AreFronts, FrontsFollow, FrontsStand};
 ghost use Rattle.site_lanes.specs.Lanes.{AreLanes, AreReady, AreHeldTo, HasSource, HasEnded, IsFaulty, IsWhole};
 ghost use Rattle.count_command.specs.held_rounds.Beside.{IsBoardFor, Leads, Stores};
 ghost use Rattle.count_command.specs.held_rounds.Telling.{HasTold};
@@ -121,20 +123,17 @@ fn round_beside<R: Threads + Wait + Sync, C: Source + Send, K: Station, G: Gate 
     requires lanes { AreReady lanes.old }
     requires on { K.tells → IsThere store.old (K.seen station.old) (K.leaves station.old) }
     // Of the running round nothing is said here.
-    ensures going { K.tells → (files : Files) →
-        IsStored (recordings bridge.now files) store.old (K.seen station.old)
-        (K.leaves station.old) →
-        FrontsStand (recordings bridge.now files) board.now →
-        HoldsSinceEntry (recordings bridge.now files) (ends_of store.old.held)
+    ensures going { K.tells → (files : Files) (kept : Kept) →
+        IsStoredAs kept store.old (K.seen station.old) (K.leaves station.old) →
+        FrontsFollow kept (length bridge.now.gauges) board.now →
+        HoldsSince kept (recordings bridge.now files) (ends_of store.old.held)
         (K.clock station.old) (K.moments station.old) (K.told station.old)
         (K.clock station.new) (K.moments station.new) (K.told station.new)
         (K.leaves station.new) (ends_of store.new.held) }
-    ensures stored { K.tells → (files : Files) →
-        IsStored (recordings bridge.now files) store.old (K.seen station.old)
-        (K.leaves station.old) →
-        FrontsStand (recordings bridge.now files) board.now → OnOk result
-        (IsStored (recordings bridge.now files) store.new (K.seen station.new)
-        (K.leaves station.new)) }
+    ensures stored { K.tells → (kept : Kept) →
+        IsStoredAs kept store.old (K.seen station.old) (K.leaves station.old) →
+        FrontsFollow kept (length bridge.now.gauges) board.now → OnOk result
+        (IsStoredAs kept store.new (K.seen station.new) (K.leaves station.new)) }
     ensures there { K.tells →
         OnOk result (IsThere store.new (K.seen station.new) (K.leaves station.new)) }
     ensures usable { OnOk result (store.new.shut ≡ false) }
@@ -193,6 +192,14 @@ pub fn count_rounds<R: Threads + Wait + Sync, C: Source + Send, K: Station, G: G
         IsStored (recordings bridge.now files) store.old (K.seen station.old)
         (K.leaves station.old) →
         HoldsSinceEntry (recordings bridge.now files) (ends_of store.old.held)
+        (K.clock station.old) (K.moments station.old) (K.told station.old)
+        (K.clock station.new) (K.moments station.new) (K.told station.new)
+        (K.leaves station.new) (ends_of store.new.held) }
+    // Whatever bodies the store had, each image reads as these and more.
+    ensures appends { K.tells → (files : Files) (front : List PartsValue) →
+        IsOn store.old front (K.seen station.old) (K.leaves station.old) →
+        HoldsSince (beginning store.old.head front) (recordings bridge.now files)
+        (ends_of store.old.held)
         (K.clock station.old) (K.moments station.old) (K.told station.old)
         (K.clock station.new) (K.moments station.new) (K.told station.new)
         (K.leaves station.new) (ends_of store.new.held) }

@@ -21,8 +21,9 @@ ghost use Rattle.site_config.specs.declared.limits.TheConstants.{MAX_NAME_BYTES}
 ghost use Rattle.site_config.specs.Valid.{IsConfig, name_of};
 ghost use Rattle.site_config.specs.recorded.Recorded.{Recorded, recordings};
 ghost use Rattle.count_command.specs.held_samples.Told.{held_line, gauge_lines, round_lines};
-ghost use Rattle.count_command.specs.held_samples.Going.{HoldsSinceEntry, IsStored, AreNames};
-ghost use Rattle.count_command.specs.held_samples.Fronts.{IsHeldTo, StandsInRecording, AreFronts, FrontsEnd, FrontsStand};
+ghost use Rattle.count_command.specs.held_samples.Kept.{Kept, MayFollow};
+ghost use Rattle.count_command.specs.held_samples.Going.{HoldsSince, IsStoredAs, AreNames};
+ghost use Rattle.count_command.specs.held_samples.Fronts.{IsHeldTo, AreFronts, FrontsEnd, FrontsFollow};
 
 use crate::held_samples::line::HeldLine;
 use board::Board;
@@ -51,17 +52,17 @@ pub fn store_front<K: Station>(
     // Every moment is kept, whatever it answers.
     ensures going { K.tells → (r : Recorded) → AreNames r.names r.gauges →
         front.now.gauge < r.gauges →
-        r.names front.now.gauge ≡ name.now →
-        IsStored r store.old (K.seen station.old) (K.leaves station.old) →
-        StandsInRecording r front.now →
-        HoldsSinceEntry r (ends_of store.old.held)
+        r.names front.now.gauge ≡ name.now → (kept : Kept) →
+        IsStoredAs kept store.old (K.seen station.old) (K.leaves station.old) →
+        MayFollow kept front.now →
+        HoldsSince kept r (ends_of store.old.held)
         (K.clock station.old) (K.moments station.old) (K.told station.old)
         (K.clock station.new) (K.moments station.new) (K.told station.new)
         (K.leaves station.new) (ends_of store.new.held) }
-    ensures stored { K.tells → (r : Recorded) →
-        IsStored r store.old (K.seen station.old) (K.leaves station.old) →
-        StandsInRecording r front.now →
-        OnOk result (IsStored r store.new (K.seen station.new) (K.leaves station.new)) }
+    ensures stored { K.tells → (kept : Kept) →
+        IsStoredAs kept store.old (K.seen station.old) (K.leaves station.old) →
+        MayFollow kept front.now →
+        OnOk result (IsStoredAs kept store.new (K.seen station.new) (K.leaves station.new)) }
     ensures told { K.tells → OnOk result (K.told station.new ≡
         K.told station.old ++ held_line name.now front.now.to ∷ []) }
     ensures held { OnOk result (ends_of store.new.held ≡
@@ -98,17 +99,17 @@ fn store_gauge<K: Station>(
     requires short { length name.now ≤ MAX_NAME_BYTES }
     ensures going { K.tells → (r : Recorded) → AreNames r.names r.gauges →
         front.now.gauge < r.gauges →
-        r.names front.now.gauge ≡ name.now →
-        IsStored r store.old (K.seen station.old) (K.leaves station.old) →
-        (front.now.from < front.now.to → StandsInRecording r front.now) →
-        HoldsSinceEntry r (ends_of store.old.held)
+        r.names front.now.gauge ≡ name.now → (kept : Kept) →
+        IsStoredAs kept store.old (K.seen station.old) (K.leaves station.old) →
+        (front.now.from < front.now.to → MayFollow kept front.now) →
+        HoldsSince kept r (ends_of store.old.held)
         (K.clock station.old) (K.moments station.old) (K.told station.old)
         (K.clock station.new) (K.moments station.new) (K.told station.new)
         (K.leaves station.new) (ends_of store.new.held) }
-    ensures stored { K.tells → (r : Recorded) →
-        IsStored r store.old (K.seen station.old) (K.leaves station.old) →
-        (front.now.from < front.now.to → StandsInRecording r front.now) →
-        OnOk result (IsStored r store.new (K.seen station.new) (K.leaves station.new)) }
+    ensures stored { K.tells → (kept : Kept) →
+        IsStoredAs kept store.old (K.seen station.old) (K.leaves station.old) →
+        (front.now.from < front.now.to → MayFollow kept front.now) →
+        OnOk result (IsStoredAs kept store.new (K.seen station.new) (K.leaves station.new)) }
     ensures told { K.tells → OnOk result (K.told station.new ≡
         K.told station.old ++ gauge_lines name.now front.now.from front.now.to) }
     ensures held { OnOk result (IsHeldTo (ends_of store.old.held)
@@ -145,20 +146,17 @@ pub fn store_fronts<K: Station>(
         (length bridge.now.gauges) }
     requires on { K.tells → IsThere store.old (K.seen station.old) (K.leaves station.old) }
     // Every moment is kept, whatever it answers.
-    ensures going { K.tells → (files : Files) →
-        IsStored (recordings bridge.now files) store.old (K.seen station.old)
-        (K.leaves station.old) →
-        FrontsStand (recordings bridge.now files) board.now →
-        HoldsSinceEntry (recordings bridge.now files) (ends_of store.old.held)
+    ensures going { K.tells → (files : Files) (kept : Kept) →
+        IsStoredAs kept store.old (K.seen station.old) (K.leaves station.old) →
+        FrontsFollow kept (length bridge.now.gauges) board.now →
+        HoldsSince kept (recordings bridge.now files) (ends_of store.old.held)
         (K.clock station.old) (K.moments station.old) (K.told station.old)
         (K.clock station.new) (K.moments station.new) (K.told station.new)
         (K.leaves station.new) (ends_of store.new.held) }
-    ensures stored { K.tells → (files : Files) →
-        IsStored (recordings bridge.now files) store.old (K.seen station.old)
-        (K.leaves station.old) →
-        FrontsStand (recordings bridge.now files) board.now → OnOk result
-        (IsStored (recordings bridge.now files) store.new (K.seen station.new)
-        (K.leaves station.new)) }
+    ensures stored { K.tells → (kept : Kept) →
+        IsStoredAs kept store.old (K.seen station.old) (K.leaves station.old) →
+        FrontsFollow kept (length bridge.now.gauges) board.now → OnOk result
+        (IsStoredAs kept store.new (K.seen station.new) (K.leaves station.new)) }
     ensures told { K.tells → OnOk result (K.told station.new ≡ K.told station.old
         ++ round_lines (name_of bridge.now) (slice_index (ends_of store.old.held))
         (slice_index (ends_of store.new.held)) (length bridge.now.gauges)) }

@@ -4,7 +4,8 @@ use Rattle.board.specs.Board.{BoardValue}
 use Rattle.segment_store.specs.Held.{ends_of}
 use Rattle.site_config.specs.recorded.Recorded.{recordings}
 use Rattle.count_command.specs.held_samples.Fronts.{AreFronts, FrontsStand}
-use Rattle.count_command.proofs.on_held_samples.Going.{going_starts, going_then, on_both, on_any}
+use Rattle.count_command.specs.held_samples.Kept.{recorded, beginning}
+use Rattle.count_command.proofs.on_held_samples.Going.{going_starts, going_then, stored_beginning, on_both, on_any}
 use Rattle.count_command.specs.held_rounds.Beside.{Leads}
 use Rattle.count_command.specs.held_rounds.Telling.{HasTold}
 use Rattle.count_command.proofs.on_held_rounds.Ahead.{IsAhead, ahead_first, ahead_on, ahead_last}
@@ -44,6 +45,12 @@ loop-init g c =
             (g.met.K.Station.only_now tells c.args.station.now),
         stored,
       );
+      appends = λ tells files front on.
+          let stored = stored_beginning c.args.store.now front _ _ on in (
+            going_starts (recordings c.args.bridge.now files) _ _ _ _ _ _ stored
+                (g.met.K.Station.only_now tells c.args.station.now),
+            stored,
+          );
       told = λ tells reads files lanes n told was whole.
           let r = recordings c.args.bridge.now files in
           let first = g.K.Station.told c.args.station.now in
@@ -62,12 +69,18 @@ store_board-requires-clause-fronts g c =
 pub returns-then-have_ended-clause-going : goal.returns-then-have_ended-clause-going
 returns-then-have_ended-clause-going g c = λ tells reads files lanes stored.
     let was = c.loop.invariant.going tells reads files lanes stored in
-    going_then was.0 (c.store_board.ensures.going tells files was.1 (c.loop.invariant.read reads files lanes).1)
+    going_then was.0 (c.store_board.ensures.going tells files (recorded (recordings c.args.bridge.now files)) was.1
+    (c.loop.invariant.read reads files lanes).1)
+
+pub returns-then-have_ended-clause-appends : goal.returns-then-have_ended-clause-appends
+returns-then-have_ended-clause-appends g c = λ tells files front on.
+    let was = c.loop.invariant.appends tells files front on in
+    going_then was.0 (c.store_board.ensures.going tells files (beginning c.args.store.now.head front) was.1 (λ h d lt is some. tt))
 
 pub returns-then-have_ended-clause-stored : goal.returns-then-have_ended-clause-stored
 returns-then-have_ended-clause-stored g c = λ tells reads files lanes stored.
     let was = c.loop.invariant.going tells reads files lanes stored in
-    c.store_board.ensures.stored tells files was.1 (c.loop.invariant.read reads files lanes).1
+    c.store_board.ensures.stored tells (recorded (recordings c.args.bridge.now files)) was.1 (c.loop.invariant.read reads files lanes).1
 
 pub returns-then-have_ended-clause-read : goal.returns-then-have_ended-clause-read
 returns-then-have_ended-clause-read g c = λ reads files lanes. on_any c.store_board.result (c.loop.invariant.read reads files lanes).0
@@ -92,7 +105,13 @@ returns-then-have_ended-clause-told g c = λ tells reads files lanes n told had.
 pub returns-in_err-round_beside-clause-going : goal.returns-in_err-round_beside-clause-going
 returns-in_err-round_beside-clause-going g c = λ tells reads files lanes stored.
     let was = c.loop.invariant.going tells reads files lanes stored in
-    going_then was.0 (c.round_beside.ensures.going tells files was.1 (c.loop.invariant.read reads files lanes).1)
+    going_then was.0 (c.round_beside.ensures.going tells files (recorded (recordings c.args.bridge.now files)) was.1
+    (c.loop.invariant.read reads files lanes).1)
+
+pub returns-in_err-round_beside-clause-appends : goal.returns-in_err-round_beside-clause-appends
+returns-in_err-round_beside-clause-appends g c = λ tells files front on.
+    let was = c.loop.invariant.appends tells files front on in
+    going_then was.0 (c.round_beside.ensures.going tells files (beginning c.args.store.now.head front) was.1 (λ h d lt is some. tt))
 
 pub returns-in_err-round_beside-clause-sources : goal.returns-in_err-round_beside-clause-sources
 returns-in_err-round_beside-clause-sources g c =
@@ -131,7 +150,14 @@ loop-preserved g c =
       going = λ tells reads files lanes stored.
           let so_far = was.going tells reads files lanes stored in
           let stand = (was.read reads files lanes).1 in
-          (going_then so_far.0 (c.round_beside.ensures.going tells files so_far.1 stand), now.stored tells files so_far.1 stand);
+          let kept = recorded (recordings c.args.bridge.now files) in
+          (going_then so_far.0 (c.round_beside.ensures.going tells files kept so_far.1 stand), now.stored tells kept so_far.1 stand);
+      appends = λ tells files front on.
+          let so_far = was.appends tells files front on in
+          let kept = beginning c.args.store.now.head front in (
+            going_then so_far.0 (c.round_beside.ensures.going tells files kept so_far.1 (λ h d lt is some. tt)),
+            now.stored tells kept so_far.1 (λ h d lt is some. tt),
+          );
       told = λ tells reads files lanes n told had whole.
           let r = recordings c.args.bridge.now files in
           let before = g.K.Station.told c.loop.station in

@@ -3,9 +3,11 @@ use Rattle.std.proofs.Common.{◌≡◌, ◌≤◌, ℕ, List, false, length}
 use Rattle.outside.specs.Site.{Files}
 use Rattle.outside.specs.station.Station.{Lines}
 use Rattle.segment_store.specs.Held.{ends_of}
-use Rattle.segment_store.specs.Moments.{IsThere}
+use Rattle.segment.specs.segment_rules.Parts.{PartsValue}
+use Rattle.segment_store.specs.Moments.{IsOn, IsThere}
 use Rattle.site_config.specs.recorded.Recorded.{recordings}
-use Rattle.count_command.specs.held_samples.Going.{HoldsSinceEntry, IsStored}
+use Rattle.count_command.specs.held_samples.Kept.{beginning}
+use Rattle.count_command.specs.held_samples.Going.{HoldsSince, HoldsSinceEntry, IsStored, IsStoredAs}
 use Rattle.count_command.specs.held_samples.Fronts.{FrontsStand}
 use Rattle.site_lanes.specs.Lanes.{AreLanes, AreReady, HasSource, IsFaulty, IsWhole}
 use Rattle.count_command.specs.held_rounds.Beside.{IsBoardFor, Leads}
@@ -39,6 +41,12 @@ invariant-loop g l =
           (k.told l.fn.station)
           (k.clock l.station) (k.moments l.station) (k.told l.station) (k.leaves l.station) (ends_of l.store.held)
           × IsStored (recordings l.bridge files) l.store (k.seen l.station) (k.leaves l.station);
+      appends : k.tells → (files : Files) (front : List PartsValue) →
+          IsOn l.fn.store front (k.seen l.fn.station) (k.leaves l.fn.station) →
+          HoldsSince (beginning l.fn.store.head front) (recordings l.bridge files) (ends_of l.fn.store.held) (k.clock l.fn.station)
+          (k.moments l.fn.station) (k.told l.fn.station) (k.clock l.station) (k.moments l.station) (k.told l.station) (k.leaves l.station)
+          (ends_of l.store.held)
+          × IsStoredAs (beginning l.fn.store.head front) l.store (k.seen l.station) (k.leaves l.station);
       told : k.tells → s.tells → (files : Files) → AreLanes s.tells s.left (recordings l.bridge files) l.fn.lanes →
           (n : List ℕ) (told : Lines) → HasTold l.bridge.block (recordings l.bridge files) n told (k.told l.fn.station) l.fn.lanes →
           All IsWhole l.lanes → IsAhead l.bridge.block (recordings l.bridge files) n told (k.told l.station) (ends_of l.store.held) l.lanes;

@@ -1,42 +1,41 @@
 use Rattle.std.proofs.Common.{◌≡◌, ◌<◌, ◌^◌, ℕ, List, ap, sym, ◌∙◌, subst, arith}
 use Rattle.outside.specs.station.Station.{Image}
-use Rattle.calibration.specs.declared.setup.Setup.{Setup}
 use Rattle.segment.specs.declared.segment_rules.name.Name.{Name}
 use Rattle.segment.specs.Parts.{parts_of}
 use Rattle.segment_store.specs.Held.{ends_of}
 use Rattle.count_command.specs.held_samples.Told.{IsBelow, held_line}
-use Rattle.count_command.specs.held_samples.Going.{HoldsSinceEntry}
+use Rattle.count_command.specs.held_samples.Going.{HoldsSince}
 use Rattle.count_command.proofs.on_held_samples.Going.{put_going, put_going_on, put_stored, line_going, stored_still, on_still, on_any, told_either, end_held}
-use Rattle.count_command.proofs.on_held_samples.Fronts.{stands_in}
+use Rattle.count_command.proofs.on_held_samples.Fronts.{meets_more}
 use Rattle.count_command.proofs.on_held_samples.HeldLines.{held_below}
 use Rattle.count_command.proofs.held_samples.storing.store_front.Goals as goal
 
 pub returns-in-Err-clause-going : goal.returns-in-Err-clause-going
-returns-in-Err-clause-going g c = λ tells r named known is stored front_stands.
+returns-in-Err-clause-going g c = λ tells r named known is kept stored follows.
     let k = g.K.Station in
-    let stands = stands_in r c.args.front.now c.name-to.ensures.rules (c.requires.grid ∙ ap (λ (s : Setup). s.grid) stored.setup)
-    front_stands in
+    let meets = meets_more kept c.args.store.now.head stored.bodies c.args.front.now c.name-to.ensures.rules c.requires.grid stored.meets
+    follows in
     let moment = c.put.ensures.any_moment tells stored.bodies c.requires.usable stored.on in
     let counts : (f : Image) → k.leaves c.put.new.station f →
     k.moments c.put.new.station (k.clock c.args.station.now) (k.told c.put.new.station) f = λ f has. g.met.K.Station.counts_now tells
     c.put.new.station (k.clock c.args.station.now) f moment.later has in
-    subst (λ (e : List ℕ). HoldsSinceEntry r (ends_of c.args.store.now.held) (k.clock c.args.station.now) (k.moments c.args.station.now)
+    subst (λ (e : List ℕ). HoldsSince kept r (ends_of c.args.store.now.held) (k.clock c.args.station.now) (k.moments c.args.station.now)
     (k.told c.args.station.now) (k.clock c.put.new.station) (k.moments c.put.new.station) (k.told c.put.new.station)
     (k.leaves c.put.new.station) e)
     (sym (ap ends_of c.in-Err.ensures.unchanged.0))
-    (put_going r _ _ _ stored _ stands _ _ _ _ _ _ _ moment (c.put.ensures.told tells) counts)
+    (put_going kept r _ _ _ stored _ meets _ _ _ _ _ _ _ moment (c.put.ensures.told tells) counts)
 
 pub returns-in-Ok-clause-going : goal.returns-in-Ok-clause-going
-returns-in-Ok-clause-going g c = λ tells r named known is stored front_stands.
+returns-in-Ok-clause-going g c = λ tells r named known is kept stored follows.
     let k = g.K.Station in
-    let stands = stands_in r c.args.front.now c.name-to.ensures.rules (c.requires.grid ∙ ap (λ (s : Setup). s.grid) stored.setup)
-    front_stands in
+    let meets = meets_more kept c.args.store.now.head stored.bodies c.args.front.now c.name-to.ensures.rules c.requires.grid stored.meets
+    follows in
     let moment = c.put.ensures.any_moment tells stored.bodies c.requires.usable stored.on in
     let counts : (f : Image) → k.leaves c.put.new.station f →
     k.moments c.put.new.station (k.clock c.args.station.now) (k.told c.put.new.station) f = λ f has. g.met.K.Station.counts_now tells
     c.put.new.station (k.clock c.args.station.now) f moment.later has in
     let done = c.in-Ok.ensures.stored tells stored.bodies c.requires.usable stored.on in
-    let going = put_going_on r _ _ _ stored _ stands _ _ _ _ _ _ _ moment (c.put.ensures.told tells) counts _ (k.seen c.put.new.station)
+    let going = put_going_on kept r _ _ _ stored _ meets _ _ _ _ _ _ _ moment (c.put.ensures.told tells) counts _ (k.seen c.put.new.station)
     c.in-Ok.ensures.held c.put.ensures.head done.0 done.1 in
     let front = c.args.front.now in
     let to : c.name-to.result.to ≡ front.to = ap (λ (x : Name). x.to) c.name-to.ensures.value in
@@ -49,18 +48,14 @@ returns-in-Ok-clause-going g c = λ tells r named known is stored front_stands.
     (c.tell.ensures.time tells) (c.tell.ensures.crash tells) (told_either c.tell.result _ _ _ (c.tell.ensures.told tells))
 
 pub returns-in-Ok-clause-stored : goal.returns-in-Ok-clause-stored
-returns-in-Ok-clause-stored g c = λ tells r stored front_stands.
+returns-in-Ok-clause-stored g c = λ tells kept stored follows.
     let k = g.K.Station in
-    let stands = stands_in r c.args.front.now c.name-to.ensures.rules (c.requires.grid ∙ ap (λ (s : Setup). s.grid) stored.setup)
-    front_stands in
-    let moment = c.put.ensures.any_moment tells stored.bodies c.requires.usable stored.on in
-    let counts : (f : Image) → k.leaves c.put.new.station f →
-    k.moments c.put.new.station (k.clock c.args.station.now) (k.told c.put.new.station) f = λ f has. g.met.K.Station.counts_now tells
-    c.put.new.station (k.clock c.args.station.now) f moment.later has in
+    let meets = meets_more kept c.args.store.now.head stored.bodies c.args.front.now c.name-to.ensures.rules c.requires.grid stored.meets
+    follows in
     let done = c.in-Ok.ensures.stored tells stored.bodies c.requires.usable stored.on in
-    on_any c.tell.result (stored_still r _ (k.seen c.put.new.station) _ (k.leaves c.put.new.station) _
-    (put_stored r _ _ _ stored _ stands _ _ _ _ _ _ _ moment (c.put.ensures.told tells) counts _ (k.seen c.put.new.station)
-    c.in-Ok.ensures.held c.put.ensures.head done.0 done.1) (c.tell.ensures.seen tells) (c.tell.ensures.crash tells).none_new)
+    on_any c.tell.result (stored_still kept _ (k.seen c.put.new.station) _ (k.leaves c.put.new.station) _
+    (put_stored kept c.args.store.now.head _ _ _ _ meets c.put.ensures.head done.1) (c.tell.ensures.seen tells)
+    (c.tell.ensures.crash tells).none_new)
 
 pub returns-in-Ok-clause-there : goal.returns-in-Ok-clause-there
 returns-in-Ok-clause-there g c = λ tells.

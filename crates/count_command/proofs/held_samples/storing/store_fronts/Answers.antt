@@ -16,11 +16,9 @@ loop-gauge-init g c = record {
   head = refl;
   gauges = refl;
   there = c.requires.on;
-  going = λ tells files stored stand. (
-    going_starts (recordings c.args.bridge.now files) _ _ _ _ _ _ stored
-        (g.met.K.Station.only_now tells c.args.station.now),
-    stored,
-  );
+  going = λ tells files kept stored stand. going_starts (recordings c.args.bridge.now files) _ _ _ _ _ _ stored
+      (g.met.K.Station.only_now tells c.args.station.now);
+  stored = λ tells kept stored stand. stored;
   told = λ tells. same_lines _;
   before = λ to ends h lt. absurd (omega (arith, lt));
   after = λ h le. refl;
@@ -52,16 +50,16 @@ store_gauge-requires-clause-short g c =
     (c.requires.bridge.names c.loop-gauge.gauge known))
 
 pub returns-in_err-store_gauge-clause-going : goal.returns-in_err-store_gauge-clause-going
-returns-in_err-store_gauge-clause-going g c = λ tells files stored stand.
-    let got = c.loop-gauge.invariant.going tells files stored stand in
+returns-in_err-store_gauge-clause-going g c = λ tells files kept stored stand.
+    let was = c.loop-gauge.invariant in
     let front = c.requires.fronts c.loop-gauge.gauge c.front.result.now (omega (arith, ap length c.as_slice-gauge-end.ensures))
     c.front.ensures in
     let known : c.loop-gauge.gauge < length c.args.bridge.now.gauges = omega (arith, ap length c.as_slice-gauge-end.ensures) in
     let name = ap (name_of c.args.bridge.now) front.gauge ∙ name_is c.args.bridge.now c.loop-gauge.gauge _ _ _ known c.as_slice.ensures
     c.as_str-name.ensures in
-    going_then got.0 (c.store_gauge.ensures.going tells (recordings c.args.bridge.now files) (are_names c.args.bridge.now c.requires.bridge)
-    (subst (λ (n : ℕ). n < length c.args.bridge.now.gauges) (sym front.gauge) known) name got.1
-    (stand c.loop-gauge.gauge c.front.result.now known c.front.ensures))
+    going_then (was.going tells files kept stored stand) (c.store_gauge.ensures.going tells (recordings c.args.bridge.now files) (are_names c.args.bridge.now c.requires.bridge)
+    (subst (λ (n : ℕ). n < length c.args.bridge.now.gauges) (sym front.gauge) known) name kept
+    (was.stored tells kept stored stand) (stand c.loop-gauge.gauge c.front.result.now known c.front.ensures))
 
 pub loop-gauge-preserved : goal.loop-gauge-preserved
 loop-gauge-preserved g c =
@@ -74,15 +72,15 @@ loop-gauge-preserved g c =
       head = c.store_gauge.ensures.head ∙ c.loop-gauge.invariant.head;
       gauges = c.store_gauge.ensures.gauges ∙ c.loop-gauge.invariant.gauges;
       there = c.in_ok-store_gauge.ensures.there;
-      going = λ tells files stored stand.
-          let got = c.loop-gauge.invariant.going tells files stored stand in
-          let stands = stand c.loop-gauge.gauge c.front.result.now known c.front.ensures in (
-            going_then got.0 (c.store_gauge.ensures.going tells (recordings c.args.bridge.now files)
-                (are_names c.args.bridge.now c.requires.bridge)
-                (subst (λ (n : ℕ). n < length c.args.bridge.now.gauges) (sym front.gauge) known)
-                (ap (name_of c.args.bridge.now) front.gauge ∙ name) got.1 stands),
-            c.in_ok-store_gauge.ensures.stored tells (recordings c.args.bridge.now files) got.1 stands,
-          );
+      going = λ tells files kept stored stand.
+          going_then (c.loop-gauge.invariant.going tells files kept stored stand)
+          (c.store_gauge.ensures.going tells (recordings c.args.bridge.now files) (are_names c.args.bridge.now c.requires.bridge)
+          (subst (λ (n : ℕ). n < length c.args.bridge.now.gauges) (sym front.gauge) known)
+          (ap (name_of c.args.bridge.now) front.gauge ∙ name) kept (c.loop-gauge.invariant.stored tells kept stored stand)
+          (stand c.loop-gauge.gauge c.front.result.now known c.front.ensures));
+      stored = λ tells kept stored stand.
+          c.in_ok-store_gauge.ensures.stored tells kept (c.loop-gauge.invariant.stored tells kept stored stand)
+          (stand c.loop-gauge.gauge c.front.result.now known c.front.ensures);
       told = λ tells. round_more (name_of c.args.bridge.now) (slice_index (ends_of c.args.store.now.held))
           (slice_index (ends_of c.loop-gauge.store.held)) (slice_index (ends_of c.store_gauge.new.store.held)) c.loop-gauge.gauge
           c.front.result.now.from c.front.result.now.to _ _ _ (c.loop-gauge.invariant.told tells)
@@ -99,7 +97,7 @@ loop-gauge-preserved g c =
     }
 
 pub returns-clause-going : goal.returns-clause-going
-returns-clause-going g c = λ tells files stored stand. (c.loop-gauge.invariant.going tells files stored stand).0
+returns-clause-going g c = λ tells files kept stored stand. c.loop-gauge.invariant.going tells files kept stored stand
 
 pub returns-clause-held : goal.returns-clause-held
 returns-clause-held g c = λ to ends h lt. c.loop-gauge.invariant.before to ends h

@@ -5,8 +5,9 @@ use Rattle.segment_store.specs.Moments.{IsThere}
 use Rattle.site_config.specs.Valid.{name_of}
 use Rattle.site_config.specs.recorded.Recorded.{recordings}
 use Rattle.count_command.specs.held_samples.Told.{round_lines}
-use Rattle.count_command.specs.held_samples.Going.{HoldsSinceEntry, IsStored}
-use Rattle.count_command.specs.held_samples.Fronts.{FrontsStand, FrontsEnd}
+use Rattle.count_command.specs.held_samples.Kept.{Kept}
+use Rattle.count_command.specs.held_samples.Going.{HoldsSince, IsStoredAs}
+use Rattle.count_command.specs.held_samples.Fronts.{FrontsFollow, FrontsEnd}
 use Rattle.count_command.proofs.held_samples.storing.store_fronts.Given as goal
 
 -- the gauges before this one are held up to their fronts' ends, the others as at entry
@@ -18,12 +19,14 @@ invariant-loop-gauge g l =
       head : l.store.head ≡ l.fn.store.head;
       gauges : length l.store.held ≡ length l.fn.store.held;
       there : k.tells → IsThere l.store (k.seen l.station) (k.leaves l.station);
-      going : k.tells → (files : Files) → IsStored (recordings l.bridge files) l.fn.store (k.seen l.fn.station) (k.leaves l.fn.station) →
-          FrontsStand (recordings l.bridge files) l.board →
-          HoldsSinceEntry (recordings l.bridge files) (ends_of l.fn.store.held) (k.clock l.fn.station) (k.moments l.fn.station)
+      going : k.tells → (files : Files) (kept : Kept) → IsStoredAs kept l.fn.store (k.seen l.fn.station) (k.leaves l.fn.station) →
+          FrontsFollow kept (length l.bridge.gauges) l.board →
+          HoldsSince kept (recordings l.bridge files) (ends_of l.fn.store.held) (k.clock l.fn.station) (k.moments l.fn.station)
           (k.told l.fn.station)
-          (k.clock l.station) (k.moments l.station) (k.told l.station) (k.leaves l.station) (ends_of l.store.held)
-          × IsStored (recordings l.bridge files) l.store (k.seen l.station) (k.leaves l.station);
+          (k.clock l.station) (k.moments l.station) (k.told l.station) (k.leaves l.station) (ends_of l.store.held);
+      stored : k.tells → (kept : Kept) → IsStoredAs kept l.fn.store (k.seen l.fn.station) (k.leaves l.fn.station) →
+          FrontsFollow kept (length l.bridge.gauges) l.board →
+          IsStoredAs kept l.store (k.seen l.station) (k.leaves l.station);
       told : k.tells → k.told l.station ≡ k.told l.fn.station ++ round_lines (name_of l.bridge) (slice_index (ends_of l.fn.store.held))
           (slice_index (ends_of l.store.held)) l.gauge;
       before : (to : ℕ → ℕ) → FrontsEnd to l.board (length l.bridge.gauges) → (h : ℕ) → h < l.gauge →
