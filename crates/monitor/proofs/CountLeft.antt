@@ -1,17 +1,15 @@
 -- `count`, where memory ran out before its configuration was read.
-use Rattle.std.proofs.Common.{◌≡◌, inr, ℕ, List, [], refl, sym, subst}
+use Rattle.std.proofs.Common.{◌≡◌, inl, inr, ℕ, List, [], refl, sym, subst}
 use Rattle.outside.specs.station.Station.{Image, Lines}
 use Rattle.site_config.specs.recorded.Recorded.{recordings, Recorded}
 use Rattle.count_command.specs.held_samples.Going.{AllHold, KeepsTold}
 use Rattle.outside.specs.Site.{AsksNothing}
-use Rattle.site_config.specs.Configuration.{config_of_bytes}
-use Rattle.site_config.specs.recorded.Asked.{names_in}
-use Rattle.site_config.proofs.on_recorded.Asking.{none_is_first}
 use Rattle.status.specs.declared.status.Status.{Status}
 use Rattle.status.specs.declared.status.Status.TheVariants.{OutOfMemory}
 use Rattle.status.specs.fault_lines.FaultLine.{fault_line}
 use Rattle.count_command.proofs.FaultTold.{safe_fault, fault_below}
 use Rattle.count_command.proofs.Resumed.{safe_starts}
+use Rattle.count_command.proofs.Appending.{truly_begins, truly_fault, only_told}
 use Rattle.monitor.specs.Shown.{Shown, Tells, Ends}
 use Rattle.monitor.specs.CountRun.{CountRuns}
 
@@ -35,6 +33,11 @@ pub count_without_memory : (before after : Shown) (s : Status) → s ≡ OutOfMe
     AsksNothing before.names_asked after.names_asked → CountRuns before after s
 count_without_memory before after s is only tells ends same none = subst (λ (x : Status). CountRuns before after x) (sym is) (record {
   every_moment = λ k t c bridge is2 a holds. kept_moments before after (recordings bridge before.files) a (only k) (tells k) holds;
+  appends = λ k first front ends reads. only_told first (tells k);
+  truly = λ k c bridge is2 files first front ends reads.
+      (truly_fault (recordings bridge files) first front before.told before.leaves OutOfMemory []
+      (truly_begins (recordings bridge files) first front before.told before.leaves before.clock before.moments before.seen (only k))
+      (tells k)).run;
   ended = λ k t c bridge is2 a holds. tt;
   cut = λ k t c bridge is2 a holds no. tt;
   prints = λ o k t c bridge is2 a holds. same;
@@ -48,5 +51,5 @@ count_without_memory before after s is only tells ends same none = subst (λ (x 
   write = λ no. absurd (cc);
   disk = λ no. absurd (cc);
   last = λ k c n. ends k;
-  asked = λ c. none_is_first before.names_asked after.names_asked (names_in (config_of_bytes before.config)) none;
+  asked = λ c. inl none;
 })

@@ -5,3 +5,4 @@ pub mod CountLeft
 pub mod AuditLeft
 pub mod RepeatLeft
 pub mod SheetLeft
+pub mod Numerals

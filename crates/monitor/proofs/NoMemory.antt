@@ -1,22 +1,17 @@
 -- A command line that is left where memory ran out, and the lines told of words.
-use Rattle.std.proofs.Common.{◌≡◌, ◌⊎◌, inl, inr, ℕ, List, [], ◌∷◌, ◌++◌, length, refl, sym, subst, append-nil, arith}
+use Rattle.std.proofs.Common.{◌≡◌, ◌⊎◌, inl, inr, ℕ, List, [], ◌∷◌, ◌++◌, length, refl, sym, ap, subst, append-nil, arith}
 use Rattle.std.specs.Prelude.{Option, Some}
-use Rattle.outside.specs.station.Station.{Image, Lines, Since}
-use Rattle.outside.proofs.on_station.Moments.{entails}
+use Rattle.outside.specs.station.Station.{Lines}
 use Rattle.command_words.specs.Line.{Command, Table, Demo, Column}
-use Rattle.site_config.specs.declared.config.Config.{Config}
 use Rattle.status.specs.declared.status.Status.{Status}
 use Rattle.status.specs.declared.status.Status.TheVariants.{Usage, OutOfMemory}
 use Rattle.status.specs.fault_lines.FaultLine.{fault_line}
-use Rattle.status.specs.fault_lines.Telling.{InFault, EndsIn}
-use Rattle.init_command.specs.Init.{InMaking}
+use Rattle.status.specs.fault_lines.Telling.{EndsIn}
+use Rattle.init_command.proofs.MakingMoments.{last_alone}
 use Rattle.report_command.specs.Printing.{PrintsKept}
 use Rattle.report_command.proofs.HeldFigures.{kept_unprinted}
 use Rattle.outside.specs.Fault.{CountRose}
 use Rattle.outside.specs.Site.{AsksNothing}
-use Rattle.site_config.specs.recorded.Asked.{names_in}
-use Rattle.site_config.proofs.on_recorded.Asking.{none_is_first}
-use Rattle.site_config.specs.Configuration.{config_of_bytes}
 use Rattle.monitor.specs.Line.{IsToldOf}
 use Rattle.file_commands.specs.file_tasks.Run.{Outside, Runs, no_memory_task}
 use Rattle.monitor.specs.Shown.{Shown, Tells, Ends}
@@ -39,25 +34,21 @@ nothing_done before s is back = subst (λ (x : Status). Runs no_memory_task befo
   files = λ t. refl;
 })
 
--- an empty station stays empty
-empty_moments : (before after : Shown) (line : List ℕ) (c : Config) → Tells line before after →
-    ((image : Image) → before.leaves image → length image ≡ 0)
-    → Since before.clock before.moments after.clock after.moments (InMaking c before.files)
-empty_moments before after line c tells none =
-    entails before.clock after.clock before.moments after.moments (InMaking c before.files)
-    (InFault line before.told before.leaves) tells.run
-    (λ lines image h. inl (omega (arith, none image h.1)))
-
-pub init_without_memory : (before after : Shown) (s : Status) → s ≡ OutOfMemory →
+pub init_without_memory : (before after : Shown) (s : Status) → s ≡ OutOfMemory → (before.station_tells → before.leaves before.seen) →
     (before.station_tells → Tells (fault_line OutOfMemory []) before after)
     → (before.station_tells → Ends (fault_line OutOfMemory []) before after) → (before.output_tells → after.written ≡ before.written) →
     after.out ≡ 0
     → (before.site_tells → after.files ≡ before.files) → AsksNothing before.names_asked after.names_asked → InitRuns before after s
-init_without_memory before after s is tells ends nothing back files none =
+init_without_memory before after s is counts tells ends nothing back files none =
     subst (λ (x : Status). InitRuns before after x) (sym is) (record {
       made = λ k t c no. absurd (cc);
       told = λ k c no. absurd (cc);
-      any_moment = λ k t c bridge is2 none. empty_moments before after (fault_line OutOfMemory []) bridge (tells k) none;
+      any_moment = λ k t c bridge is2 none. last_alone bridge before.files before.told (fault_line OutOfMemory []) before.clock after.clock
+          before.moments after.moments before.leaves none (tells k).run;
+      ended = λ k t c bridge is2 none. inl (
+        (tells k).told_at_most,
+        inl (omega (arith, none before.seen (counts k), ap length (tells k).seen_same)),
+      );
       unmade = λ k c u. tells k;
       quiet = λ k c some. tells k;
       last = λ k c n. ends k;
@@ -66,7 +57,7 @@ init_without_memory before after s is tells ends nothing back files none =
       kind = tt;
       read = λ no. absurd (cc);
       disk = λ no. absurd (cc);
-      asked = λ c. none_is_first before.names_asked after.names_asked (names_in (config_of_bytes before.config)) none;
+      asked = λ c. inl none;
       nothing = nothing;
       back = back;
       files = files;

@@ -5,11 +5,12 @@ use Rattle.segment_store.specs.Holds.{Holds, held_of}
 use Rattle.site_config.specs.Configuration.{config_of_bytes}
 use Rattle.site_config.specs.declared.config.Config.{Config}
 use Rattle.site_config.specs.recorded.Recorded.{recordings}
-use Rattle.site_config.specs.recorded.Asked.{AsksFirst, names_in}
+use Rattle.site_config.specs.recorded.Asked.{names_in}
 use Rattle.status.specs.declared.status.Status.{Status}
 use Rattle.status.specs.declared.status.Status.TheVariants.{Done, Usage, ReadFault, WriteFault, DiskFault, OutOfMemory}
 use Rattle.status.specs.Printing.{IsPrinting}
 use Rattle.audit_command.specs.Answers.{AuditAnswers, IsSound}
+use Rattle.audit_command.specs.Asked.{AuditAsks}
 use Rattle.audit_command.specs.Audited.{FindsDifference, IsStanding}
 use Rattle.audit_command.specs.Printing.{Prints}
 use Rattle.monitor.specs.InitRun.{line_for}
@@ -42,6 +43,7 @@ pub record AuditRuns (before after : Shown) (answer : Status) : Type 0 where
       CountRose before.site_faults after.site_faults
   pub write : answer ≡ WriteFault → CountRose before.output_faults after.output_faults
   pub disk : answer ≡ DiskFault → CountRose before.station_faults after.station_faults
-  -- The gauges' files are asked for, in their order and each once, and no other.
+  -- The gauges' files are asked for, gauge by gauge, and no other: none where the configuration or
+  -- the store is refused, and none behind a recording that is refused.
   pub asked : before.config_tells →
-      AsksFirst before.names_asked after.names_asked (names_in (config_of_bytes before.config))
+      AuditAsks answer before.names_asked after.names_asked (names_in (config_of_bytes before.config))

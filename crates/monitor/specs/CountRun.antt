@@ -1,20 +1,26 @@
 -- What a run of `count` did.
 use Rattle.std.specs.Prelude.{◌≡◌, ◌≢◌, ◌⊎◌, ℕ, List, length, Ok}
 use Rattle.outside.specs.Fault.{CountRose}
-use Rattle.outside.specs.station.Station.{Image, Lines}
+use Rattle.outside.specs.Site.{Files}
+use Rattle.outside.specs.station.Station.{Image, Lines, Since}
+use Rattle.segment.specs.segment_rules.Parts.{PartsValue}
+use Rattle.store_bytes.specs.store_head.Head.{HeadValue}
+use Rattle.segment_store.specs.Image.{Reads}
 use Rattle.segment_store.specs.Holds.{Holds}
 use Rattle.site_config.specs.Configuration.{config_of_bytes}
 use Rattle.site_config.specs.declared.config.Config.{Config}
 use Rattle.site_config.specs.recorded.Recorded.{recordings}
-use Rattle.site_config.specs.recorded.Asked.{AsksFirst, names_in}
+use Rattle.site_config.specs.recorded.Asked.{names_in}
 use Rattle.count_command.specs.held_samples.Going.{AllHold, KeepsTold}
 use Rattle.count_command.specs.held_samples.Told.{Acknowledges}
 use Rattle.site_lanes.specs.Answers.{HeadsFit, AllSound}
 use Rattle.status.specs.declared.status.Status.{Status}
 use Rattle.status.specs.declared.status.Status.TheVariants.{Done, Usage, ReadFault, WriteFault, DiskFault, OutOfMemory}
 use Rattle.status.specs.Printing.{IsPrinting}
+use Rattle.count_command.specs.Appending.{HasGrown, TellsTruly}
 use Rattle.count_command.specs.Holding.{HeldAt, HeldCut, LeavesStore}
 use Rattle.count_command.specs.Answer.{CountAnswers}
+use Rattle.count_command.specs.Asked.{CountAsks}
 use Rattle.count_command.specs.Printed.{Prints}
 use Rattle.status.specs.fault_lines.FaultLine.{fault_line}
 use Rattle.monitor.specs.Shown.{Shown, Tells, Ends}
@@ -26,7 +32,17 @@ pub record CountRuns (before after : Shown) (answer : Status) : Type 0 where
       config_of_bytes before.config ≡ Ok c → (a : List ℕ) → AllHold (recordings c before.files) a before.leaves →
       (lines : Lines) (image : Image) → after.moments before.clock lines image →
       KeepsTold (recordings c before.files) a before.told lines image
-  -- At a good end all samples are held, and where a recording is torn or too long, as many as a recording may have.
+  -- Whatever head and bodies a read at entry gave, each image since is one of entry, or reads as these and more.
+  pub appends : before.station_tells → (first : HeadValue) (front : List PartsValue) (ends : List ℕ) →
+      Reads first front ends before.seen →
+      Since before.clock before.moments after.clock after.moments (HasGrown first front before.leaves)
+  -- And no line of the run acknowledges more than the bodies have then.
+  pub truly : before.station_tells → before.config_tells → (c : Config) → config_of_bytes before.config ≡ Ok c →
+      (files : Files) (first : HeadValue) (front : List PartsValue) (ends : List ℕ) →
+      Reads first front ends before.seen → Since before.clock before.moments after.clock after.moments
+      (TellsTruly (recordings c files) first front before.told before.leaves)
+  -- At a good end all samples are held, and where a recording is torn or too long and no source failed, as many as a
+  -- recording may have.
   pub ended : before.station_tells → before.site_tells → before.config_tells → (c : Config) →
       config_of_bytes before.config ≡ Ok c → (a : List ℕ) → AllHold (recordings c before.files) a before.leaves →
       HeldAt answer (recordings c before.files) after.leaves
@@ -59,8 +75,9 @@ pub record CountRuns (before after : Shown) (answer : Status) : Type 0 where
       CountRose before.site_faults after.site_faults
   pub write : answer ≡ WriteFault → CountRose before.output_faults after.output_faults
   pub disk : answer ≡ DiskFault → CountRose before.station_faults after.station_faults
-  -- The gauges' files are asked for, in their order and each once, and no other.
+  -- The gauges' files are asked for, gauge by gauge, and no other: none where the configuration or the store is refused,
+  -- and none behind a recording that is refused.
   pub asked : before.config_tells →
-      AsksFirst before.names_asked after.names_asked (names_in (config_of_bytes before.config))
+      CountAsks answer before.names_asked after.names_asked (names_in (config_of_bytes before.config))
   -- The last line told is the answer's.
   pub last : before.station_tells → before.config_tells → answer ≢ Done → Ends (line_for before answer) before after

@@ -6,10 +6,11 @@ use Rattle.outside.specs.Fault.{CountRose}
 use Rattle.outside.specs.station.Station.{Image, Since}
 use Rattle.site_config.specs.Configuration.{config_of_bytes}
 use Rattle.site_config.specs.declared.config.Config.{Config}
-use Rattle.site_config.specs.recorded.Asked.{AsksFirst, names_in}
+use Rattle.site_config.specs.recorded.Asked.{names_in}
 use Rattle.status.specs.declared.status.Status.{Status}
 use Rattle.status.specs.declared.status.Status.TheVariants.{Done, ReadFault, DiskFault, OutOfMemory}
 use Rattle.status.specs.fault_lines.FaultLine.{fault_line, name_by}
+use Rattle.init_command.specs.Asked.{InitAsks}
 use Rattle.init_command.specs.Heads.{AreSound}
 use Rattle.init_command.specs.Init.{init_line, InMaking, IsMade, InitAnswers, IsInit, IsUnmade}
 use Rattle.monitor.specs.Shown.{Shown, Tells, Ends}
@@ -23,10 +24,17 @@ pub record InitRuns (before after : Shown) (answer : Status) : Type 0 where
       config_of_bytes before.config ≡ Ok c → IsMade c before.files after.seen after.leaves
   pub told : before.station_tells → before.config_tells → answer ≡ Done → (c : Config) →
       config_of_bytes before.config ≡ Ok c → after.told ≡ before.told ++ init_line (length c.gauges) ∷ []
-  -- On an empty station each moment is too short for a head, or has no open ready byte, or is the new store.
+  -- On an empty station, at each moment: until `init G` is told, what is there is too short for a head, or has no open
+  -- ready byte, or is the new store; from then on it is the new store. Besides at most the line of the answer is told,
+  -- as the last one.
   pub any_moment : before.station_tells → before.site_tells → before.config_tells → (c : Config) →
       config_of_bytes before.config ≡ Ok c → ((image : Image) → before.leaves image → length image ≡ 0) →
-      Since before.clock before.moments after.clock after.moments (InMaking c before.files)
+      Since before.clock before.moments after.clock after.moments
+      (InMaking c before.files before.told (line_for before answer))
+  -- The end is such a moment: what was told by then, and what a read of the store gives.
+  pub ended : before.station_tells → before.site_tells → before.config_tells → (c : Config) →
+      config_of_bytes before.config ≡ Ok c → ((image : Image) → before.leaves image → length image ≡ 0) →
+      InMaking c before.files before.told (line_for before answer) after.told after.seen
   -- Where it is refused, and over a station that is not empty, at most the line of the answer is told.
   pub unmade : before.station_tells → before.config_tells → IsUnmade answer →
       Tells (line_for before answer) before after
@@ -44,9 +52,10 @@ pub record InitRuns (before after : Shown) (answer : Status) : Type 0 where
   pub read : answer ≡ ReadFault → CountRose before.config_faults after.config_faults ⊎
       CountRose before.site_faults after.site_faults
   pub disk : answer ≡ DiskFault → CountRose before.station_faults after.station_faults
-  -- The gauges' files are asked for, in their order and each once, and no other.
+  -- The gauges' files are asked for, gauge by gauge, and no other: none where the configuration is
+  -- refused, and none behind a recording that is refused.
   pub asked : before.config_tells →
-      AsksFirst before.names_asked after.names_asked (names_in (config_of_bytes before.config))
+      InitAsks answer before.names_asked after.names_asked (names_in (config_of_bytes before.config))
   -- What stays.
   pub nothing : before.output_tells → after.written ≡ before.written
   pub back : after.out ≡ 0

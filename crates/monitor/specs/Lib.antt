@@ -1,6 +1,7 @@
 pub mod Line
 pub mod Figures
 pub mod Printed
+pub mod Numbers
 pub mod Task
 pub mod Shown
 pub mod InitRun

@@ -3,10 +3,10 @@ use Rattle.std.specs.Prelude.{◌≡◌, ◌≢◌, ◌⊎◌, Ok}
 use Rattle.outside.specs.Fault.{CountRose}
 use Rattle.site_config.specs.Configuration.{config_of_bytes}
 use Rattle.site_config.specs.declared.config.Config.{Config}
-use Rattle.site_config.specs.recorded.Asked.{AsksFirst, names_in}
+use Rattle.site_config.specs.recorded.Asked.{names_in}
 use Rattle.status.specs.declared.status.Status.{Status}
 use Rattle.status.specs.declared.status.Status.TheVariants.{Done, Usage, ReadFault, WriteFault, OutOfMemory}
-use Rattle.file_commands.specs.sheet_command.Sheet.{sheet_of, sheet_answer, MayAnswer, Prints}
+use Rattle.file_commands.specs.sheet_command.Sheet.{sheet_of, sheet_answer, MayAnswer, Prints, SheetAsks}
 use Rattle.monitor.specs.InitRun.{line_for}
 use Rattle.monitor.specs.Shown.{Shown, Tells, Ends}
 
@@ -29,6 +29,7 @@ pub record SheetRuns (before after : Shown) (answer : Status) : Type 0 where
   pub read : answer ≡ ReadFault → CountRose before.config_faults after.config_faults ⊎
       CountRose before.site_faults after.site_faults
   pub write : answer ≡ WriteFault → CountRose before.output_faults after.output_faults
-  -- The gauges' files are asked for, in their order and each once, and no other.
+  -- The gauges' files are asked for, gauge by gauge, and no other: none where the configuration is
+  -- refused, and none behind a recording that is refused.
   pub asked : before.config_tells →
-      AsksFirst before.names_asked after.names_asked (names_in (config_of_bytes before.config))
+      SheetAsks answer before.names_asked after.names_asked (names_in (config_of_bytes before.config))

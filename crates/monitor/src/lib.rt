@@ -24,6 +24,9 @@ mod command;
 mod counting;
 mod demo;
 mod grid;
+/// What the definitions come to in numbers. They take them from constants: a law tells them as
+/// numerals, by what they do.
+pub mod laws;
 mod read;
 mod refused;
 mod table;

@@ -26,10 +26,16 @@ returns-in-Ok-Some-Table-clause-last g c = λ name told tells some.
 pub returns-in-Ok-Some-Init-clause-init : goal.returns-in-Ok-Some-Init-clause-init
 returns-in-Ok-Some-Init-clause-init g c = λ is.
     let run = c.init_command.ensures in
+    let k = g.K.Station in
+    let now = c.init_command.new.station in
     record {
       made = run.made;
       told = run.told;
       any_moment = run.any_moment;
+      ended = λ tells shows gives bridge read none.
+          let moments = run.any_moment tells shows gives bridge read none in
+          moments.each (k.told now) (k.seen now) (g.met.K.Station.counts_now tells now (k.clock c.args.station.now) (k.seen now)
+          moments.later (g.met.K.Station.seen_counts tells now));
       unmade = run.unmade;
       quiet = run.quiet;
       last = run.last;
@@ -61,8 +67,8 @@ returns-in-Err-clause-init g c = λ is.
     init_without_memory (shown_by g.C.Source g.T.Site g.K.Station g.O.Sink c.args.config.now c.args.site.now c.args.station.now
     c.args.out.now)
     (shown_by g.C.Source g.T.Site g.K.Station g.O.Sink c.args.config.now c.args.site.now c.no_memory.new.station c.args.out.now)
-    c.no_memory.result c.no_memory.ensures.status c.no_memory.ensures.told c.no_memory.ensures.last (λ shows. refl) c.requires.home
-    (λ shows. refl) (λ names has. has)
+    c.no_memory.result c.no_memory.ensures.status (λ tells. g.met.K.Station.seen_counts tells c.args.station.now)
+    c.no_memory.ensures.told c.no_memory.ensures.last (λ shows. refl) c.requires.home (λ shows. refl) (λ names has. has)
 
 pub returns-in-Ok-Some-Report-clause-report : goal.returns-in-Ok-Some-Report-clause-report
 returns-in-Ok-Some-Report-clause-report g c = λ is.
@@ -115,6 +121,8 @@ returns-in-Ok-Some-Count-clause-count g c = λ workers is.
     let run = c.count_command.ensures in
     record {
       every_moment = run.every_moment;
+      appends = run.appends;
+      truly = run.truly;
       ended = run.ended;
       cut = run.cut;
       prints = run.prints;
