@@ -28,14 +28,6 @@ fn open_ahead<R: Files<File = File> + AllocGlobal>(
     }
 }
 
-// A copy of the name, if there is memory for it.
-fn owned<R: AllocGlobal>(rt: &R, name: &str) -> Option<String> {
-    match name.to_string(rt.alloc()) {
-        Ok(name) => Some(name),
-        Err(_) => None,
-    }
-}
-
 /// The files of the current folder. A name is a path. Of each that is out 64 KiB are read ahead.
 #[derive(Drop)]
 pub struct FolderSite<'a, R: Files<File = File> + AllocGlobal, W: Write + Drop> {
@@ -46,8 +38,8 @@ pub struct FolderSite<'a, R: Files<File = File> + AllocGlobal, W: Write + Drop> 
 }
 
 impl<'a, R: Files<File = File> + AllocGlobal, W: Write + Drop> FolderSite<'a, R, W> {
-    /// The current folder, of which no source is out, and where the reasons of its files' faults are
-    /// told. Why a source failed is told when it is given back: it may be read beside others.
+    /// The current folder, of which no source is out, and where the reasons of its files' faults
+    /// are told. Why a source failed is told when it is given back: it may be read beside others.
     pub fn new(rt: &'a R, reasons: Reasons<W>) -> FolderSite<'a, R, W>
         ensures out { result.out ≡ 0 }
         ensures faults { result.faults ≡ 0 }
@@ -78,7 +70,8 @@ impl<'a, R: Files<File = File> + AllocGlobal, W: Write + Drop> Site for FolderSi
         match open_ahead(self.rt, name) {
             Ok(file) => {
                 self.out += 1;
-                Ok(FileSource::with_name(file, owned(self.rt, name)))
+                // Without memory for its name the file is read all the same.
+                Ok(FileSource::with_name(file, name.to_string(self.rt.alloc()).ok()))
             }
             Err(fault) => {
                 self.reasons.tell(name, &fault);

@@ -3,12 +3,12 @@
 //!
 //! They are the trusted edge, and meet the contracts of the outside: a source gives what its reader
 //! gives, and an output is what its writer holds, where these tell it. Of a real file and a
-//! terminal no contract tells. Each counts the errors of the system that it met, and tells their reasons
-//! to the operator (`Reasons`).
+//! terminal no contract tells. Each counts the errors of the system that it met, and tells their
+//! reasons to the operator (`Reasons`).
 //!
-//! A store is opened as the command needs it (`StoreAccess`): a command that writes it holds it until
-//! the program ends, and one that reads it waits for nobody. No contract can speak of another program,
-//! so that is tried by the scripts in `tests/` alone.
+//! A store is opened as the command needs it (`StoreAccess`): a command that writes it holds it
+//! until the program ends, and one that reads it waits for nobody. No contract can speak of another
+//! program, so that is tried by the scripts in `tests/` alone.
 #![tactic(auto)]
 
 mod folder;

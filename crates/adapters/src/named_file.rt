@@ -22,7 +22,8 @@ pub struct NamedFile<'a> {
 }
 
 impl<'a> NamedFile<'a> {
-    /// The file of this name, which is not opened yet, and where the reasons of its faults are told.
+    /// The file of this name, which is not opened yet, and where the reasons of its faults are
+    /// told.
     pub fn new(rt: &'a HostRuntime, name: &'static str, reasons: Reasons<Stderr>) -> NamedFile<'a>
         ensures name { result.name ≡ name.entry }
         ensures faults { result.faults ≡ 0 }

@@ -59,8 +59,8 @@ fn without_number(text: &[u8]) -> &[u8] {
     }
 }
 
-// The line of a reason. A control byte of the name is shown as `?`: else a name could end the line and
-// forge another.
+// The line of a reason. A control byte of the name is shown as `?`: else a name could end the line
+// and forge another.
 fn reason_line(alloc: Global, name: &[u8], reason: &[u8]) -> Result<Vec<u8>, AllocError>
     ensures { IfOk result (λ line. line.items ≡ line_of name.now reason.now) }
 {

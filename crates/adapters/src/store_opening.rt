@@ -1,6 +1,6 @@
-// The file of the store, opened for what a command does with it. A command that writes the store holds
-// a lock on the file, and is refused while another has it: each writes where it found the end of the
-// store when it began. The lock goes with the program, however that ends.
+// The file of the store, opened for what a command does with it. A command that writes the store
+// holds a lock on the file, and is refused while another has it: each writes where it found the end
+// of the store when it began. The lock goes with the program, however that ends.
 use crate::store_access::StoreAccess;
 use std::fs::{File, TryLockError};
 use std::io;
@@ -8,8 +8,8 @@ use std::io::ErrorKind;
 use std::os::unix::fs::FileExt;
 use std::rt::Files;
 
-/// The file of this name, opened as the command needs it, or `None` where it is missing and the command
-/// doesn't make it.
+/// The file of this name, opened as the command needs it, or `None` where it is missing and the
+/// command doesn't make it.
 pub(crate) fn open_store<R: Files<File = File>>(
     rt: &R,
     name: &str,
@@ -22,9 +22,9 @@ pub(crate) fn open_store<R: Files<File = File>>(
     }
 }
 
-// Opens the file that is there and locks it, or makes it and locks it. Two that find none at once make
-// one file: the one whose making is refused opens the other's. The other may not have locked it yet.
-// Then the lock decides which of the two makes the store, and the file is empty.
+// Opens the file that is there and locks it, or makes it and locks it. Two that find none at once
+// make one file: the one whose making is refused opens the other's. The other may not have locked
+// it yet. Then the lock decides which of the two makes the store, and the file is empty.
 fn open_or_make<R: Files<File = File>>(rt: &R, name: &str) -> io::Result<Option<File>> {
     if let Some(file) = open_to_write(rt, name)? {
         return Ok(Some(file));
@@ -67,9 +67,9 @@ fn none_if_missing(fault: io::Error) -> io::Result<Option<File>> {
     }
 }
 
-// The file with a lock of its own, until it is closed. Where a standard stream was closed before the
-// program began, the system gave the file its number, and a line that is told would be written into
-// the store. A clone never has one of these numbers.
+// The file with a lock of its own, until it is closed. Where a standard stream was closed before
+// the program began, the system gave the file its number, and a line that is told would be written
+// into the store. A clone never has one of these numbers.
 fn locked(opened: File) -> io::Result<Option<File>> {
     let file = opened.try_clone()?;
     match file.try_lock() {

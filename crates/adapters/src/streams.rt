@@ -53,10 +53,7 @@ impl<F: Read + Send + Drop> FileSource<F> {
 
     // Why the last read failed that did.
     pub(crate) fn reason(&self) -> io::Error {
-        match self.fault {
-            Some(fault) => fault,
-            None => ErrorKind::Interrupted.into(),
-        }
+        self.fault.unwrap_or(ErrorKind::Interrupted.into())
     }
 }
 
@@ -97,8 +94,8 @@ pub struct OutputSink<W: Write + Drop, L: Write + Drop> {
 }
 
 impl<W: Write + Drop, L: Write + Drop> OutputSink<W, L> {
-    /// An output of this name to this writer, on which no call failed yet, and where the reasons of its
-    /// faults are told.
+    /// An output of this name to this writer, on which no call failed yet, and where the reasons of
+    /// its faults are told.
     pub fn new(out: W, name: &'static str, reasons: Reasons<L>) -> OutputSink<W, L>
         ensures out { result.out ≡ out }
         ensures faults { result.faults ≡ 0 }

@@ -30,6 +30,8 @@ mod faults;
 #[cfg(test)]
 mod growing;
 #[cfg(test)]
+mod held_example;
+#[cfg(test)]
 mod held_lines;
 #[cfg(test)]
 mod init_runs;

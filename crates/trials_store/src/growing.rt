@@ -7,8 +7,8 @@ use segment_store::{Damage, ResumeFault, Store};
 use std::alloc::Global;
 use std::test::Fail;
 
-// A store that another program writes while it is read: of its bytes the first size that is asked is an
-// earlier one.
+// A store that another program writes while it is read: of its bytes the first size that is asked
+// is an earlier one.
 #[derive(Drop)]
 struct GrowingStation {
     bytes: Vec<u8>,
@@ -92,8 +92,8 @@ fn resumed(
     }
 }
 
-// Wherever the store ended when its size was asked, behind its head, the bodies that are there by now
-// are held.
+// Wherever the store ended when its size was asked, behind its head, the bodies that are there by
+// now are held.
 #[test]
 fn a_store_grows_while_it_is_resumed(rt: HostRuntime) -> Result<(), Fail> {
     let whole = stored(&rt, rt.alloc(), 1, &[FIRST, NEXT])?;

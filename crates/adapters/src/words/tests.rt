@@ -46,23 +46,51 @@ impl Env for Line {
     }
 }
 
-// A name that is no text is not read, and a word that is none is told. A word may be longer than
-// the first room for it.
+// A line of these words.
+fn line_of(alloc: Global, words: &[&[u8]]) -> Result<Line, AllocError> {
+    let mut line = Line::new(alloc);
+    for &word in words {
+        line.push(word)?;
+    }
+    Ok(line)
+}
+
+// How many words are read.
+fn count_of(line: &Line) -> Result<usize, WordFault> {
+    words_of(line, line.alloc).map(|words| words.len())
+}
+
+// Longer than the first room for a word.
+const LONG: &[u8] = &[b'x'; 1000];
+
 #[test]
 fn words_behind_the_name(rt: HostRuntime) -> Result<(), Fail> {
-    let mut line = Line::new(rt.alloc());
-    assert_eq!(rt; words_of(&line, rt.alloc()).map(|words| words.len()), Ok(0));
-    line.push(b"\xff/monitor")?;
-    assert_eq!(rt; words_of(&line, rt.alloc()).map(|words| words.len()), Ok(0));
-    line.push(b"table")?;
-    line.push(&[b'x'; 1000])?;
+    let line = line_of(
+        rt.alloc(),
+        &[b"monitor".as_slice(), b"table".as_slice(), LONG],
+    )?;
     let Ok(words) = words_of(&line, rt.alloc()) else {
-        return Err(Fail::new("the words are text, and the name need not be"));
+        return Err(Fail::new("these words are text"));
     };
     assert_eq!(rt; words.len(), 2);
     assert_eq!(rt; words[0].as_str(), "table");
-    assert_eq!(rt; words[1].len(), 1000);
+    assert_eq!(rt; words[1].len(), LONG.len());
+    Ok(())
+}
+
+#[test]
+fn no_words(rt: HostRuntime) -> Result<(), Fail> {
+    let line = line_of(rt.alloc(), &[])?;
+    assert_eq!(rt; count_of(&line), Ok(0));
+    Ok(())
+}
+
+// The name is not read, so it need not be text; a word must be.
+#[test]
+fn words_that_are_no_text(rt: HostRuntime) -> Result<(), Fail> {
+    let mut line = line_of(rt.alloc(), &[b"\xff/monitor".as_slice()])?;
+    assert_eq!(rt; count_of(&line), Ok(0));
     line.push(b"\xff")?;
-    assert_eq!(rt; words_of(&line, rt.alloc()).err(), Some(WordFault::NotText));
+    assert_eq!(rt; count_of(&line), Err(WordFault::NotText));
     Ok(())
 }
