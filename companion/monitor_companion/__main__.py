@@ -3,6 +3,7 @@
 from __future__ import annotations
 
 import argparse
+import os
 import sys
 from collections.abc import Sequence
 
@@ -36,9 +37,16 @@ def main(words: Sequence[str] | None = None) -> int:
         module.add_arguments(commands.add_parser(name, help=module.SUMMARY))
     arguments = parser.parse_args(words)
     try:
-        return int(COMMANDS[arguments.command].run(arguments))
+        status = int(COMMANDS[arguments.command].run(arguments))
+        sys.stdout.flush()
+        return status
     except Refusal as refusal:
         print(f"monitor-companion: {refusal}", file=sys.stderr)
+        return int(Status.REFUSED)
+    except BrokenPipeError:
+        # Python would try to write the rest once more when it ends.
+        os.dup2(os.open(os.devnull, os.O_WRONLY), sys.stdout.fileno())
+        print("monitor-companion: the output was closed before its end", file=sys.stderr)
         return int(Status.REFUSED)
 
 

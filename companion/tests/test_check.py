@@ -6,9 +6,12 @@ import argparse
 import contextlib
 import csv
 import io
+import os
 import pathlib
 import re
 import shutil
+import subprocess
+import sys
 import tempfile
 import unittest
 from dataclasses import dataclass, field
@@ -200,6 +203,18 @@ class Words(unittest.TestCase):
             self.assertEqual(
                 lines[-2], "monitor would end with status 2: config: out of range gauge 1 den"
             )
+
+    def test_an_output_that_was_closed(self) -> None:
+        reader, writer = os.pipe()
+        os.close(reader)
+        with tempfile.TemporaryDirectory() as name, os.fdopen(writer, "wb") as closed:
+            sites.make(pathlib.Path(name))
+            words = [sys.executable, "-m", "monitor_companion", "check", "--site", name]
+            ran = subprocess.run(
+                words, cwd=ROOT / "companion", stdout=closed, stderr=subprocess.PIPE, check=False
+            )
+        told = b"monitor-companion: the output was closed before its end\n"
+        self.assertEqual((ran.returncode, ran.stderr), (Status.REFUSED, told))
 
     def test_what_was_read_is_told(self) -> None:
         with tempfile.TemporaryDirectory() as name:
