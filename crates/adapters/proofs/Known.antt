@@ -1,8 +1,11 @@
 -- What std says of known bytes, said of the bytes.
 use Rattle.std.proofs.Common.{◌≡◌, ◌++◌, ℕ, List, [], length, refl, sym, ap, subst, ◌∙◌, arith, append-nil}
 use Rattle.std.proofs.Math.Seq.{take-append_seam}
-use Rattle.std.specs.Prelude.{Option, Some, None, IsSome, take, Result, Ok}
+use Rattle.std.proofs.lemmas.List.{length-replicate}
+use Rattle.std.specs.Prelude.{Bool, true, false, if◌then◌else◌, ◌==◌, Option, Some, None, IsSome, take, replicate, Result, Ok}
+use Rattle.std.specs.Io.Buffered.{reader_remaining, reader_capacity}
 use Rattle.std.specs.Io.KnownBytes.{Consumes, Keeps, Appends, IsAtEnd, WriteAppends}
+use Rattle.std.specs.declared.io.buffered.BufReader.{BufReader}
 use Rattle.adapters.specs.Known.{bytes_of}
 use Rattle.outside.specs.Sink.{AppendsPrefix}
 
@@ -36,3 +39,17 @@ at_end (Some xs) e = e
 pub prefix : (before after bytes front rest : List ℕ) → bytes ≡ front ++ rest → after ≡ before ++ front → AppendsPrefix before after bytes
 prefix before after bytes front rest is w =
     (length front, w ∙ ap (λ l. before ++ l) (sym (ap (take (length front)) is ∙ take-append_seam front rest)))
+
+-- bytes that nobody knows were passed over
+pub unknown_passed : (before after : Option (List ℕ)) (n : ℕ) → before ≡ None → (bs : List ℕ) × Consumes before after bs × (length bs ≡ n)
+unknown_passed None after n none = (replicate n 0, _, length-replicate n 0)
+unknown_passed (Some xs) after n none = absurd (cc)
+
+-- whether there is a buffer or none
+by_capacity : (b : Bool) → ◌≡◌ {A = Option (List ℕ)} (if b then None else None) None
+by_capacity true = refl
+by_capacity false = refl
+
+-- of a reader that doesn't tell, what is read ahead doesn't either
+pub unknown_ahead : {T A : Type 0} (r : BufReader T A) → reader_remaining (λ _. None) r ≡ None
+unknown_ahead r = by_capacity (reader_capacity r == 0)

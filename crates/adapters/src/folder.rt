@@ -13,7 +13,7 @@ use std::rt::Files;
 
 // What is read ahead of a recording, in bytes: blocks are read in such pieces, however small they
 // are.
-const READ_AHEAD: usize = 65536;
+pub(crate) const READ_AHEAD: usize = 65536;
 
 // Opens a file that is read ahead, or is not where there is no memory for that.
 fn open_ahead<R: Files<File = File> + AllocGlobal>(

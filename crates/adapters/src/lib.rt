@@ -13,6 +13,7 @@
 
 mod folder;
 mod named_file;
+mod pass_over;
 mod reasons;
 mod store_access;
 mod store_file;
@@ -22,6 +23,7 @@ mod words;
 
 pub use folder::FolderSite;
 pub use named_file::NamedFile;
+pub use pass_over::PassOver;
 pub use reasons::Reasons;
 pub use store_access::StoreAccess;
 pub use store_file::FileStation;

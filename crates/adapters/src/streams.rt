@@ -5,6 +5,8 @@ ghost use Rattle.adapters.specs.Known.{Tells, bytes_of};
 #[cfg(test)]
 mod tests;
 
+use crate::folder::READ_AHEAD;
+use crate::pass_over::PassOver;
 use crate::reasons::Reasons;
 use outside::{Failed, Sink, Source};
 use std::io;
@@ -12,16 +14,16 @@ use std::io::{ErrorKind, Read, Write};
 
 /// An open file, or another reader, from where it stands.
 #[derive(Drop)]
-pub struct FileSource<F: Read + Send + Drop> {
+pub struct FileSource<F: Read + PassOver + Send + Drop> {
     file: F,
     // What the file is called, where there was memory for it.
     name: Option<String>,
-    // Why the last read failed that did.
+    // Why the last call failed that did.
     fault: Option<io::Error>,
     pub(crate) faults: u64,
 }
 
-impl<F: Read + Send + Drop> FileSource<F> {
+impl<F: Read + PassOver + Send + Drop> FileSource<F> {
     /// What this reader gives from here on, of which no call failed yet.
     pub fn new(file: F) -> FileSource<F>
         ensures file { result.file ≡ file }
@@ -51,13 +53,13 @@ impl<F: Read + Send + Drop> FileSource<F> {
         }
     }
 
-    // Why the last read failed that did.
+    // Why the last call failed that did.
     pub(crate) fn reason(&self) -> io::Error {
         self.fault.unwrap_or(ErrorKind::Interrupted.into())
     }
 }
 
-impl<F: Read + Send + Drop> Source for FileSource<F> {
+impl<F: Read + PassOver + Send + Drop> Source for FileSource<F> {
     // Where readers of its type tell what they will give.
     ghost tells = { Tells F.remaining };
 
@@ -81,6 +83,23 @@ impl<F: Read + Send + Drop> Source for FileSource<F> {
         }
         self.faults = self.faults.saturating_add(1);
         Err(Failed)
+    }
+
+    // What the reader can't pass over is read.
+    fn skip(&mut self, most: u64) -> Result<u64, Failed> {
+        match self.file.pass_over(most) {
+            Ok(0) => {
+                let mut buf = [0; READ_AHEAD];
+                let room = most.min(READ_AHEAD as u64) as usize;
+                Ok(self.take(&mut buf[..room])? as u64)
+            }
+            Ok(n) => Ok(n),
+            Err(fault) => {
+                self.fault = Some(fault);
+                self.faults = self.faults.saturating_add(1);
+                Err(Failed)
+            }
+        }
     }
 }
 

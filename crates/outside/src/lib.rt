@@ -9,10 +9,10 @@
 //!
 //! The objects in memory fail where they were told to. `BytesSource`, `SteadySource` and `VecSink`
 //! fail there and nowhere else, by their clauses. A fetch of `MapSite` fails there, where it has no
-//! such file, and where its copy of the file, or of the numbers of the takes that are to fail,
+//! such file, and where its copy of the file, or of the numbers of the calls that are to fail,
 //! finds no memory. The last no clause can rule out: none parts a refused copy from another
-//! failure. A take or a put costs one copy of its bytes, a fetch one copy of the file and of those
-//! numbers.
+//! failure. A take or a put costs one copy of its bytes, a skip nothing, a fetch one copy of the
+//! file and of those numbers.
 //!
 //! A site says besides which names it was asked for, so that a contract can say which files a call
 //! reads. A gate promises nothing, so no contract leans on it: it is there for tests.

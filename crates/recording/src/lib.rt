@@ -4,10 +4,11 @@
 //! what the bytes of a head are and what is wrong with others, `specs/Samples.antt` reads a body as
 //! samples and torn bytes, and `specs/Filling.antt` says how a `fill` or a `skip` ends.
 //!
-//! `fill` and `skip` take up to 64 KiB at once into a buffer on the stack (4 KiB for few samples),
-//! and take again until it is full, so what they give does not depend on the sizes of the source's
-//! takes, and a part sample is never kept between calls. Bytes become samples a buffer at a time.
-//! No call here takes memory. A `fill` costs the takes and about one copy of the bytes.
+//! `fill` takes up to 64 KiB at once into a buffer on the stack (4 KiB for few samples), and takes
+//! again until it is full; `skip` has the source skip until all is skipped. So what they give does
+//! not depend on the sizes of the source's takes and skips, and a part sample is never kept between
+//! calls. Bytes become samples a buffer at a time. No call here takes memory. A `fill` costs the
+//! takes and about one copy of the bytes, a `skip` what the skips of its source cost.
 //!
 //! [`lane_ends`] says how the samples of a block end: whether more may follow.
 #![tactic(auto)]

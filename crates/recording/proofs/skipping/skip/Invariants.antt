@@ -1,0 +1,14 @@
+use Rattle.std.proofs.Common.{◌-◌, ◌≤◌, ◌<◌, ◌+◌, ◌*◌}
+use Rattle.recording.proofs.Skipped.{Skipped}
+use Rattle.recording.proofs.skipping.skip.Given as goal
+
+abbrev pub invariant-loop-skipped : goal.invariant-loop-skipped
+invariant-loop-skipped g l = record {
+  short : l.part < 4;
+  fits : 4 * l.skipped + l.part ≤ 4 * l.n;
+  so_far : g.S.Source.tells → Skipped (g.S.Source.left l.fn.src) (g.S.Source.left l.src) l.skipped l.part;
+  later : g.S.Source.faults l.fn.src ≤ g.S.Source.faults l.src;
+}
+
+abbrev pub decreases-loop-skipped : goal.decreases-loop-skipped
+decreases-loop-skipped g l = 4 * l.n - (4 * l.skipped + l.part)
