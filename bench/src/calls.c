@@ -1,4 +1,4 @@
-/* The same digests as `bench_calls call_times`, by plain C, with the processor time of each call: calls [time]
+/* The same digests as `bench_times call_times`, by plain C, with the processor time of each call: calls [time]
  *
  * `level` is a look-up in a table of all raw values with a class, the fastest form there is; the others are the forms that are usual
  * in C. What is copied before a call is copied here too.

@@ -1,5 +1,5 @@
 #!/usr/bin/env python3
-"""The work of `bench_calls time column_times` by Python's csv module: the last column of a million rows of four, as numbers of 32 bits.
+"""The work of `bench_times time column_times` by Python's csv module: the last column of a million rows of four, as numbers of 32 bits.
 
 Prints the same digest, and the least processor time of five runs in nanoseconds a row.
 """

@@ -1,4 +1,4 @@
-/* merges [CLASSES]: what `bench_calls time block_times` measures, in plain C: blocks of levels through the reducers and logs of one unit
+/* merges [CLASSES]: what `bench_times time block_times` measures, in plain C: blocks of levels through the reducers and logs of one unit
  * or of 512, each block's log merged into the table of a board and emptied. The history is the same, and 128 classes where none are
  * named.
  *

@@ -1,8 +1,0 @@
-use Rattle.std.proofs.Common.{ℕ, List, sym, subst, ◌≡◌}
-use Rattle.turning_points.specs.Points.{points}
-use Rattle.turning_points.proofs.Zigzag.{zig_points}
-use Rattle.turning_points.proofs.Over.{own}
-use Rattle.bench_calls.proofs.call_times.counts.count_simple_block.Goals as goal
-
-pub count_simple-requires-clause-own : goal.count_simple-requires-clause-own
-count_simple-requires-clause-own c = subst (λ (l : List ℕ). points l ≡ l) (sym c.keep_points-count.ensures.points) (own (zig_points _))

@@ -1,9 +1,0 @@
--- The grid stays.
-use Rattle.std.proofs.Common.{◌≡◌, length}
-use Rattle.bench_calls.proofs.call_times.counts.cross_block.Given as goal
-
-abbrev pub invariant-loop : goal.invariant-loop
-invariant-loop l = record {
-  classes : l.crossings.classes ≡ l.classes;
-  places : length l.extremes.items ≡ l.classes;
-}
