@@ -2,3 +2,4 @@ pub mod Told
 pub mod Kept
 pub mod Going
 pub mod Fronts
+pub mod Pace

@@ -4,7 +4,7 @@
 //! when the put of the segment that ends there has returned. `specs/held_samples/Going.antt` says
 //! what is true at every moment of such a run: whatever a crash leaves holds at least what was held
 //! at entry, and no line acknowledges more than it holds. `specs/held_samples/Told.antt` has the
-//! lines.
+//! lines, and `specs/held_samples/Pace.antt` says that each comes before the next put.
 //!
 //! Cost: four station calls and a line for each front that is not empty. No call but
 //! [`HeldLine::new`] takes memory.

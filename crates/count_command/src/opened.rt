@@ -1,4 +1,4 @@
-ghost use Rattle.std.specs.Prelude.{◌≡◌, ◌≤◌, ℕ, ℤ, List, false, length};
+ghost use Rattle.std.specs.Prelude.{◌≡◌, ◌≢◌, ◌≤◌, ℕ, ℤ, List, false, length};
 ghost use Rattle.std.specs.List.{All};
 ghost use Rattle.outside.specs.Fault.{CountRose};
 ghost use Rattle.outside.specs.Site.{Files};
@@ -7,15 +7,17 @@ ghost use Rattle.segment_store.specs.Held.{ends_of};
 ghost use Rattle.segment.specs.segment_rules.Parts.{PartsValue};
 ghost use Rattle.segment_store.specs.Moments.{IsOn, IsThere};
 ghost use Rattle.segment_store.specs.Quiet.{IsQuiet};
-ghost use Rattle.site_config.specs.Valid.{IsConfig};
+ghost use Rattle.site_config.specs.Valid.{IsConfig, name_of};
 ghost use Rattle.site_config.specs.recorded.Recorded.{recordings};
 ghost use Rattle.count_command.specs.held_samples.Kept.{beginning};
 ghost use Rattle.count_command.specs.held_samples.Going.{HoldsSince, HoldsSinceEntry, IsStored};
+ghost use Rattle.count_command.specs.held_samples.Pace.{Paced, window_of};
 ghost use Rattle.count_command.specs.held_samples.Told.{Acknowledges};
 ghost use Rattle.site_lanes.specs.Lanes.{AreLanes, AreHeldTo, HasSource, IsFaulty, HasNotFailed};
 ghost use Rattle.report_command.specs.site_report.Room.{HasRoom};
-ghost use Rattle.status.specs.declared.status.Status.TheVariants.{Done, ReadFault, WriteFault, DiskFault};
+ghost use Rattle.status.specs.declared.status.Status.TheVariants.{ReadFault, WriteFault, DiskFault};
 ghost use Rattle.status.specs.Printing.{IsPrinting};
+ghost use Rattle.count_command.specs.Acknowledging.{AreShort, WhereCounted};
 ghost use Rattle.count_command.specs.Holding.{HeldAt, HeldCut, LeavesStore};
 ghost use Rattle.count_command.specs.Answer.{EndAnswers, IsEnding};
 ghost use Rattle.count_command.specs.Printed.{AllStandFor, Prints};
@@ -46,7 +48,7 @@ fn print_held<O: Sink>(bridge: &Config, store: &Store, report: &mut Report, out:
     ensures kind { IsPrinting result }
     ensures write { result ≡ WriteFault → CountRose (O.faults out.old) (O.faults out.new) }
 {
-    match report.print(bridge, store, out) {
+    match report.print(bridge, store.segments(), out) {
         Ok(()) => Status::Done,
         Err(_) => Status::WriteFault,
     }
@@ -97,6 +99,13 @@ pub fn count_opened<
         (K.clock station.old) (K.moments station.old) (K.told station.old)
         (K.clock station.new) (K.moments station.new) (K.told station.new)
         (K.leaves station.new) (ends_of store.new.held) }
+    // Each body is told before the next one is stored.
+    ensures paced { K.tells → (bodies : List PartsValue) →
+        IsOn store.old bodies (K.seen station.old) (K.leaves station.old) →
+        Paced (name_of bridge.now) (window_of bridge.now) store.old.head bodies
+        (K.clock station.old) (K.moments station.old) (K.told station.old)
+        (K.clock station.new) (K.moments station.new) (K.told station.new)
+        (K.seen station.new) (K.leaves station.new) store.new (result ≢ DiskFault) }
     // What is held at the end.
     ensures ended { K.tells → C.tells → (files : Files) →
         AreLanes C.tells C.left (recordings bridge.now files) lanes.old →
@@ -111,9 +120,10 @@ pub fn count_opened<
         HeldCut result (recordings bridge.now files) (K.leaves station.new) }
     // What is told and printed.
     ensures acknowledged { K.tells → C.tells → (files : Files) →
-        AreLanes C.tells C.left (recordings bridge.now files) lanes.old → result ≡ Done →
-        Acknowledges bridge.now.block (recordings bridge.now files) (ends_of store.old.held)
-        (K.told station.old) (K.told station.new) }
+        AreLanes C.tells C.left (recordings bridge.now files) lanes.old →
+        WhereCounted result (All HasNotFailed lanes.new × AreShort (recordings bridge.now files))
+        (Acknowledges bridge.now.block (recordings bridge.now files) (ends_of store.old.held)
+        (K.told station.old) (K.told station.new)) }
     ensures prints { O.tells → K.tells → C.tells → (files : Files) →
         AreLanes C.tells C.left (recordings bridge.now files) lanes.old →
         IsStored (recordings bridge.now files) store.old (K.seen station.old)

@@ -1,5 +1,5 @@
 -- From what a round does to each lane to what a run keeps of all of them.
-use Rattle.std.proofs.Common.{◌≡◌, ◌<◌, ⊎_elim, ℕ, zero, suc, ◌+◌, ◌-◌, ◌*◌, ◌++◌, min, ℤ, List, [], ◌∷◌, length, take, drop, refl, sym, ◌∙◌, ap, subst, arith, append_assoc, mul-suc}
+use Rattle.std.proofs.Common.{◌≡◌, ◌≤◌, ◌<◌, ⊎_elim, ℕ, zero, suc, ◌+◌, ◌-◌, ◌*◌, ◌++◌, min, ℤ, List, [], ◌∷◌, length, take, drop, refl, sym, ◌∙◌, ap, subst, arith, append_assoc, mul-suc}
 use Rattle.std.specs.List.{All}
 use Rattle.std.specs.Prelude.{slice_index, slice_index_or, slice_range}
 use Rattle.outside.specs.station.Station.{Lines}
@@ -79,6 +79,12 @@ module _ {C : Type 0} {tells : Type 0} {left : C → List ℕ} {faults : C → �
           ap (λ (x : Name). x.from) done_front.name,
           ap (λ (x : Name). x.to) done_front.name,
         );
+        short = let e : front.to ≤ front.from + BLOCKS_PER_WINDOW * old.block = omega (
+          arith,
+          (done.lane g d (omega (arith, lt, many))).samples.1,
+          ap (λ (x : Name). x.from) done_front.name,
+          ap (λ (x : Name). x.to) done_front.name,
+        ) in subst (λ (b : ℕ). front.to ≤ front.from + BLOCKS_PER_WINDOW * b) (sym done.board.1) e;
       }
 
   pub fronts_end : (gauges : ℕ) → gauges ≡ old.gauges → FrontsEnd (at_of lanes2) new.board gauges

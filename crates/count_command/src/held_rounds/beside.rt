@@ -1,4 +1,4 @@
-ghost use Rattle.std.specs.Prelude.{◌≡◌, ◌++◌, ℕ, List, false, length, slice_index, OnOk};
+ghost use Rattle.std.specs.Prelude.{◌≡◌, ℕ, List, false, length, IsOk, OnOk};
 ghost use Rattle.std.specs.List.{All};
 ghost use Rattle.std.specs.Thread.{IsSync, IsSend};
 ghost use Rattle.outside.specs.Fault.{HasCause};
@@ -10,10 +10,10 @@ ghost use Rattle.segment.specs.segment_rules.Parts.{PartsValue};
 ghost use Rattle.segment_store.specs.Moments.{IsOn, IsThere};
 ghost use Rattle.site_config.specs.Valid.{IsConfig, name_of};
 ghost use Rattle.site_config.specs.recorded.Recorded.{recordings};
-ghost use Rattle.count_command.specs.held_samples.Told.{round_lines};
-ghost use Rattle.count_command.specs.held_samples.Kept.{Kept, beginning};
-ghost use Rattle.count_command.specs.held_samples.Going.{HoldsSince, HoldsSinceEntry, IsStored, IsStoredAs};
-ghost use Rattle.count_command.specs.held_samples.Fronts.{AreFronts, FrontsFollow, FrontsStand};
+ghost use Rattle.count_command.specs.held_samples.Kept.{beginning};
+ghost use Rattle.count_command.specs.held_samples.Going.{HoldsSince, HoldsSinceEntry, IsStored};
+ghost use Rattle.count_command.specs.held_samples.Fronts.{AreFronts, FrontsStand};
+ghost use Rattle.count_command.specs.held_samples.Pace.{Paced, window_of};
 ghost use Rattle.site_lanes.specs.Lanes.{AreLanes, AreReady, AreHeldTo, HasSource, HasEnded, IsFaulty, IsWhole};
 ghost use Rattle.count_command.specs.held_rounds.Beside.{IsBoardFor, Leads, Stores};
 ghost use Rattle.count_command.specs.held_rounds.Telling.{HasTold};
@@ -123,26 +123,11 @@ fn round_beside<R: Threads + Wait + Sync, C: Source + Send, K: Station, G: Gate 
     requires lanes { AreReady lanes.old }
     requires on { K.tells → IsThere store.old (K.seen station.old) (K.leaves station.old) }
     // Of the running round nothing is said here.
-    ensures going { K.tells → (files : Files) (kept : Kept) →
-        IsStoredAs kept store.old (K.seen station.old) (K.leaves station.old) →
-        FrontsFollow kept (length bridge.now.gauges) board.now →
-        HoldsSince kept (recordings bridge.now files) (ends_of store.old.held)
-        (K.clock station.old) (K.moments station.old) (K.told station.old)
-        (K.clock station.new) (K.moments station.new) (K.told station.new)
-        (K.leaves station.new) (ends_of store.new.held) }
-    ensures stored { K.tells → (kept : Kept) →
-        IsStoredAs kept store.old (K.seen station.old) (K.leaves station.old) →
-        FrontsFollow kept (length bridge.now.gauges) board.now → OnOk result
-        (IsStoredAs kept store.new (K.seen station.new) (K.leaves station.new)) }
-    ensures there { K.tells →
-        OnOk result (IsThere store.new (K.seen station.new) (K.leaves station.new)) }
-    ensures usable { OnOk result (store.new.shut ≡ false) }
-    ensures head { store.new.head ≡ store.old.head }
-    ensures gauges { length store.new.held ≡ length store.old.held }
-    ensures cause { HasCause (K.faults station.old) (K.faults station.new) result }
-    ensures told { K.tells → OnOk result (K.told station.new ≡ K.told station.old
-        ++ round_lines (name_of bridge.now) (slice_index (ends_of store.old.held))
-        (slice_index (ends_of store.new.held)) (length bridge.now.gauges)) }
+    ensures stores { Stores K.tells bridge.now board.now store.old store.new
+        (K.clock station.old) (K.clock station.new) (K.moments station.old) (K.moments station.new)
+        (K.told station.old) (K.told station.new) (K.seen station.old) (K.seen station.new)
+        (K.leaves station.old) (K.leaves station.new)
+        (K.faults station.old) (K.faults station.new) result }
     // The gauges are held up to where the lanes were, and the next board leads on from there.
     ensures held { OnOk result (AreHeldTo (ends_of store.new.held) lanes.old) }
     ensures leads { OnOk result (Leads store.new.head.setup (ends_of store.new.held)
@@ -203,6 +188,13 @@ pub fn count_rounds<R: Threads + Wait + Sync, C: Source + Send, K: Station, G: G
         (K.clock station.old) (K.moments station.old) (K.told station.old)
         (K.clock station.new) (K.moments station.new) (K.told station.new)
         (K.leaves station.new) (ends_of store.new.held) }
+    // Each body is told before the next one is stored.
+    ensures paced { K.tells → (bodies : List PartsValue) →
+        IsOn store.old bodies (K.seen station.old) (K.leaves station.old) →
+        Paced (name_of bridge.now) (window_of bridge.now) store.old.head bodies
+        (K.clock station.old) (K.moments station.old) (K.told station.old)
+        (K.clock station.new) (K.moments station.new) (K.told station.new)
+        (K.seen station.new) (K.leaves station.new) store.new (IsOk result) }
     ensures stored { K.tells → C.tells → (files : Files) →
         AreLanes C.tells C.left (recordings bridge.now files) lanes.old →
         IsStored (recordings bridge.now files) store.old (K.seen station.old)

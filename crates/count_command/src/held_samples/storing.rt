@@ -2,13 +2,16 @@ ghost use Rattle.std.specs.Prelude.{
   ◌≡◌,
   ◌≤◌,
   ◌<◌,
+  ◌+◌,
   ◌++◌,
   [],
   ◌∷◌,
   ℕ,
+  List,
   false,
   length,
   slice_index,
+  IsOk,
   OnOk,
 };
 ghost use Rattle.outside.specs.Fault.{HasCause};
@@ -16,7 +19,8 @@ ghost use Rattle.outside.specs.Site.{Files};
 ghost use Rattle.segment.specs.Parts.{parts_of};
 ghost use Rattle.segment_store.specs.Held.{ends_of};
 ghost use Rattle.segment_store.specs.Image.{ends_after};
-ghost use Rattle.segment_store.specs.Moments.{IsThere};
+ghost use Rattle.segment.specs.segment_rules.Parts.{PartsValue};
+ghost use Rattle.segment_store.specs.Moments.{IsOn, IsThere};
 ghost use Rattle.site_config.specs.declared.limits.TheConstants.{MAX_NAME_BYTES};
 ghost use Rattle.site_config.specs.Valid.{IsConfig, name_of};
 ghost use Rattle.site_config.specs.recorded.Recorded.{Recorded, recordings};
@@ -24,6 +28,7 @@ ghost use Rattle.count_command.specs.held_samples.Told.{held_line, gauge_lines, 
 ghost use Rattle.count_command.specs.held_samples.Kept.{Kept, MayFollow};
 ghost use Rattle.count_command.specs.held_samples.Going.{HoldsSince, IsStoredAs, AreNames};
 ghost use Rattle.count_command.specs.held_samples.Fronts.{IsHeldTo, AreFronts, FrontsEnd, FrontsFollow};
+ghost use Rattle.count_command.specs.held_samples.Pace.{Paced, window_of};
 
 use crate::held_samples::line::HeldLine;
 use board::Board;
@@ -63,6 +68,14 @@ pub fn store_front<K: Station>(
         IsStoredAs kept store.old (K.seen station.old) (K.leaves station.old) →
         MayFollow kept front.now →
         OnOk result (IsStoredAs kept store.new (K.seen station.new) (K.leaves station.new)) }
+    // Each body is told before the next one is stored.
+    ensures paced { K.tells → (names : ℕ → List ℕ) → names front.now.gauge ≡ name.now →
+        (window : ℕ) → front.now.to ≤ front.now.from + window → (bodies : List PartsValue) →
+        IsOn store.old bodies (K.seen station.old) (K.leaves station.old) →
+        Paced names window store.old.head bodies
+        (K.clock station.old) (K.moments station.old) (K.told station.old)
+        (K.clock station.new) (K.moments station.new) (K.told station.new)
+        (K.seen station.new) (K.leaves station.new) store.new (IsOk result) }
     ensures told { K.tells → OnOk result (K.told station.new ≡
         K.told station.old ++ held_line name.now front.now.to ∷ []) }
     ensures held { OnOk result (ends_of store.new.held ≡
@@ -110,6 +123,13 @@ fn store_gauge<K: Station>(
         IsStoredAs kept store.old (K.seen station.old) (K.leaves station.old) →
         (front.now.from < front.now.to → MayFollow kept front.now) →
         OnOk result (IsStoredAs kept store.new (K.seen station.new) (K.leaves station.new)) }
+    ensures paced { K.tells → (names : ℕ → List ℕ) → names front.now.gauge ≡ name.now →
+        (window : ℕ) → front.now.to ≤ front.now.from + window → (bodies : List PartsValue) →
+        IsOn store.old bodies (K.seen station.old) (K.leaves station.old) →
+        Paced names window store.old.head bodies
+        (K.clock station.old) (K.moments station.old) (K.told station.old)
+        (K.clock station.new) (K.moments station.new) (K.told station.new)
+        (K.seen station.new) (K.leaves station.new) store.new (IsOk result) }
     ensures told { K.tells → OnOk result (K.told station.new ≡
         K.told station.old ++ gauge_lines name.now front.now.from front.now.to) }
     ensures held { OnOk result (IsHeldTo (ends_of store.old.held)
@@ -157,6 +177,13 @@ pub fn store_fronts<K: Station>(
         IsStoredAs kept store.old (K.seen station.old) (K.leaves station.old) →
         FrontsFollow kept (length bridge.now.gauges) board.now → OnOk result
         (IsStoredAs kept store.new (K.seen station.new) (K.leaves station.new)) }
+    // Each body is told before the next one is stored.
+    ensures paced { K.tells → board.now.block ≡ bridge.now.block → (bodies : List PartsValue) →
+        IsOn store.old bodies (K.seen station.old) (K.leaves station.old) →
+        Paced (name_of bridge.now) (window_of bridge.now) store.old.head bodies
+        (K.clock station.old) (K.moments station.old) (K.told station.old)
+        (K.clock station.new) (K.moments station.new) (K.told station.new)
+        (K.seen station.new) (K.leaves station.new) store.new (IsOk result) }
     ensures told { K.tells → OnOk result (K.told station.new ≡ K.told station.old
         ++ round_lines (name_of bridge.now) (slice_index (ends_of store.old.held))
         (slice_index (ends_of store.new.held)) (length bridge.now.gauges)) }

@@ -1,11 +1,14 @@
-use Rattle.std.proofs.Common.{ℕ, length, refl, sym, ◌∙◌, ap, subst, arith}
+use Rattle.std.proofs.Common.{ℕ, ◌++◌, length, refl, sym, ◌∙◌, ap, subst, arith}
 use Rattle.calibration.specs.declared.setup.Setup.{Setup}
 use Rattle.board.specs.Board.{BoardValue}
 use Rattle.segment_store.specs.Held.{ends_of}
+use Rattle.site_config.specs.Valid.{name_of}
 use Rattle.site_config.specs.recorded.Recorded.{recordings}
 use Rattle.count_command.specs.held_samples.Fronts.{AreFronts, FrontsStand}
 use Rattle.count_command.specs.held_samples.Kept.{recorded, beginning}
 use Rattle.count_command.proofs.on_held_samples.Going.{going_starts, going_then, stored_beginning, on_both, on_any}
+use Rattle.count_command.specs.held_samples.Pace.{window_of}
+use Rattle.count_command.proofs.on_held_samples.Pace.{paced_starts, paced_then, paced_where, no_done}
 use Rattle.count_command.specs.held_rounds.Beside.{Leads}
 use Rattle.count_command.specs.held_rounds.Telling.{HasTold}
 use Rattle.count_command.proofs.on_held_rounds.Ahead.{IsAhead, ahead_first, ahead_on, ahead_last}
@@ -51,6 +54,8 @@ loop-init g c =
                 (g.met.K.Station.only_now tells c.args.station.now),
             stored,
           );
+      paced = λ tells bodies on. paced_starts (name_of c.args.bridge.now) (window_of c.args.bridge.now) _ bodies _ _ _ _ _ _ on
+          (g.met.K.Station.only_now tells c.args.station.now);
       told = λ tells reads files lanes n told was whole.
           let r = recordings c.args.bridge.now files in
           let first = g.K.Station.told c.args.station.now in
@@ -105,13 +110,27 @@ returns-then-have_ended-clause-told g c = λ tells reads files lanes n told had.
 pub returns-in_err-round_beside-clause-going : goal.returns-in_err-round_beside-clause-going
 returns-in_err-round_beside-clause-going g c = λ tells reads files lanes stored.
     let was = c.loop.invariant.going tells reads files lanes stored in
-    going_then was.0 (c.round_beside.ensures.going tells files (recorded (recordings c.args.bridge.now files)) was.1
+    going_then was.0 (c.round_beside.ensures.stores.going tells files (recorded (recordings c.args.bridge.now files)) was.1
     (c.loop.invariant.read reads files lanes).1)
 
 pub returns-in_err-round_beside-clause-appends : goal.returns-in_err-round_beside-clause-appends
 returns-in_err-round_beside-clause-appends g c = λ tells files front on.
     let was = c.loop.invariant.appends tells files front on in
-    going_then was.0 (c.round_beside.ensures.going tells files (beginning c.args.store.now.head front) was.1 (λ h d lt is some. tt))
+    going_then was.0 (c.round_beside.ensures.stores.going tells files (beginning c.args.store.now.head front) was.1 (λ h d lt is some. tt))
+
+pub returns-then-have_ended-clause-paced : goal.returns-then-have_ended-clause-paced
+returns-then-have_ended-clause-paced g c = λ tells bodies on.
+    let was = c.loop.invariant in
+    let so_far = was.paced tells bodies on in
+    paced_then so_far tt (c.store_board.ensures.paced tells (was.board.1 ∙ was.block) (bodies ++ (so_far.level tt).more)
+    (so_far.level tt).on)
+
+pub returns-in_err-round_beside-clause-paced : goal.returns-in_err-round_beside-clause-paced
+returns-in_err-round_beside-clause-paced g c = λ tells bodies on.
+    let was = c.loop.invariant in
+    let so_far = was.paced tells bodies on in
+    paced_where (λ done. absurd (no_done c.from_residual.result c.from_residual.ensures.0 done)) (paced_then so_far tt
+    (c.round_beside.ensures.stores.paced tells (was.board.1 ∙ was.block) (bodies ++ (so_far.level tt).more) (so_far.level tt).on))
 
 pub returns-in_err-round_beside-clause-sources : goal.returns-in_err-round_beside-clause-sources
 returns-in_err-round_beside-clause-sources g c =
@@ -133,9 +152,9 @@ loop-preserved g c =
     let ends = ends_of c.loop.store.held in
     let ends2 = ends_of c.round_beside.new.store.held in
     record {
-      usable = now.usable;
-      head = c.round_beside.ensures.head ∙ was.head;
-      gauges = (c.round_beside.ensures.gauges ∙ was.gauges.0, same.gauges ∙ done.gauges ∙ was.gauges.1, done.long ∙ was.gauges.2);
+      usable = now.stores.usable;
+      head = c.round_beside.ensures.stores.head ∙ was.head;
+      gauges = (c.round_beside.ensures.stores.gauges ∙ was.gauges.0, same.gauges ∙ done.gauges ∙ was.gauges.1, done.long ∙ was.gauges.2);
       grid = same.grid ∙ done.grid ∙ was.grid;
       block = same.block ∙ done.block ∙ was.block;
       board = board_for c.loop.prepared _ _ _ _ done.board done.grid done.block done.gauges same out;
@@ -143,21 +162,27 @@ loop-preserved g c =
       can = ready_after done count was.can;
       sources = sources_after done count was.can;
       faulty = all_faulty_after done count was.can was.faulty;
-      there = now.there;
+      there = now.stores.there;
       read = λ reads files lanes.
           let both = now.stand reads files (was.read reads files lanes).0 in
           (both.0, subst (λ (b : BoardValue). FrontsStand (recordings c.args.bridge.now files) b) (sym out) both.1);
       going = λ tells reads files lanes stored.
           let so_far = was.going tells reads files lanes stored in
           let stand = (was.read reads files lanes).1 in
-          let kept = recorded (recordings c.args.bridge.now files) in
-          (going_then so_far.0 (c.round_beside.ensures.going tells files kept so_far.1 stand), now.stored tells kept so_far.1 stand);
+          let kept = recorded (recordings c.args.bridge.now files) in (
+            going_then so_far.0 (c.round_beside.ensures.stores.going tells files kept so_far.1 stand),
+            now.stores.stored tells kept so_far.1 stand,
+          );
       appends = λ tells files front on.
           let so_far = was.appends tells files front on in
           let kept = beginning c.args.store.now.head front in (
-            going_then so_far.0 (c.round_beside.ensures.going tells files kept so_far.1 (λ h d lt is some. tt)),
-            now.stored tells kept so_far.1 (λ h d lt is some. tt),
+            going_then so_far.0 (c.round_beside.ensures.stores.going tells files kept so_far.1 (λ h d lt is some. tt)),
+            now.stores.stored tells kept so_far.1 (λ h d lt is some. tt),
           );
+      paced = λ tells bodies on.
+          let so_far = was.paced tells bodies on in
+          paced_where (λ done. refl) (paced_then so_far tt (now.stores.paced tells (was.board.1 ∙ was.block)
+          (bodies ++ (so_far.level tt).more) (so_far.level tt).on));
       told = λ tells reads files lanes n told had whole.
           let r = recordings c.args.bridge.now files in
           let before = g.K.Station.told c.loop.station in
@@ -165,7 +190,7 @@ loop-preserved g c =
           let many = sym (was.gauges.2 ∙ c.requires.gauges.2) in
           let so_far = was.told tells reads files lanes n told had (whole_before done count was.can whole) in
           subst (λ (b : ℕ). IsAhead b r n told after ends2 c.round_beside.new.lanes) was.block
-          (ahead_on done count r many reads (was.read reads files lanes).0 n told before after ends ends2 now.held whole (now.told tells)
-          (subst (λ (b : ℕ). IsAhead b r n told before ends c.loop.lanes) (sym was.block) so_far));
-      later = omega (arith, was.later, c.round_beside.ensures.cause.later);
+          (ahead_on done count r many reads (was.read reads files lanes).0 n told before after ends ends2 now.held whole
+          (now.stores.lines tells) (subst (λ (b : ℕ). IsAhead b r n told before ends c.loop.lanes) (sym was.block) so_far));
+      later = omega (arith, was.later, c.round_beside.ensures.stores.cause.later);
     }

@@ -5,10 +5,12 @@ use Rattle.outside.specs.station.Station.{Lines}
 use Rattle.segment_store.specs.Held.{ends_of}
 use Rattle.segment.specs.segment_rules.Parts.{PartsValue}
 use Rattle.segment_store.specs.Moments.{IsOn, IsThere}
+use Rattle.site_config.specs.Valid.{name_of}
 use Rattle.site_config.specs.recorded.Recorded.{recordings}
 use Rattle.count_command.specs.held_samples.Kept.{beginning}
 use Rattle.count_command.specs.held_samples.Going.{HoldsSince, HoldsSinceEntry, IsStored, IsStoredAs}
 use Rattle.count_command.specs.held_samples.Fronts.{FrontsStand}
+use Rattle.count_command.specs.held_samples.Pace.{Paced, window_of}
 use Rattle.site_lanes.specs.Lanes.{AreLanes, AreReady, HasSource, IsFaulty, IsWhole}
 use Rattle.count_command.specs.held_rounds.Beside.{IsBoardFor, Leads}
 use Rattle.count_command.specs.held_rounds.Telling.{HasTold}
@@ -47,6 +49,10 @@ invariant-loop g l =
           (k.moments l.fn.station) (k.told l.fn.station) (k.clock l.station) (k.moments l.station) (k.told l.station) (k.leaves l.station)
           (ends_of l.store.held)
           × IsStoredAs (beginning l.fn.store.head front) l.store (k.seen l.station) (k.leaves l.station);
+      paced : k.tells → (bodies : List PartsValue) → IsOn l.fn.store bodies (k.seen l.fn.station) (k.leaves l.fn.station) →
+          Paced (name_of l.bridge) (window_of l.bridge) l.fn.store.head bodies (k.clock l.fn.station) (k.moments l.fn.station)
+          (k.told l.fn.station) (k.clock l.station) (k.moments l.station) (k.told l.station) (k.seen l.station) (k.leaves l.station) l.store
+          (Unit {0});
       told : k.tells → s.tells → (files : Files) → AreLanes s.tells s.left (recordings l.bridge files) l.fn.lanes →
           (n : List ℕ) (told : Lines) → HasTold l.bridge.block (recordings l.bridge files) n told (k.told l.fn.station) l.fn.lanes →
           All IsWhole l.lanes → IsAhead l.bridge.block (recordings l.bridge files) n told (k.told l.station) (ends_of l.store.held) l.lanes;

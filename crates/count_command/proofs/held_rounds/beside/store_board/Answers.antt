@@ -4,6 +4,7 @@ pub returns : goal.returns
 returns g c = record {
   going = c.store_fronts.ensures.going;
   stored = c.store_fronts.ensures.stored;
+  paced = c.store_fronts.ensures.paced;
   lines = c.store_fronts.ensures.told;
   ends = c.store_fronts.ensures.held;
   there = c.store_fronts.ensures.there;

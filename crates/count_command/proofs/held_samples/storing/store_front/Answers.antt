@@ -1,5 +1,5 @@
 use Rattle.std.proofs.Common.{◌≡◌, ◌<◌, ◌^◌, ℕ, List, ap, sym, ◌∙◌, subst, arith}
-use Rattle.outside.specs.station.Station.{Image}
+use Rattle.outside.specs.station.Station.{Image, Tells}
 use Rattle.segment.specs.declared.segment_rules.name.Name.{Name}
 use Rattle.segment.specs.Parts.{parts_of}
 use Rattle.segment_store.specs.Held.{ends_of}
@@ -8,6 +8,7 @@ use Rattle.count_command.specs.held_samples.Going.{HoldsSince}
 use Rattle.count_command.proofs.on_held_samples.Going.{put_going, put_going_on, put_stored, line_going, stored_still, on_still, on_any, told_either, end_held}
 use Rattle.count_command.proofs.on_held_samples.Fronts.{meets_more}
 use Rattle.count_command.proofs.on_held_samples.HeldLines.{held_below}
+use Rattle.count_command.proofs.on_held_samples.Pace.{put_pace, told_pace}
 use Rattle.count_command.proofs.held_samples.storing.store_front.Goals as goal
 
 pub returns-in-Err-clause-going : goal.returns-in-Err-clause-going
@@ -67,3 +68,33 @@ returns-in-Ok-clause-there g c = λ tells.
       on_still _ _ (k.seen c.put.new.station) _ (k.leaves c.put.new.station) _ done.1 (c.tell.ensures.seen tells)
           (c.tell.ensures.crash tells).none_new,
     )
+
+pub returns-in-Err-clause-paced : goal.returns-in-Err-clause-paced
+returns-in-Err-clause-paced g c = λ tells names is window short bodies on.
+    let k = g.K.Station in
+    let moment = c.put.ensures.any_moment tells bodies c.requires.usable on in
+    let counts : (f : Image) → k.leaves c.put.new.station f →
+    k.moments c.put.new.station (k.clock c.args.station.now) (k.told c.put.new.station) f = λ f has. g.met.K.Station.counts_now tells
+    c.put.new.station (k.clock c.args.station.now) f moment.later has in
+    record {
+      run = put_pace names window c.args.store.now bodies (parts_of c.args.front.now) short _ _ _ _ _ _ _ moment (c.put.ensures.told tells)
+          counts;
+      level = λ done. absurd cc;
+    }
+
+pub returns-in-Ok-clause-paced : goal.returns-in-Ok-clause-paced
+returns-in-Ok-clause-paced g c = λ tells names is window short bodies on.
+    let k = g.K.Station in
+    let front = c.args.front.now in
+    let moment = c.put.ensures.any_moment tells bodies c.requires.usable on in
+    let counts : (f : Image) → k.leaves c.put.new.station f →
+    k.moments c.put.new.station (k.clock c.args.station.now) (k.told c.put.new.station) f = λ f has. g.met.K.Station.counts_now tells
+    c.put.new.station (k.clock c.args.station.now) f moment.later has in
+    let done = c.in-Ok.ensures.stored tells bodies c.requires.usable on in
+    let to : c.name-to.result.to ≡ front.to = ap (λ (x : Name). x.to) c.name-to.ensures.value in
+    let line : c.held.result.now ≡ held_line (names front.gauge) front.to = c.held.ensures ∙ ap (held_line c.args.name.now) to
+    ∙ ap (λ (n : List ℕ). held_line n front.to) (sym is) in
+    told_pace names window c.args.store.now bodies (parts_of front) short _ _ _ _ _ _ _ moment (c.put.ensures.told tells) counts
+    c.put.new.self (k.seen c.put.new.station) _ _ _ _ _ c.put.ensures.head done.1 (c.tell.ensures.time tells) (c.tell.ensures.seen tells)
+    (c.tell.ensures.crash tells).none_new c.tell.result
+    (subst (λ (l : List ℕ). Tells (k.told c.put.new.station) l (k.told c.tell.new.self) c.tell.result) line (c.tell.ensures.told tells))

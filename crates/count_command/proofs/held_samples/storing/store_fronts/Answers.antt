@@ -1,4 +1,5 @@
-use Rattle.std.proofs.Common.{◌≡◌, ◌≤◌, ◌<◌, ℕ, List, length, slice_index, refl, sym, ◌∙◌, ap, subst, arith}
+use Rattle.std.proofs.Common.{◌≡◌, ◌≤◌, ◌<◌, ◌+◌, ◌*◌, ◌++◌, ℕ, List, length, slice_index, refl, sym, ◌∙◌, ap, subst, arith}
+use Rattle.board.specs.declared.flow.TheConstants.{BLOCKS_PER_WINDOW}
 use Rattle.calibration.specs.declared.setup.Setup.{Setup}
 use Rattle.store_bytes.specs.store_head.Head.{HeadValue}
 use Rattle.segment_store.specs.Held.{ends_of}
@@ -7,6 +8,8 @@ use Rattle.site_config.specs.Valid.{name_of}
 use Rattle.site_config.proofs.Named.{name_is, short_name}
 use Rattle.site_config.specs.recorded.Recorded.{recordings}
 use Rattle.count_command.proofs.on_held_samples.Going.{going_starts, going_then, same_lines, round_more}
+use Rattle.count_command.specs.held_samples.Pace.{window_of}
+use Rattle.count_command.proofs.on_held_samples.Pace.{paced_starts, paced_then, paced_where, no_done}
 use Rattle.count_command.proofs.on_held_samples.Fronts.{are_names, held_before, told_named, not_same, not_same_after}
 use Rattle.count_command.proofs.held_samples.storing.store_fronts.Goals as goal
 
@@ -19,6 +22,8 @@ loop-gauge-init g c = record {
   going = λ tells files kept stored stand. going_starts (recordings c.args.bridge.now files) _ _ _ _ _ _ stored
       (g.met.K.Station.only_now tells c.args.station.now);
   stored = λ tells kept stored stand. stored;
+  paced = λ tells same bodies on. paced_starts (name_of c.args.bridge.now) (window_of c.args.bridge.now) _ bodies _ _ _ _ _ _ on
+      (g.met.K.Station.only_now tells c.args.station.now);
   told = λ tells. same_lines _;
   before = λ to ends h lt. absurd (omega (arith, lt));
   after = λ h le. refl;
@@ -57,9 +62,22 @@ returns-in_err-store_gauge-clause-going g c = λ tells files kept stored stand.
     let known : c.loop-gauge.gauge < length c.args.bridge.now.gauges = omega (arith, ap length c.as_slice-gauge-end.ensures) in
     let name = ap (name_of c.args.bridge.now) front.gauge ∙ name_is c.args.bridge.now c.loop-gauge.gauge _ _ _ known c.as_slice.ensures
     c.as_str-name.ensures in
-    going_then (was.going tells files kept stored stand) (c.store_gauge.ensures.going tells (recordings c.args.bridge.now files) (are_names c.args.bridge.now c.requires.bridge)
+    going_then (was.going tells files kept stored stand) (c.store_gauge.ensures.going tells (recordings c.args.bridge.now files)
+    (are_names c.args.bridge.now c.requires.bridge)
     (subst (λ (n : ℕ). n < length c.args.bridge.now.gauges) (sym front.gauge) known) name kept
     (was.stored tells kept stored stand) (stand c.loop-gauge.gauge c.front.result.now known c.front.ensures))
+
+pub returns-in_err-store_gauge-clause-paced : goal.returns-in_err-store_gauge-clause-paced
+returns-in_err-store_gauge-clause-paced g c = λ tells same bodies on.
+    let was = c.loop-gauge.invariant.paced tells same bodies on in
+    let known : c.loop-gauge.gauge < length c.args.bridge.now.gauges = omega (arith, ap length c.as_slice-gauge-end.ensures) in
+    let front = c.requires.fronts c.loop-gauge.gauge c.front.result.now known c.front.ensures in
+    let name = ap (name_of c.args.bridge.now) front.gauge ∙ name_is c.args.bridge.now c.loop-gauge.gauge _ _ _ known c.as_slice.ensures
+    c.as_str-name.ensures in
+    let short = subst (λ (b : ℕ). c.front.result.now.to ≤ c.front.result.now.from + BLOCKS_PER_WINDOW * b) same front.short in
+    paced_where (λ done. absurd (no_done c.from_residual.result c.from_residual.ensures.0 done)) (paced_then was tt
+    (c.store_gauge.ensures.paced tells (name_of c.args.bridge.now) name (window_of c.args.bridge.now) short
+    (bodies ++ (was.level tt).more) (was.level tt).on))
 
 pub loop-gauge-preserved : goal.loop-gauge-preserved
 loop-gauge-preserved g c =
@@ -81,6 +99,12 @@ loop-gauge-preserved g c =
       stored = λ tells kept stored stand.
           c.in_ok-store_gauge.ensures.stored tells kept (c.loop-gauge.invariant.stored tells kept stored stand)
           (stand c.loop-gauge.gauge c.front.result.now known c.front.ensures);
+      paced = λ tells same bodies on.
+          let was = c.loop-gauge.invariant.paced tells same bodies on in
+          let short = subst (λ (b : ℕ). c.front.result.now.to ≤ c.front.result.now.from + BLOCKS_PER_WINDOW * b) same front.short in
+          paced_where (λ done. refl) (paced_then was tt (c.in_ok-store_gauge.ensures.paced tells (name_of c.args.bridge.now)
+          (ap (name_of c.args.bridge.now) front.gauge ∙ name) (window_of c.args.bridge.now) short (bodies ++ (was.level tt).more)
+          (was.level tt).on));
       told = λ tells. round_more (name_of c.args.bridge.now) (slice_index (ends_of c.args.store.now.held))
           (slice_index (ends_of c.loop-gauge.store.held)) (slice_index (ends_of c.store_gauge.new.store.held)) c.loop-gauge.gauge
           c.front.result.now.from c.front.result.now.to _ _ _ (c.loop-gauge.invariant.told tells)
@@ -102,3 +126,6 @@ returns-clause-going g c = λ tells files kept stored stand. c.loop-gauge.invari
 pub returns-clause-held : goal.returns-clause-held
 returns-clause-held g c = λ to ends h lt. c.loop-gauge.invariant.before to ends h
     (omega (arith, lt, c.loop-gauge-test.false, ap length c.as_slice-gauge-end.ensures))
+
+pub returns-clause-paced : goal.returns-clause-paced
+returns-clause-paced g c = λ tells same bodies on. paced_where (λ done. tt) (c.loop-gauge.invariant.paced tells same bodies on)

@@ -1,13 +1,15 @@
-use Rattle.std.proofs.Common.{◌≡◌, ◌≤◌, ◌<◌, ◌++◌, ℕ, false, length, slice_index}
+use Rattle.std.proofs.Common.{◌≡◌, ◌≤◌, ◌<◌, ◌++◌, ℕ, List, false, length, slice_index}
 use Rattle.outside.specs.Site.{Files}
 use Rattle.segment_store.specs.Held.{ends_of}
-use Rattle.segment_store.specs.Moments.{IsThere}
+use Rattle.segment.specs.segment_rules.Parts.{PartsValue}
+use Rattle.segment_store.specs.Moments.{IsOn, IsThere}
 use Rattle.site_config.specs.Valid.{name_of}
 use Rattle.site_config.specs.recorded.Recorded.{recordings}
 use Rattle.count_command.specs.held_samples.Told.{round_lines}
 use Rattle.count_command.specs.held_samples.Kept.{Kept}
 use Rattle.count_command.specs.held_samples.Going.{HoldsSince, IsStoredAs}
 use Rattle.count_command.specs.held_samples.Fronts.{FrontsFollow, FrontsEnd}
+use Rattle.count_command.specs.held_samples.Pace.{Paced, window_of}
 use Rattle.count_command.proofs.held_samples.storing.store_fronts.Given as goal
 
 -- the gauges before this one are held up to their fronts' ends, the others as at entry
@@ -27,6 +29,11 @@ invariant-loop-gauge g l =
       stored : k.tells → (kept : Kept) → IsStoredAs kept l.fn.store (k.seen l.fn.station) (k.leaves l.fn.station) →
           FrontsFollow kept (length l.bridge.gauges) l.board →
           IsStoredAs kept l.store (k.seen l.station) (k.leaves l.station);
+      paced : k.tells → l.board.block ≡ l.bridge.block → (bodies : List PartsValue) →
+          IsOn l.fn.store bodies (k.seen l.fn.station) (k.leaves l.fn.station) →
+          Paced (name_of l.bridge) (window_of l.bridge) l.fn.store.head bodies (k.clock l.fn.station) (k.moments l.fn.station)
+          (k.told l.fn.station) (k.clock l.station) (k.moments l.station) (k.told l.station) (k.seen l.station) (k.leaves l.station) l.store
+          (Unit {0});
       told : k.tells → k.told l.station ≡ k.told l.fn.station ++ round_lines (name_of l.bridge) (slice_index (ends_of l.fn.store.held))
           (slice_index (ends_of l.store.held)) l.gauge;
       before : (to : ℕ → ℕ) → FrontsEnd to l.board (length l.bridge.gauges) → (h : ℕ) → h < l.gauge →

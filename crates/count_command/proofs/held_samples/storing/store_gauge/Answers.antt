@@ -2,6 +2,7 @@ use Rattle.std.proofs.Common.{◌<◌, ap, arith}
 use Rattle.std.proofs.lemmas.Bool.Decides.{nat_tests}
 use Rattle.segment.specs.declared.segment_rules.name.Name.{Name}
 use Rattle.count_command.proofs.on_held_samples.Going.{going_starts}
+use Rattle.count_command.proofs.on_held_samples.Pace.{paced_starts}
 use Rattle.count_command.proofs.held_samples.storing.store_gauge.Goals as goal
 
 pub returns-then-span-clause-going : goal.returns-then-span-clause-going
@@ -20,3 +21,7 @@ returns-clause-going g c = λ tells r named known is kept stored follows.
       ap (λ (x : Name). x.to) c.name-span.ensures.value,
     ) in
     c.store_front.ensures.going tells r named known is kept stored (follows some)
+
+pub returns-then-span-clause-paced : goal.returns-then-span-clause-paced
+returns-then-span-clause-paced g c = λ tells names is window short bodies on.
+    paced_starts names window _ bodies _ _ _ _ _ _ on (g.met.K.Station.only_now tells c.args.station.now)
