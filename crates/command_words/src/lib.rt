@@ -4,7 +4,7 @@
 //! `specs/Line.antt` has the meaning. The words behind the first are read by `clap`, as one simple
 //! command without subcommands, and the definition names `clap`'s own: its rules, the fault of the
 //! words, and what a getter finds. A request for help is a refusal. Numbers are those of Rust's
-//! `parse`, so `+2` and `02` are 2; an id is read by `hex`.
+//! `parse`, so `+2` and `02` are 2; an id is read by `hex`, an instant by `jiff`.
 //!
 //! A command of its own is a builder, a reader and a line of `read_words`.
 //!
@@ -13,6 +13,7 @@
 
 mod command;
 mod id;
+mod instant;
 mod number;
 mod options;
 mod parse;

@@ -1,9 +1,10 @@
 ghost use Rattle.std.specs.Prelude.{◌≡◌, ◌≤◌, IfOk, IfSome, map, option_map, string_bytes};
-ghost use Rattle.command_words.specs.Line.{Init, Report, Audit, Repeat, Sheet, init_app, report_app, audit_app, repeat_app, sheet_app, command_of, table_line, line_without_arguments, count_line, demo_line, column_line, number_at, id_at, count_with, demo_with, column_with};
-ghost use Rattle.command_words.specs.Commands.{IsWithinRanges, meaning_of};
+ghost use Rattle.command_words.specs.Line.{Init, Report, Audit, Repeat, Sheet, Compact, init_app, report_app, audit_app, repeat_app, sheet_app, compact_app, command_of, table_line, line_without_arguments, count_line, demo_line, column_line, window_line, number_at, id_at, instant_at, count_with, demo_with, column_with, window_with};
+ghost use Rattle.command_words.specs.Commands.{IsWithinRanges, IsInstant, meaning_of};
 
 use crate::command::{MAX_DEMO_SAMPLES, MAX_PERIOD_US, MAX_SEED, MAX_WORKERS};
 use crate::id::id_in;
+use crate::instant::instant_in;
 use crate::number::number_in;
 use crate::parse::read_by;
 use crate::{Command, options};
@@ -44,6 +45,12 @@ pub fn read_words<'a>(alloc: Global, words: &'a [String]) -> Result<Option<Comma
     }
     if first.as_str() == "sheet" {
         return read_sheet(alloc, words);
+    }
+    if first.as_str() == "window" {
+        return read_window(alloc, words);
+    }
+    if first.as_str() == "compact" {
+        return read_compact(alloc, words);
     }
     Ok(None)
 }
@@ -114,6 +121,17 @@ fn read_sheet<'a>(alloc: Global, words: &'a [String]) -> Result<Option<Command<'
     match read_by(options::sheet_app(alloc), words)? {
         None => Ok(None),
         Some(_) => Ok(Some(Command::Sheet)),
+    }
+}
+
+fn read_compact<'a>(alloc: Global, words: &'a [String]) -> Result<Option<Command<'a>>, AllocError>
+    ensures line { IfOk result (λ read. meaning_of read ≡
+        line_without_arguments compact_app Compact (map string_bytes words.entry.now)) }
+    ensures ranges { IfOk result (λ read. IfSome read IsWithinRanges) }
+{
+    match read_by(options::compact_app(alloc), words)? {
+        None => Ok(None),
+        Some(_) => Ok(Some(Command::Compact)),
     }
 }
 
@@ -242,5 +260,47 @@ fn id_of(text: Option<&str>) -> Option<[u8; 16]>
     match text {
         None => None,
         Some(text) => id_in(text),
+    }
+}
+
+fn read_window<'a>(alloc: Global, words: &'a [String]) -> Result<Option<Command<'a>>, AllocError>
+    ensures line { IfOk result (λ read. meaning_of read ≡
+        window_line (map string_bytes words.entry.now)) }
+    ensures ranges { IfOk result (λ read. IfSome read IsWithinRanges) }
+{
+    let Some(matches) = read_by(options::window_app(alloc)?, words)? else {
+        return Ok(None);
+    };
+    Ok(window_with(
+        matches.get_str("start"),
+        matches.get_str("from"),
+        matches.get_str("to"),
+    ))
+}
+
+// `window` with the texts of its arguments.
+fn window_with<'a>(start: Option<&str>, from: Option<&str>, to: Option<&str>) -> Option<Command<'a>>
+    ensures line { meaning_of result ≡ window_with (option_map (λ s. s.now) start.entry)
+        (option_map (λ s. s.now) from.entry) (option_map (λ s. s.now) to.entry) }
+    ensures ranges { IfSome result IsWithinRanges }
+{
+    let start = instant_of(start)?;
+    let from = instant_of(from)?;
+    let to = instant_of(to)?;
+    if from <= to {
+        Some(Command::Window { start, from, to })
+    } else {
+        None
+    }
+}
+
+// The instant of an argument, where it is given.
+fn instant_of(text: Option<&str>) -> Option<i128>
+    ensures value { result ≡ instant_at (option_map (λ s. s.now) text.entry) }
+    ensures limits { IfSome result IsInstant }
+{
+    match text {
+        None => None,
+        Some(text) => instant_in(text),
     }
 }

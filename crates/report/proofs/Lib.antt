@@ -8,3 +8,4 @@ pub mod SameCounts
 pub mod RangeSums
 pub mod SegmentFigures
 pub mod Repeats
+pub mod WindowFits

@@ -2,5 +2,6 @@ pub mod Printed
 pub mod Figures
 pub mod Lines
 pub mod Texts
+pub mod Window
 pub mod Repeat
 pub mod Page

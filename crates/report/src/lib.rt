@@ -15,9 +15,11 @@ mod lines;
 mod page;
 mod repeat;
 mod table;
+mod window;
 
 pub use detail::detail_text;
 pub use gauge::gauge_text;
 pub use page::Page;
 pub use repeat::repeat_text;
 pub use table::table_text;
+pub use window::window_line;

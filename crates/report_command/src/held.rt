@@ -30,7 +30,7 @@ pub(crate) fn print_held<O: Sink>(
     ensures kind { IsPrinting result }
     ensures write { result ≡ WriteFault → CountRose (O.faults out.old) (O.faults out.new) }
 {
-    match report.print(bridge, store, out) {
+    match report.print(bridge, store.segments(), out) {
         Ok(()) => Status::Done,
         Err(_) => Status::WriteFault,
     }

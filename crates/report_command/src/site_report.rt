@@ -7,5 +7,6 @@
 mod damages;
 mod printing;
 mod whole;
+mod window_printing;
 
 pub use whole::Report;

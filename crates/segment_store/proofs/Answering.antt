@@ -1,10 +1,10 @@
 -- How the answers of resuming are put together.
 use Rattle.std.proofs.Common.{◌≡◌, ℕ, ◌+◌, ◌<◌, ◌≤◌, List, [], ◌∷◌, ◌++◌, length, take, drop, Option, Some, None, Result, Ok, Err, sym, ap, subst, ◌∙◌, arith, append_assoc, length-append, take-append-drop}
-use Rattle.std.specs.Prelude.{IfOk, OnOk}
+use Rattle.std.specs.Prelude.{IfOk, IfErr, OnOk}
 use Rattle.std.specs.Option.{option_or}
 use Rattle.std.proofs.lemmas.List.{length-take}
 use Rattle.outside.specs.Fault.{CountRose}
-use Rattle.outside.specs.station.Station.{Image, Only}
+use Rattle.outside.specs.station.Station.{Image}
 use Rattle.calibration.specs.Gain.{GainValue}
 use Rattle.segment.specs.segment_rules.Parts.{PartsValue}
 use Rattle.segment_store.specs.declared.damage.Stop.{Stop}
@@ -96,34 +96,38 @@ never_err X Y s image DiskFault e n = tt
 never_err X Y s image OutOfMemory e n = tt
 
 -- what stands there, from the head and the walk
-pub on_station : (h : HeadValue) (image : Image) (s : StoreValue) (bodies : List PartsValue) (leaves : Image → Type 0) → s.head ≡ h
-    → IsHead h
+pub reads_found : (h : HeadValue) (image : Image) (place : ℕ) (ends : List ℕ) (bodies : List PartsValue) → IsHead h
     → start_of h.setup < length image → take (start_of h.setup) image ≡ head_of h
-    → IsFound h.layout h.setup image (start_of h.setup) (nothing_held h.setup) s.place (ends_of s.held) bodies
-    → AreHeld h.setup.grid bodies s.held → s.count ≡ length bodies → Only image leaves → IsOn s bodies image leaves
-on_station h image s bodies leaves same is lt head f held count only =
+    → IsFound h.layout h.setup image (start_of h.setup) (nothing_held h.setup) place ends bodies
+    → Reads h bodies ends image × (place ≡ length (head_of h ++ open_bodies h.layout bodies))
+reads_found h image place ends bodies is lt head f =
     let start = start_of h.setup in
     let whole : image ≡ (head_of h ++ open_bodies h.layout bodies) ++ f.gate ∷ f.rest =
     sym (take-append-drop start image) ∙ ap (λ (l : List ℕ). l ++ drop start image) head ∙ ap (λ (l : List ℕ). head_of h ++ l) f.split
     ∙ sym (append_assoc (head_of h) (open_bodies h.layout bodies) (f.gate ∷ f.rest)) in
-    let long : length (head_of h) ≡ start = omega (arith, ap length head, length-take start image, lt) in
-    let place : s.place ≡ length (head_of h ++ open_bodies h.layout bodies) =
-    omega (arith, f.place_is, long, length-append (head_of h) (open_bodies h.layout bodies)) in
-    let reads : Reads h bodies (ends_of s.held) image = record {
-      is_head = is;
-      gate = f.gate;
-      rest = f.rest;
-      whole = whole;
-      closed = f.closed;
-      tiles = f.tiles;
-    } in
-    record {
-      reads = subst (λ (v : HeadValue). Reads v bodies (ends_of s.held) image) (sym same) reads;
-      held = subst (λ (v : HeadValue). AreHeld v.setup.grid bodies s.held) (sym same) held;
-      count_is = count;
-      place_is = subst (λ (v : HeadValue). s.place ≡ length (head_of v ++ open_bodies v.layout bodies)) (sym same) place;
-      durable = only;
-    }
+    let long : length (head_of h) ≡ start = omega (arith, ap length head, length-take start image, lt) in (
+      record {
+        is_head = is;
+        gate = f.gate;
+        rest = f.rest;
+        whole = whole;
+        closed = f.closed;
+        tiles = f.tiles;
+      },
+      omega (arith, f.place_is, long, length-append (head_of h) (open_bodies h.layout bodies)),
+    )
+
+pub if_ok_any : {X E : Type 0} (P : Type 0) (r : Result X E) → P → IfOk r (λ x. P)
+if_ok_any P (Ok x) p = p
+if_ok_any P (Err e) p = tt
+
+pub if_err_any : {X E : Type 0} (P : Type 0) (r : Result X E) → P → IfErr r (λ e. P)
+if_err_any P (Ok x) p = tt
+if_err_any P (Err e) p = p
+
+pub if_err_more : {X E : Type 0} (P Q : Type 0) (r : Result X E) → (P → Q) → IfErr r (λ e. P) → IfErr r (λ e. Q)
+if_err_more P Q (Ok x) go p = tt
+if_err_more P Q (Err e) go p = go p
 
 pub if_ok3 : {X E : Type 0} (P Q R S : X → Type 0) (r : Result X E) → ((x : X) → P x → Q x → R x → S x) → IfOk r P → IfOk r Q → IfOk r R
     → IfOk r S

@@ -1,4 +1,6 @@
 -- A held segment has what the bodies of its gauge keep.
+--   keeps_more  a body more
+--   halves_by   what that says of a pair
 --   keeps_by    by the bodies of a gauge, joined
 --   held_keep   of a store on its station
 use Rattle.std.proofs.Common.{◌≡◌, ◌≢◌, ℕ, ◌+◌, ◌*◌, ◌<◌, ◌==◌, List, [], ◌∷◌, ◌++◌, length, get_or, refl, sym, ap, subst, ◌∙◌, arith, append_assoc, append-nil}
@@ -18,16 +20,15 @@ use Rattle.segment.specs.Segment.{SegmentValue, IsSegment}
 use Rattle.segment.specs.Parts.{parts_of}
 use Rattle.segment.specs.Figures.{halves_of}
 use Rattle.segment_store.specs.Held.{IsHeld, JoinsPart, none, other, joined}
-use Rattle.segment_store.specs.Keeps.{Keeps, bodies_of, last_end}
+use Rattle.segment_store.specs.Keeps.{Keeps, bodies_of, last_end, kept_halves}
 use Rattle.segment_store.specs.Moments.{IsOn, StoreValue}
 
 -- in a form that can be joined: whatever residue comes behind
-record KeepsBefore (v : SegmentValue) (bodies : List PartsValue) : Type 0 where
-  last : v.to ≡ last_end bodies
-  used : v.used ≡ sum_by (λ b. b.used) bodies
-  missing : v.missing ≡ sum_by (λ b. b.missing) bodies
-  refused : v.refused ≡ sum_by (λ b. b.refused) bodies
-  halves : (q : List ℕ) (lo hi : ℕ) → 2 * count_of v.tally.cells lo hi + three_point (v.reducer.residue ++ q) lo hi
+pub record KeepsBefore (v : SegmentValue) (bodies : List PartsValue) : Type 0 where
+  pub used : v.used ≡ sum_by (λ b. b.used) bodies
+  pub missing : v.missing ≡ sum_by (λ b. b.missing) bodies
+  pub refused : v.refused ≡ sum_by (λ b. b.refused) bodies
+  pub halves : (q : List ℕ) (lo hi : ℕ) → 2 * count_of v.tally.cells lo hi + three_point (v.reducer.residue ++ q) lo hi
       ≡ 2 * sum_by (λ b. count_of b.cells lo hi) bodies + three_point (flat_map (λ b. b.residue) bodies ++ q) lo hi
 
 last_push : (bodies : List PartsValue) (p : PartsValue) → last_end (bodies ++ p ∷ []) ≡ p.name.to
@@ -49,10 +50,9 @@ residues_push bodies p q =
     ∙ ap (λ l. flat_map (λ (b : PartsValue). b.residue) bodies ++ l) (append-nil p.residue))
     ∙ append_assoc (flat_map (λ (b : PartsValue). b.residue) bodies) p.residue q
 
-keeps_more : (u right v : SegmentValue) (bodies : List PartsValue) → KeepsBefore u bodies → JoinsPart u right v →
+pub keeps_more : (u right v : SegmentValue) (bodies : List PartsValue) → KeepsBefore u bodies → JoinsPart u right v →
     KeepsBefore v (bodies ++ parts_of right ∷ [])
 keeps_more u right v bodies k j = record {
-  last = j.end ∙ sym (last_push bodies (parts_of right));
   used = omega (arith, j.readings.0, k.used, sum_by_push (λ (b : PartsValue). b.used) bodies (parts_of right));
   missing = omega (arith, j.readings.1, k.missing, sum_by_push (λ (b : PartsValue). b.missing) bodies (parts_of right));
   refused = omega (arith, j.readings.2, k.refused, sum_by_push (λ (b : PartsValue). b.refused) bodies (parts_of right));
@@ -69,15 +69,15 @@ keeps_more u right v bodies k j = record {
       );
 }
 
-not_of : (p : PartsValue) (g : ℕ) → p.name.gauge ≢ g → bodies_of g (p ∷ []) ≡ []
+pub not_of : (p : PartsValue) (g : ℕ) → p.name.gauge ≢ g → bodies_of g (p ∷ []) ≡ []
 not_of p g n = ap (λ b. if b then p ∷ [] else []) (ne_eqb p.name.gauge g n)
 
-is_of : (p : PartsValue) (g : ℕ) → p.name.gauge ≡ g → bodies_of g (p ∷ []) ≡ p ∷ []
+pub is_of : (p : PartsValue) (g : ℕ) → p.name.gauge ≡ g → bodies_of g (p ∷ []) ≡ p ∷ []
 is_of p g e = ap (λ b. if b then p ∷ [] else []) (eq-eqb p.name.gauge g e)
 
 module _ (grid : GridValue) (g : ℕ) where
   keeps_before : (bodies : List PartsValue) (v : SegmentValue) → IsHeld grid g bodies v → KeepsBefore v (bodies_of g bodies)
-  keeps_before bodies v none = record { last = refl; used = refl; missing = refl; refused = refl; halves = λ q lo hi. refl }
+  keeps_before bodies v none = record { used = refl; missing = refl; refused = refl; halves = λ q lo hi. refl }
   keeps_before bodies v (other {bodies = before} p n h) =
       let same = filter-append (λ (b : PartsValue). b.name.gauge == g) before (p ∷ []) ∙ ap (λ l. bodies_of g before ++ l) (not_of p g n)
       ∙ append-nil (bodies_of g before) in
@@ -86,6 +86,17 @@ module _ (grid : GridValue) (g : ℕ) where
       let more = filter-append (λ (b : PartsValue). b.name.gauge == g) before (parts_of right ∷ []) ∙ ap (λ l. bodies_of g before ++ l)
       (is_of (parts_of right) g gauge) in
       subst (KeepsBefore v) (sym more) (keeps_more u right v (bodies_of g before) (keeps_before before u h) j)
+
+  last_is : (bodies : List PartsValue) (v : SegmentValue) → IsHeld grid g bodies v → v.to ≡ last_end (bodies_of g bodies)
+  last_is bodies v none = refl
+  last_is bodies v (other {bodies = before} p n h) =
+      let same = filter-append (λ (b : PartsValue). b.name.gauge == g) before (p ∷ []) ∙ ap (λ l. bodies_of g before ++ l) (not_of p g n)
+      ∙ append-nil (bodies_of g before) in
+      last_is before v h ∙ ap last_end (sym same)
+  last_is bodies v (joined {bodies = before} {v = u} right gauge over rules h j) =
+      let more = filter-append (λ (b : PartsValue). b.name.gauge == g) before (parts_of right ∷ []) ∙ ap (λ l. bodies_of g before ++ l)
+      (is_of (parts_of right) g gauge) in
+      j.end ∙ sym (ap last_end more ∙ last_push (bodies_of g before) (parts_of right))
 
 -- twice the cycles, and what the residue counts by itself
 halves_kept : (v : SegmentValue) → IsSegment v → (lo hi : ℕ) →
@@ -103,23 +114,27 @@ halves_kept v i lo hi =
       }) lo hi,
     )
 
+pub halves_by : (bodies : List PartsValue) (v : SegmentValue) → KeepsBefore v bodies → IsSegment v → (lo hi : ℕ) →
+    halves_of v lo hi ≡ kept_halves bodies lo hi
+halves_by bodies v k rules lo hi =
+    omega (
+      arith,
+      halves_kept v rules lo hi,
+      k.halves [] lo hi,
+      ap (λ l. three_point l lo hi) (append-nil v.reducer.residue),
+      ap (λ l. three_point l lo hi) (append-nil (flat_map (λ (b : PartsValue). b.residue) bodies)),
+    )
+
 pub keeps_by : (grid : GridValue) (g : ℕ) (bodies : List PartsValue) (v : SegmentValue) → IsHeld grid g bodies v → IsSegment v →
     Keeps v (bodies_of g bodies)
 keeps_by grid g bodies v h rules =
     let k = keeps_before grid g bodies v h in
-    let r = v.reducer.residue in
     record {
-      last = k.last;
+      last = last_is grid g bodies v h;
       used = k.used;
       missing = k.missing;
       refused = k.refused;
-      halves = λ lo hi. omega (
-        arith,
-        halves_kept v rules lo hi,
-        k.halves [] lo hi,
-        ap (λ l. three_point l lo hi) (append-nil r),
-        ap (λ l. three_point l lo hi) (append-nil (flat_map (λ (b : PartsValue). b.residue) (bodies_of g bodies))),
-      );
+      halves = halves_by (bodies_of g bodies) v k rules;
     }
 
 pub held_keep : (s : StoreValue) (bodies : List PartsValue) (seen : Image) (leaves : Image → Type 0) → IsOn s bodies seen leaves

@@ -1,6 +1,6 @@
 -- The steps of a walk, as the loop makes them.
-use Rattle.std.proofs.Common.{◌≡◌, ℕ, ◌+◌, ◌-◌, ◌<◌, false, List, [], ◌∷◌, length, get_or, take, drop, slice_range, ◌∙◌, ap, subst, arith}
-use Rattle.std.specs.Prelude.{Result, Ok, Err, OnOk}
+use Rattle.std.proofs.Common.{◌≡◌, ℕ, ◌+◌, ◌-◌, ◌<◌, true, false, List, [], ◌∷◌, length, get_or, take, drop, slice_range, ◌∙◌, ap, subst, arith}
+use Rattle.std.specs.Prelude.{Result, Ok, Err, OnOk, OnErr}
 use Rattle.std.specs.Result.{is_err}
 use Rattle.std.proofs.lemmas.List.{drop_more}
 use Rattle.outside.specs.station.Station.{Image}
@@ -20,6 +20,10 @@ use Rattle.segment_store.specs.declared.filling.TheConstants.{FRAME_LENGTH}
 pub on_ok : {E : Type 0} (r : Result (Unit {0}) E) (P : Type 0) → is_err r ≡ false → OnOk r P → P
 on_ok (Ok u) P is h = h
 on_ok (Err e) P is h = absurd cc
+
+pub on_err : {E : Type 0} (r : Result (Unit {0}) E) (P : Type 0) → is_err r ≡ true → OnErr r P → P
+on_err (Ok u) P is h = absurd cc
+on_err (Err e) P is h = h
 
 -- the byte of a gate
 pub gate_is : (image image2 : Image) (buf : List ℕ) (at : ℕ) → image2 ≡ image → at < length image → buf ≡ slice_range image2 at (at + 1)

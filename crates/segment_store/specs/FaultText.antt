@@ -3,6 +3,7 @@
 --   resume_text   of a store that was not resumed
 --   init_text     of one that was not made
 --   put_text      of a segment that was not stored
+--   compact_text  of a copy that was not written
 use Rattle.std.specs.Prelude.{ℕ, List, ◌++◌, codes}
 use Rattle.std.specs.Fmt.{decimal}
 use Rattle.segment.specs.Faults.{refusal_text}
@@ -18,6 +19,8 @@ use Rattle.segment_store.specs.declared.fault.InitFault.{InitFault}
 use Rattle.segment_store.specs.declared.fault.InitFault.TheVariants as inits
 use Rattle.segment_store.specs.declared.fault.PutFault.{PutFault}
 use Rattle.segment_store.specs.declared.fault.PutFault.TheVariants as puts
+use Rattle.segment_store.specs.declared.compacting.CompactFault.{CompactFault}
+use Rattle.segment_store.specs.declared.compacting.CompactFault.TheVariants as compacts
 
 -- The digests are not told.
 abbrev pub damage_text : Damage → List ℕ
@@ -48,3 +51,7 @@ abbrev pub put_text : PutFault → List ℕ
 put_text (puts.NotNext to from) = refusal_text (joints.NotNext to from)
 put_text puts.DiskFault = codes "a call of the station failed"
 put_text puts.Shut = codes "an earlier put failed"
+
+abbrev pub compact_text : CompactFault → List ℕ
+compact_text compacts.WriteFault = codes "a put failed"
+compact_text compacts.OutOfMemory = codes "out of memory"

@@ -1,7 +1,7 @@
 -- What a store keeps for its calls.
 --   see_state   a store's parts, as contracts see them
 --   IsKept      the place is near and not before the number of bodies, the buffer has room for a body, each gauge is
---               held, and version 1 has at most 128 classes
+--               held and has a recording's head, and version 1 has at most 128 classes
 use Rattle.std.specs.Prelude.{◌≡◌, ◌≤◌, ◌+◌, List, length, vec_len}
 use Rattle.segment.specs.segment_rules.Parts.{PartsValue}
 use Rattle.store_bytes.specs.segment_bytes.Sizes.{max_body}
@@ -22,5 +22,6 @@ pub record IsKept (s : State) : Type 0 where
   pub count : s.count ≤ s.place
   pub room : FRAME_LENGTH + max_body s.layout s.head.setup.grid.classes ≤ vec_len s.buf
   pub gauges : length s.held ≡ length s.head.setup.gains
+  pub heads : length s.head.heads ≡ length s.head.setup.gains
   pub joined : (bodies : List PartsValue) × AreHeld s.head.setup.grid bodies s.held
   pub narrow : s.layout ≡ One → s.head.setup.grid.classes ≤ MAX_CLASSES_ONE

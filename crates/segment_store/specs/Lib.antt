@@ -1,4 +1,5 @@
 pub mod Beginning
+pub mod Copy
 pub mod FaultText
 pub mod Held
 pub mod Holds
@@ -12,3 +13,5 @@ pub mod Putting
 pub mod Quiet
 pub mod Reading
 pub mod Resuming
+pub mod Visiting
+pub mod Joiner

@@ -1,6 +1,7 @@
 -- An image that reads, from a gate on.
 --   StartsAt     from that place on, open gates with these bodies, then a gate that is closed
 --   IsFound      up to a closed gate
+--   HasPassed    from one gate up to another, open gates with these bodies
 --   NoDamage     no damaged body
 use Rattle.std.specs.Prelude.{◌≡◌, ◌≢◌, ◌≤◌, ℕ, List, ◌∷◌, ◌++◌, length, Result, Ok, Err, ◌+◌, drop}
 use Rattle.outside.specs.station.Station.{Image}
@@ -31,6 +32,12 @@ pub record IsFound (l : Layout) (setup : Setup) (image : Image) (at : ℕ) (ends
   pub closed : gate ≢ 1
   pub tiles : Tiles setup ends bodies last
   pub place_is : place ≡ at + length (open_bodies l bodies)
+
+pub record HasPassed (l : Layout) (setup : Setup) (image : Image) (start : ℕ) (ends : List ℕ) (at : ℕ) (last : List ℕ)
+    (bodies : List PartsValue) : Type 0 where
+  pub split : drop start image ≡ open_bodies l bodies ++ drop at image
+  pub tiles : Tiles setup ends bodies last
+  pub place_is : at ≡ start + length (open_bodies l bodies)
 
 abbrev pub NoDamage : {X : Type 0} → Result X (ℕ × Stop) → Type 0
 NoDamage (Ok x) = Unit {0}

@@ -4,12 +4,10 @@ ghost use Rattle.segment.specs.Parts.{parts_of};
 ghost use Rattle.store_bytes.specs.segment_bytes.Decoding.{IsBodyOf};
 ghost use Rattle.store_bytes.specs.declared.segment_bytes.layout.Layout.TheVariants.{One};
 ghost use Rattle.calibration.specs.Grid.{IsGrid};
-ghost use Rattle.segment_store.specs.Held.{ends_of};
 ghost use Rattle.segment_store.specs.Resuming.{Checks, TellsAs, StopsAs, IsNotDisk};
 ghost use Rattle.store_bytes.specs.declared.segment_bytes.layout.TheConstants.{MAX_CLASSES_ONE};
 
 use crate::damage::{Damage, Stop};
-use crate::held::Held;
 use calibration::Setup;
 use segment::{JoinRefusal, Segment};
 use sha2::{Digest, Sha256};
@@ -46,19 +44,19 @@ pub(crate) fn check(
     alloc: Global,
     layout: Layout,
     setup: &Setup,
-    held: &Held,
+    ends: &[u64],
     bytes: &[u8],
     kept: [u8; 32],
     found: [u8; 32],
 ) -> Result<Segment, Stop>
     requires narrow { layout ≡ One → setup.now.grid.classes ≤ MAX_CLASSES_ONE }
-    requires gauges { length held.now ≡ length setup.now.gains }
+    requires gauges { length ends.now ≡ length setup.now.gains }
     ensures checks { TellsAs parts_of
-        (Checks layout setup.now (ends_of held.now) bytes.now kept found) result }
+        (Checks layout setup.now ends.now bytes.now kept found) result }
     ensures body { IfOk result (λ s. IsBodyOf layout setup.now.grid (parts_of s) bytes.now) }
     ensures over { IfOk result (λ s. s.grid ≡ setup.now.grid) }
-    ensures gauge { IfOk result (λ s. s.gauge < length held.now) }
-    ensures joins { IfOk result (λ s. s.from ≡ slice_index (ends_of held.now) s.gauge) }
+    ensures gauge { IfOk result (λ s. s.gauge < length ends.now) }
+    ensures joins { IfOk result (λ s. s.from ≡ slice_index ends.now s.gauge) }
     ensures some { IfOk result (λ s. s.from < s.to) }
     ensures grid { IsGrid setup.now.grid }
     ensures no_disk { IfErr result IsNotDisk }
@@ -72,13 +70,14 @@ pub(crate) fn check(
         Err(fault) => return Err(stop_of(fault)),
     };
     let name = segment.name();
-    if usize::from(name.gauge) >= held.gauges() {
+    let gauge = usize::from(name.gauge);
+    if gauge >= ends.len() {
         return Err(Stop::Damaged(Damage::Gauge(name.gauge)));
     }
     if name.from >= name.to {
         return Err(Stop::Damaged(Damage::Empty));
     }
-    let to = held.end(name.gauge);
+    let to = ends[gauge];
     if name.from != to {
         let from = name.from;
         return Err(Stop::Damaged(Damage::Join(JoinRefusal::NotNext { to, from })));

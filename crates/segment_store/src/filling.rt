@@ -48,7 +48,7 @@ fn sign(layout: Layout, buf: &mut [u8], segment: &Segment) -> usize
 }
 
 // Writes what stands behind the gate of a body, and the next gate, closed.
-fn fill(layout: Layout, buf: &mut [u8], segment: &Segment) -> usize
+pub(crate) fn fill(layout: Layout, buf: &mut [u8], segment: &Segment) -> usize
     requires narrow { layout ≡ One → segment.now.grid.classes ≤ MAX_CLASSES_ONE }
     requires room { FRAME_LENGTH + max_body layout segment.now.grid.classes ≤ length buf.old }
     ensures filled { take result buf.new ≡

@@ -50,6 +50,12 @@ impl Held {
         &self.segments[usize::from(gauge)]
     }
 
+    pub(crate) fn as_slice(&self) -> &[Segment]
+        ensures { result.now ≡ self.now }
+    {
+        &self.segments
+    }
+
     // Up to where a gauge is held.
     pub(crate) fn end(&self, gauge: u16) -> u64
         requires { gauge < length self.now }

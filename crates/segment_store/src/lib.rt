@@ -14,18 +14,25 @@
 
 mod beginning;
 mod checking;
+mod compacting;
 mod damage;
 mod fault;
 mod filling;
 mod heads;
 mod held;
+mod joining;
+/// Laws over the definitions alone.
+pub mod laws;
 mod opening;
 mod putting;
 mod resuming;
 mod store;
+mod visiting;
 mod writing;
 
 pub use beginning::init;
+pub use compacting::{CompactFault, compact_to};
 pub use damage::Damage;
 pub use fault::{InitFault, PutFault, ResumeFault};
 pub use store::Store;
+pub use visiting::{Visitor, each_body};

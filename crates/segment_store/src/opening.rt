@@ -1,14 +1,15 @@
-ghost use Rattle.std.specs.Prelude.{◌≡◌, ◌<◌, ◌≤◌, ◌+◌, ◌*◌, ℕ, List, length, take, false, Err, IfOk};
+ghost use Rattle.std.specs.Prelude.{◌≡◌, ◌<◌, ◌≤◌, ◌+◌, ◌++◌, ℕ, List, length, map, take, vec_len, Err, IfOk, IfErr};
 ghost use Rattle.outside.specs.Fault.{CountRose};
 ghost use Rattle.segment.specs.segment_rules.Parts.{PartsValue};
 ghost use Rattle.store_bytes.specs.segment_bytes.Sizes.{max_body as longest_body};
 ghost use Rattle.store_bytes.specs.declared.segment_bytes.layout.Layout.TheVariants.{One};
 ghost use Rattle.store_bytes.specs.store_head.Head.{HeadValue, IsHead, see_head, head_of, start_of};
 ghost use Rattle.store_bytes.specs.store_head.HeadFaults.{head_fault, layout_in};
-ghost use Rattle.segment_store.specs.Held.{AreHeld, ends_of};
-ghost use Rattle.segment_store.specs.Image.{Reads, nothing_held};
-ghost use Rattle.segment_store.specs.Keeping.{IsKept, see_state};
-ghost use Rattle.segment_store.specs.Moments.{IsOn};
+ghost use Rattle.outside.specs.station.Station.{Only};
+ghost use Rattle.segment.specs.Parts.{parts_of};
+ghost use Rattle.segment.specs.Segment.{SegmentValue};
+ghost use Rattle.segment_store.specs.Image.{Reads, open_bodies, nothing_held};
+ghost use Rattle.segment_store.specs.Places.{IsNear};
 ghost use Rattle.segment_store.specs.Opening.{
   fault_is,
   IsHeadAnswer,
@@ -17,25 +18,38 @@ ghost use Rattle.segment_store.specs.Opening.{
   IsUnharmed,
 };
 ghost use Rattle.segment_store.specs.Quiet.{IsQuiet};
-ghost use Rattle.segment_store.specs.Reading.{StartsAt, IsFound};
+ghost use Rattle.segment_store.specs.Reading.{StartsAt, IsFound, HasPassed};
+ghost use Rattle.segment_store.specs.Visiting.{HasVisited};
 ghost use Rattle.segment_store.specs.declared.fault.ResumeFault.TheVariants.{DiskFault};
-ghost use Rattle.segment_store.specs.declared.putting.State.{State as StateIs};
+ghost use Rattle.segment_store.specs.declared.opening.Walked.{Walked as WalkedIs};
 ghost use Rattle.calibration.specs.declared.limits.TheConstants.{MAX_GAUGES};
 ghost use Rattle.store_bytes.specs.declared.segment_bytes.layout.TheConstants.{MAX_CLASSES_ONE};
+ghost use Rattle.segment_store.specs.declared.filling.TheConstants.{FRAME_LENGTH};
 
 use crate::damage::Stop;
 use crate::fault::ResumeFault;
 use crate::filling::FRAME_LENGTH;
 use crate::heads::{check_front, read_gauges};
-use crate::held::Held;
-use crate::putting::State;
-use crate::resuming::walk;
+use crate::resuming::{Stretch, walk};
+use crate::visiting::Visitor;
 use calibration::Setup;
 use outside::Failed;
 use outside::station::Station;
 use std::alloc::Global;
 use store_bytes::segment_bytes::{Layout, max_body};
 use store_bytes::store_head::{FRONT_LENGTH, GAUGE_LENGTH, StoreHead};
+
+// What a walk over a store found: its head, where each gauge ends, how many bodies there are and
+// the closed gate's place, with a buffer for a body.
+#[derive(Drop)]
+pub(crate) struct Walked {
+    pub(crate) head: StoreHead,
+    pub(crate) layout: Layout,
+    pub(crate) ends: Vec<u64>,
+    pub(crate) count: u64,
+    pub(crate) place: u64,
+    pub(crate) buf: Vec<u8>,
+}
 
 fn fault_of(index: u64, stop: Stop) -> ResumeFault
     ensures fault { result ≡ fault_is index stop }
@@ -79,33 +93,42 @@ fn read_head<K: Station>(
 }
 
 // Walks over the bodies behind the head.
-fn open_bodies<K: Station>(
+fn walk_bodies<K: Station, V: Visitor>(
     alloc: Global,
     station: &mut K,
     layout: Layout,
     head: StoreHead,
     size: u64,
-) -> Result<State, ResumeFault>
+    visitor: &mut V,
+) -> Result<Walked, ResumeFault>
     requires narrow { layout ≡ One → head.setup.grid.classes ≤ MAX_CLASSES_ONE }
     requires few { length head.setup.gains ≤ MAX_GAUGES }
     requires size { K.tells → size ≡ length (K.seen station.old) }
     requires start { start_of head.setup < size }
     ensures walks { K.tells → WalksAs layout head.setup
         (longest_body layout head.setup.grid.classes) (K.seen station.old)
-        (λ (s : StateIs). (s.place, ends_of s.held)) result }
-    ensures found { IfOk result (λ s. (bodies : List PartsValue)
-        × AreHeld head.setup.grid bodies s.held × (s.count ≡ length bodies) × (K.tells →
-        IsFound layout head.setup (K.seen station.old) (start_of head.setup)
-        (nothing_held head.setup) s.place (ends_of s.held) bodies)) }
+        (λ (x : WalkedIs). (x.place, x.ends.items)) result }
     ensures reads { K.tells → (bodies : List PartsValue) (last : List ℕ) (gate : ℕ)
         (front rest : List ℕ) → StartsAt layout head.setup
         (longest_body layout head.setup.grid.classes) (K.seen station.old)
         (start_of head.setup) (nothing_held head.setup) bodies last gate front rest →
         IsUnharmed result }
-    ensures head { IfOk result (λ s. s.head ≡ head) }
-    ensures layout { IfOk result (λ s. s.layout ≡ layout) }
-    ensures open { IfOk result (λ s. s.shut ≡ false) }
-    ensures kept { IfOk result IsKept }
+    ensures found { IfOk result (λ x. (segments : List SegmentValue) ×
+        HasVisited V.step visitor.old visitor.new head.setup (nothing_held head.setup)
+        segments x.ends.items × (x.count ≡ length segments) × (K.tells →
+        IsFound layout head.setup (K.seen station.old) (start_of head.setup)
+        (nothing_held head.setup) x.place x.ends.items (map parts_of segments))) }
+    ensures passed { IfErr result (λ _. (segments : List SegmentValue) × (last : List ℕ) ×
+        (at : ℕ) × HasVisited V.step visitor.old visitor.new head.setup
+        (nothing_held head.setup) segments last × (K.tells → HasPassed layout head.setup
+        (K.seen station.old) (start_of head.setup) (nothing_held head.setup) at last
+        (map parts_of segments))) }
+    ensures head { IfOk result (λ x. x.head ≡ head) }
+    ensures layout { IfOk result (λ x. x.layout ≡ layout) }
+    ensures near { IfOk result (λ x. IsNear x.place x.ends.items) }
+    ensures count { IfOk result (λ x. x.count ≤ x.place) }
+    ensures room { IfOk result (λ x.
+        FRAME_LENGTH + longest_body layout head.setup.grid.classes ≤ vec_len x.buf) }
     ensures cause { result ≡ Err DiskFault →
         CountRose (K.faults station.old) (K.faults station.new) }
     ensures later { K.faults station.old ≤ K.faults station.new }
@@ -115,7 +138,7 @@ fn open_bodies<K: Station>(
 {
     let gauges = head.setup.gains.as_slice().len();
     let limit = max_body(layout, head.setup.grid.classes());
-    let mut held = Held::new(alloc, &head.setup.grid, gauges as u16)?;
+    let mut ends = vec![in alloc; 0u64; gauges]?;
     let mut buf = vec![in alloc; 0u8; limit + FRAME_LENGTH]?;
     let start = (FRONT_LENGTH + GAUGE_LENGTH * gauges) as u64;
     match walk(
@@ -123,43 +146,55 @@ fn open_bodies<K: Station>(
         station,
         layout,
         &head.setup,
-        size,
+        Stretch { start, size },
         limit,
-        &mut held,
-        start,
+        &mut ends,
+        visitor,
         &mut buf,
     ) {
-        Ok((place, count)) => Ok(State {
+        Ok((place, count)) => Ok(Walked {
             head,
             layout,
-            held,
+            ends,
             count,
             place,
             buf,
-            shut: false,
         }),
         Err((index, stop)) => Err(fault_of(index, stop)),
     }
 }
 
-// Resumes a store.
-pub(crate) fn open<K: Station>(
+// Walks over a store, and hands each body's segment to the visitor.
+pub(crate) fn walk_store<K: Station, V: Visitor>(
     alloc: Global,
     station: &mut K,
     setup: &Setup,
-) -> Result<State, ResumeFault>
+    visitor: &mut V,
+) -> Result<Walked, ResumeFault>
     requires few { length setup.now.gains ≤ MAX_GAUGES }
     ensures answer { K.tells → Resumes setup.now (K.seen station.old)
-        (λ (s : StateIs). (s.place, ends_of s.held)) result }
-    ensures on { K.tells → IfOk result (λ s. (bodies : List PartsValue)
-        × IsOn (see_state s) bodies (K.seen station.new) (K.leaves station.new)) }
+        (λ (x : WalkedIs). (x.place, x.ends.items)) result }
+    ensures visited { IfOk result (λ x. (segments : List SegmentValue) ×
+        HasVisited V.step visitor.old visitor.new setup.now (nothing_held setup.now) segments
+        x.ends.items × (x.count ≡ length segments) × (K.tells →
+        Reads (see_head x.layout x.head) (map parts_of segments) x.ends.items
+        (K.seen station.new) × (x.place ≡ length (head_of (see_head x.layout x.head)
+        ++ open_bodies x.layout (map parts_of segments))))) }
+    ensures begun { IfErr result (λ _. (segments : List SegmentValue) × (last : List ℕ) ×
+        (at : ℕ) × HasVisited V.step visitor.old visitor.new setup.now
+        (nothing_held setup.now) segments last × (K.tells →
+        HasPassed (layout_in (K.seen station.old)) setup.now (K.seen station.old)
+        (start_of setup.now) (nothing_held setup.now) at last (map parts_of segments))) }
+    ensures durable { K.tells → IfOk result (λ _. Only (K.seen station.new) (K.leaves station.new)) }
     ensures unharmed { K.tells → (head : HeadValue) (bodies : List PartsValue) (ends : List ℕ) →
         head.setup ≡ setup.now → Reads head bodies ends (K.seen station.old) →
         IsUnharmed result }
-    ensures setup { IfOk result (λ s. s.head.setup ≡ setup.now) }
-    ensures heads { IfOk result (λ s. length s.head.heads ≡ length setup.now.gains) }
-    ensures kept { IfOk result IsKept }
-    ensures open { IfOk result (λ s. s.shut ≡ false) }
+    ensures setup { IfOk result (λ x. x.head.setup ≡ setup.now) }
+    ensures head { IfOk result (λ x. IsHead (see_head x.layout x.head)) }
+    ensures near { IfOk result (λ x. IsNear x.place x.ends.items) }
+    ensures count { IfOk result (λ x. x.count ≤ x.place) }
+    ensures room { IfOk result (λ x.
+        FRAME_LENGTH + longest_body x.layout setup.now.grid.classes ≤ vec_len x.buf) }
     ensures cause { result ≡ Err DiskFault →
         CountRose (K.faults station.old) (K.faults station.new) }
     ensures later { K.faults station.old ≤ K.faults station.new }
@@ -170,7 +205,7 @@ pub(crate) fn open<K: Station>(
     station.sync()?;
     let size = station.size()?;
     match read_head(alloc, station, setup, size) {
-        Ok((layout, head)) => open_bodies(alloc, station, layout, head, size),
+        Ok((layout, head)) => walk_bodies(alloc, station, layout, head, size, visitor),
         Err(fault) => Err(fault),
     }
 }

@@ -1,12 +1,14 @@
-ghost use Rattle.std.specs.Prelude.{◌≡◌, ◌<◌, ◌≤◌, ◌+◌, ◌^◌, [], List, ℕ, length, slice_index, Err, IfOk, IfErr};
+ghost use Rattle.std.specs.Prelude.{◌≡◌, ◌<◌, ◌≤◌, ◌+◌, ◌^◌, List, ℕ, length, map, slice_index, Err, IfOk, IfErr};
 ghost use Rattle.segment.specs.segment_rules.Parts.{PartsValue};
 ghost use Rattle.segment.specs.Parts.{parts_of};
 ghost use Rattle.outside.specs.Fault.{CountRose};
 ghost use Rattle.store_bytes.specs.declared.segment_bytes.layout.Layout.TheVariants.{One};
-ghost use Rattle.segment_store.specs.Held.{AreHeld, ends_of};
+ghost use Rattle.segment.specs.Segment.{SegmentValue};
+ghost use Rattle.segment_store.specs.Image.{IsNext, ends_after};
 ghost use Rattle.segment_store.specs.Quiet.{IsQuiet};
 ghost use Rattle.segment_store.specs.Resuming.{Finds, TellsAs, Walks, EndsWalkAs, length_at};
-ghost use Rattle.segment_store.specs.Reading.{StartsAt, NoDamage, IsFound};
+ghost use Rattle.segment_store.specs.Reading.{StartsAt, NoDamage, IsFound, HasPassed};
+ghost use Rattle.segment_store.specs.Visiting.{HasVisited};
 ghost use Rattle.segment_store.specs.Places.{IsStep, IsNear};
 ghost use Rattle.segment_store.specs.declared.damage.Stop.TheVariants.{Disk};
 ghost use Rattle.std.specs.Int.{w32, to_be_bytes, from_be_bytes};
@@ -16,7 +18,7 @@ ghost use Rattle.segment_store.specs.declared.filling.TheConstants.{FRAME_LENGTH
 use crate::checking::{check, digest_of};
 use crate::damage::{Damage, Stop};
 use crate::filling::FRAME_LENGTH;
-use crate::held::Held;
+use crate::visiting::Visitor;
 use calibration::Setup;
 use outside::Failed;
 use outside::station::Station;
@@ -42,27 +44,28 @@ fn stored_body<K: Station>(
     setup: &Setup,
     size: u64,
     limit: usize,
-    held: &Held,
+    ends: &[u64],
     at: u64,
     buf: &mut [u8],
 ) -> Result<(Segment, u64), Stop>
     requires narrow { layout ≡ One → setup.now.grid.classes ≤ MAX_CLASSES_ONE }
-    requires gauges { length held.now ≡ length setup.now.gains }
+    requires gauges { length ends.now ≡ length setup.now.gains }
     requires size { K.tells → size ≡ length (K.seen station.old) }
     requires at { at ≤ size }
     requires few { limit < 2 ^ 32 }
     requires room { limit ≤ length buf.old }
     ensures finds { K.tells → TellsAs (λ x. parts_of x.0)
-        (Finds layout setup.now limit (K.seen station.old) (ends_of held.now) at) result }
+        (Finds layout setup.now limit (K.seen station.old) ends.now at) result }
     ensures gate { K.tells → IfOk result (λ x.
         x.1 ≡ at + length_at (K.seen station.old) at + FRAME_LENGTH) }
     ensures ahead { IfOk result (λ x. (at < x.1) × (x.1 < size)) }
     ensures over { IfOk result (λ x. x.0.grid ≡ setup.now.grid) }
-    ensures gauge { IfOk result (λ x. x.0.gauge < length held.now) }
-    ensures joins { IfOk result (λ x. x.0.from ≡ slice_index (ends_of held.now) x.0.gauge) }
+    ensures gauge { IfOk result (λ x. x.0.gauge < length ends.now) }
+    ensures joins { IfOk result (λ x. x.0.from ≡ slice_index ends.now x.0.gauge) }
     ensures cause { result ≡ Err Disk →
         CountRose (K.faults station.old) (K.faults station.new) }
-    ensures step { IfOk result (λ x. IsStep (ends_of held.now) at (parts_of x.0) x.1) }
+    ensures next { IfOk result (λ x. IsNext setup.now ends.now (parts_of x.0)) }
+    ensures step { IfOk result (λ x. IsStep ends.now at (parts_of x.0) x.1) }
     ensures quiet { K.tells → IsQuiet (K.clock station.old) (K.moments station.old)
         (K.clock station.new) (K.moments station.new) (K.told station.old) (K.told station.new)
         (K.seen station.old) (K.seen station.new) (K.leaves station.old) (K.leaves station.new) }
@@ -85,49 +88,10 @@ fn stored_body<K: Station>(
     let mut kept = [0u8; 32];
     station.read_at(at + 5 + len as u64, &mut kept)?;
     let found = digest_of(&field, body);
-    match check(alloc, layout, setup, held, body, kept, found) {
+    match check(alloc, layout, setup, ends, body, kept, found) {
         Ok(segment) => Ok((segment, at + FRAME_LENGTH as u64 + len as u64)),
         Err(stop) => Err(stop),
     }
-}
-
-// The same in a store of the size that it has by now.
-fn body_by_now<K: Station>(
-    alloc: Global,
-    station: &mut K,
-    layout: Layout,
-    setup: &Setup,
-    limit: usize,
-    held: &Held,
-    at: u64,
-    buf: &mut [u8],
-) -> Result<(Segment, u64), Stop>
-    requires narrow { layout ≡ One → setup.now.grid.classes ≤ MAX_CLASSES_ONE }
-    requires gauges { length held.now ≡ length setup.now.gains }
-    requires few { limit < 2 ^ 32 }
-    requires room { limit ≤ length buf.old }
-    ensures finds { K.tells → TellsAs (λ x. parts_of x.0)
-        (Finds layout setup.now limit (K.seen station.old) (ends_of held.now) at) result }
-    ensures gate { K.tells → IfOk result (λ x.
-        x.1 ≡ at + length_at (K.seen station.old) at + FRAME_LENGTH) }
-    ensures ahead { IfOk result (λ x. at < x.1) }
-    ensures within { K.tells → IfOk result (λ x. x.1 < length (K.seen station.old)) }
-    ensures over { IfOk result (λ x. x.0.grid ≡ setup.now.grid) }
-    ensures gauge { IfOk result (λ x. x.0.gauge < length held.now) }
-    ensures joins { IfOk result (λ x. x.0.from ≡ slice_index (ends_of held.now) x.0.gauge) }
-    ensures cause { result ≡ Err Disk →
-        CountRose (K.faults station.old) (K.faults station.new) }
-    ensures step { IfOk result (λ x. IsStep (ends_of held.now) at (parts_of x.0) x.1) }
-    ensures quiet { K.tells → IsQuiet (K.clock station.old) (K.moments station.old)
-        (K.clock station.new) (K.moments station.new) (K.told station.old) (K.told station.new)
-        (K.seen station.old) (K.seen station.new) (K.leaves station.old) (K.leaves station.new) }
-    ensures later { K.faults station.old ≤ K.faults station.new }
-{
-    let size = station.size()?;
-    if size < at {
-        return Err(Stop::Damaged(Damage::Cut { size }));
-    }
-    stored_body(alloc, station, layout, setup, size, limit, held, at, buf)
 }
 
 // The body whose open gate stands there, and the next gate's place. Where the size that was asked at
@@ -140,127 +104,157 @@ fn next_body<K: Station>(
     setup: &Setup,
     size: u64,
     limit: usize,
-    held: &Held,
+    ends: &[u64],
     at: u64,
     buf: &mut [u8],
 ) -> Result<(Segment, u64), Stop>
     requires narrow { layout ≡ One → setup.now.grid.classes ≤ MAX_CLASSES_ONE }
-    requires gauges { length held.now ≡ length setup.now.gains }
+    requires gauges { length ends.now ≡ length setup.now.gains }
     requires size { K.tells → size ≡ length (K.seen station.old) }
     requires few { limit < 2 ^ 32 }
     requires room { limit ≤ length buf.old }
     ensures finds { K.tells → TellsAs (λ x. parts_of x.0)
-        (Finds layout setup.now limit (K.seen station.old) (ends_of held.now) at) result }
+        (Finds layout setup.now limit (K.seen station.old) ends.now at) result }
     ensures gate { K.tells → IfOk result (λ x.
         x.1 ≡ at + length_at (K.seen station.old) at + FRAME_LENGTH) }
     ensures ahead { IfOk result (λ x. at < x.1) }
     ensures within { K.tells → IfOk result (λ x. x.1 < size) }
     ensures over { IfOk result (λ x. x.0.grid ≡ setup.now.grid) }
-    ensures gauge { IfOk result (λ x. x.0.gauge < length held.now) }
-    ensures joins { IfOk result (λ x. x.0.from ≡ slice_index (ends_of held.now) x.0.gauge) }
+    ensures gauge { IfOk result (λ x. x.0.gauge < length ends.now) }
+    ensures joins { IfOk result (λ x. x.0.from ≡ slice_index ends.now x.0.gauge) }
     ensures cause { result ≡ Err Disk →
         CountRose (K.faults station.old) (K.faults station.new) }
-    ensures step { IfOk result (λ x. IsStep (ends_of held.now) at (parts_of x.0) x.1) }
+    ensures next { IfOk result (λ x. IsNext setup.now ends.now (parts_of x.0)) }
+    ensures step { IfOk result (λ x. IsStep ends.now at (parts_of x.0) x.1) }
     ensures quiet { K.tells → IsQuiet (K.clock station.old) (K.moments station.old)
         (K.clock station.new) (K.moments station.new) (K.told station.old) (K.told station.new)
         (K.seen station.old) (K.seen station.new) (K.leaves station.old) (K.leaves station.new) }
     ensures later { K.faults station.old ≤ K.faults station.new }
 {
-    if size < at {
-        return body_by_now(alloc, station, layout, setup, limit, held, at, buf);
-    }
-    match stored_body(alloc, station, layout, setup, size, limit, held, at, buf) {
-        Err(Stop::Damaged(Damage::Cut { .. })) => {
-            body_by_now(alloc, station, layout, setup, limit, held, at, buf)
+    if at <= size {
+        match stored_body(alloc, station, layout, setup, size, limit, ends, at, buf) {
+            Err(Stop::Damaged(Damage::Cut { .. })) => {}
+            found => return found,
         }
-        found => found,
     }
+    let size_now = station.size()?;
+    if size_now < at {
+        return Err(Stop::Damaged(Damage::Cut { size: size_now }));
+    }
+    stored_body(
+        alloc, station, layout, setup, size_now, limit, ends, at, buf,
+    )
 }
 
-// Reads body after body until a gate is closed, and joins each. It tells that gate's place and the
-// number of bodies; a fault comes with the body's number.
-pub(crate) fn walk<K: Station>(
+// Its gauge ends where the segment does.
+fn pass(ends: &mut [u64], segment: &Segment)
+    requires { segment.now.gauge < length ends.old }
+    ensures { ends.new ≡ ends_after ends.old (parts_of segment.now) }
+{
+    let name = segment.name();
+    ends[usize::from(name.gauge)] = name.to;
+}
+
+// Where the first gate of a walk stands, and the size that the store had when the walk began.
+#[derive(Clone, Copy)]
+pub(crate) struct Stretch {
+    pub(crate) start: u64,
+    pub(crate) size: u64,
+}
+
+// Reads body after body until a gate is closed, and hands each segment to the visitor. It tells
+// that gate's place and the number of bodies; a fault comes with the body's number.
+pub(crate) fn walk<K: Station, V: Visitor>(
     alloc: Global,
     station: &mut K,
     layout: Layout,
     setup: &Setup,
-    size: u64,
+    stretch: Stretch,
     limit: usize,
-    held: &mut Held,
-    start: u64,
+    ends: &mut [u64],
+    visitor: &mut V,
     buf: &mut [u8],
 ) -> Result<(u64, u64), (u64, Stop)>
     requires narrow { layout ≡ One → setup.now.grid.classes ≤ MAX_CLASSES_ONE }
-    requires gauges { length held.old ≡ length setup.now.gains }
-    requires empty { AreHeld setup.now.grid [] held.old }
-    requires size { K.tells → size ≡ length (K.seen station.old) }
-    requires start { start < size }
-    requires near { IsNear start (ends_of held.old) }
+    requires gauges { length ends.old ≡ length setup.now.gains }
+    requires size { K.tells → stretch.size ≡ length (K.seen station.old) }
+    requires start { stretch.start < stretch.size }
+    requires near { IsNear stretch.start ends.old }
     requires few { limit < 2 ^ 32 }
     requires room { limit ≤ length buf.old }
     // It ends as the image says, unless memory runs out or the disk fails.
-    ensures walks { K.tells → EndsWalkAs (λ x. (x.0, ends_of held.new))
-        (Walks layout setup.now limit (K.seen station.old) 0 start (ends_of held.old)) result }
+    ensures walks { K.tells → EndsWalkAs (λ x. (x.0, ends.new))
+        (Walks layout setup.now limit (K.seen station.old) 0 stretch.start
+        ends.old) result }
     // Where the image reads as bodies, nothing is damaged.
     ensures reads { K.tells → (bodies : List PartsValue) (last : List ℕ) (gate : ℕ)
-        (front rest : List ℕ) → StartsAt layout setup.now limit (K.seen station.old) start
-        (ends_of held.old) bodies last gate front rest → NoDamage result }
-    // With Ok it found bodies up to a closed gate, which are joined.
-    ensures found { IfOk result (λ x. (bodies : List PartsValue)
-        × AreHeld setup.now.grid bodies held.new × (x.1 ≡ length bodies) × (K.tells →
-        IsFound layout setup.now (K.seen station.old) start (ends_of held.old) x.0
-        (ends_of held.new) bodies)) }
-    ensures near { IfOk result (λ x. IsNear x.0 (ends_of held.new)) }
+        (front rest : List ℕ) → StartsAt layout setup.now limit (K.seen station.old)
+        stretch.start ends.old bodies last gate front rest → NoDamage result }
+    // With Ok the visitor was handed the bodies up to a closed gate.
+    ensures found { IfOk result (λ x. (segments : List SegmentValue) ×
+        HasVisited V.step visitor.old visitor.new setup.now ends.old segments ends.new ×
+        (x.1 ≡ length segments) × (K.tells → IsFound layout setup.now (K.seen station.old)
+        stretch.start ends.old x.0 ends.new (map parts_of segments))) }
+    // Else those in front of another gate.
+    ensures passed { IfErr result (λ _. (segments : List SegmentValue) × (last : List ℕ) ×
+        (at : ℕ) × HasVisited V.step visitor.old visitor.new setup.now ends.old segments last ×
+        (K.tells → HasPassed layout setup.now (K.seen station.old) stretch.start
+        ends.old at last
+        (map parts_of segments))) }
+    ensures near { IfOk result (λ x. IsNear x.0 ends.new) }
     ensures count { IfOk result (λ x. x.1 ≤ x.0) }
     ensures cause { IfErr result (λ e. e.1 ≡ Disk →
         CountRose (K.faults station.old) (K.faults station.new)) }
-    ensures gauges { length held.new ≡ length held.old }
-    ensures room { length buf.new ≡ length buf.old }
     ensures later { K.faults station.old ≤ K.faults station.new }
     ensures quiet { K.tells → IsQuiet (K.clock station.old) (K.moments station.old)
         (K.clock station.new) (K.moments station.new) (K.told station.old) (K.told station.new)
         (K.seen station.old) (K.seen station.new) (K.leaves station.old) (K.leaves station.new) }
 {
-    walk_from(alloc, station, layout, setup, size, limit, held, start, buf)
+    walk_from(
+        alloc, station, layout, setup, stretch, limit, ends, visitor, buf,
+    )
 }
 
-fn walk_from<K: Station>(
+fn walk_from<K: Station, V: Visitor>(
     alloc: Global,
     station: &mut K,
     layout: Layout,
     setup: &Setup,
-    size: u64,
+    stretch: Stretch,
     limit: usize,
-    held: &mut Held,
-    start: u64,
+    ends: &mut [u64],
+    visitor: &mut V,
     buf: &mut [u8],
 ) -> Result<(u64, u64), (u64, Stop)>
     requires narrow { layout ≡ One → setup.now.grid.classes ≤ MAX_CLASSES_ONE }
-    requires gauges { length held.old ≡ length setup.now.gains }
-    requires empty { AreHeld setup.now.grid [] held.old }
-    requires size { K.tells → size ≡ length (K.seen station.old) }
-    requires start { start < size }
-    requires near { IsNear start (ends_of held.old) }
+    requires gauges { length ends.old ≡ length setup.now.gains }
+    requires size { K.tells → stretch.size ≡ length (K.seen station.old) }
+    requires start { stretch.start < stretch.size }
+    requires near { IsNear stretch.start ends.old }
     requires few { limit < 2 ^ 32 }
     requires room { limit ≤ length buf.old }
-    ensures walks { K.tells → EndsWalkAs (λ x. (x.0, ends_of held.new))
-        (Walks layout setup.now limit (K.seen station.old) 0 start (ends_of held.old)) result }
-    ensures found { IfOk result (λ x. (bodies : List PartsValue)
-        × AreHeld setup.now.grid bodies held.new × (x.1 ≡ length bodies) × (K.tells →
-        IsFound layout setup.now (K.seen station.old) start (ends_of held.old) x.0
-        (ends_of held.new) bodies)) }
-    ensures near { IfOk result (λ x. IsNear x.0 (ends_of held.new)) }
+    ensures walks { K.tells → EndsWalkAs (λ x. (x.0, ends.new))
+        (Walks layout setup.now limit (K.seen station.old) 0 stretch.start
+        ends.old) result }
+    ensures found { IfOk result (λ x. (segments : List SegmentValue) ×
+        HasVisited V.step visitor.old visitor.new setup.now ends.old segments ends.new ×
+        (x.1 ≡ length segments) × (K.tells → IsFound layout setup.now (K.seen station.old)
+        stretch.start ends.old x.0 ends.new (map parts_of segments))) }
+    ensures passed { IfErr result (λ _. (segments : List SegmentValue) × (last : List ℕ) ×
+        (at : ℕ) × HasVisited V.step visitor.old visitor.new setup.now ends.old segments last ×
+        (K.tells → HasPassed layout setup.now (K.seen station.old) stretch.start
+        ends.old at last
+        (map parts_of segments))) }
+    ensures near { IfOk result (λ x. IsNear x.0 ends.new) }
     ensures count { IfOk result (λ x. x.1 ≤ x.0) }
     ensures cause { IfErr result (λ e. e.1 ≡ Disk →
         CountRose (K.faults station.old) (K.faults station.new)) }
-    ensures gauges { length held.new ≡ length held.old }
-    ensures room { length buf.new ≡ length buf.old }
     ensures later { K.faults station.old ≤ K.faults station.new }
     ensures quiet { K.tells → IsQuiet (K.clock station.old) (K.moments station.old)
         (K.clock station.new) (K.moments station.new) (K.told station.old) (K.told station.new)
         (K.seen station.old) (K.seen station.new) (K.leaves station.old) (K.leaves station.new) }
 {
-    let mut at = start;
+    let mut at = stretch.start;
     let mut index = 0u64;
     'bodies: loop {
         let mut gate = [0u8; 1];
@@ -270,9 +264,22 @@ fn walk_from<K: Station>(
         if gate[0] != 1 {
             return Ok((at, index));
         }
-        match next_body(alloc, station, layout, setup, size, limit, held, at, buf) {
+        match next_body(
+            alloc,
+            station,
+            layout,
+            setup,
+            stretch.size,
+            limit,
+            ends,
+            at,
+            buf,
+        ) {
             Ok((segment, next)) => {
-                held.join(&segment);
+                if visitor.body(alloc, &segment).is_err() {
+                    return Err((index, Stop::Memory));
+                }
+                pass(ends, &segment);
                 at = next;
                 index += 1;
             }

@@ -7,6 +7,7 @@ ghost use Rattle.segment.specs.Segment.{SegmentValue};
 ghost use Rattle.store_bytes.specs.store_head.Head.{HeadValue, see_head};
 ghost use Rattle.segment_store.specs.Held.{ends_of};
 ghost use Rattle.segment_store.specs.Image.{Reads, ends_after, IsNext};
+ghost use Rattle.segment_store.specs.Keeping.{IsKept, see_state};
 ghost use Rattle.segment_store.specs.Moments.{StoreValue, IsOn, IsThere, InPut};
 ghost use Rattle.segment_store.specs.Opening.{Resumes, IsUnharmed};
 ghost use Rattle.segment_store.specs.Putting.{Refuses, LeavesUnwritten};
@@ -16,7 +17,7 @@ ghost use Rattle.segment_store.specs.declared.fault.ResumeFault.TheVariants as r
 ghost use Rattle.calibration.specs.declared.limits.TheConstants.{MAX_GAUGES};
 
 use crate::fault::{PutFault, ResumeFault};
-use crate::opening::open;
+use crate::joining::resume;
 use crate::putting::State;
 use calibration::Setup;
 use outside::station::Station;
@@ -81,7 +82,7 @@ impl Store {
             CountRose (K.faults station.old) (K.faults station.new) }
         ensures later { K.faults station.old ≤ K.faults station.new }
     {
-        match open(alloc, station, setup) {
+        match resume(alloc, station, setup) {
             Ok(state) => Ok(Store { state }),
             Err(fault) => Err(fault),
         }
@@ -130,6 +131,14 @@ impl Store {
         self.state.put(station, seg)
     }
 
+    // Its parts.
+    pub(crate) fn state(&self) -> &State
+        ensures view { see_state result.now ≡ self.now }
+        ensures kept { IsKept result.now }
+    {
+        &self.state
+    }
+
     /// What it is for.
     pub fn head(&self) -> &StoreHead
         ensures { see_head self.now.head.layout result.now ≡ self.now.head }
@@ -154,6 +163,15 @@ impl Store {
         ensures end { result.now.to ≡ slice_index (ends_of self.now.held) gauge }
     {
         self.state.held.get(gauge)
+    }
+
+    /// The held segment of each gauge, in order.
+    pub fn segments(&self) -> &[Segment]
+        ensures segments { result.now ≡ self.now.held }
+        ensures grids { (g : ℕ) (d : SegmentValue) → g < length self.now.held →
+            (slice_index_or self.now.held g d).grid ≡ self.now.head.setup.grid }
+    {
+        self.state.held.as_slice()
     }
 
     /// How many bodies it has.

@@ -1,16 +1,9 @@
-ghost use Rattle.std.specs.Prelude.{◌≡◌, ◌≢◌, ◌≤◌, ◌⊎◌, ◌++◌, [], ◌∷◌, ℕ, ℤ, List, Ok};
-ghost use Rattle.outside.specs.Fault.{CountRose};
+ghost use Rattle.std.specs.Prelude.{◌≡◌, ℕ, ℤ, List, Ok};
 ghost use Rattle.segment_store.specs.Holds.{Holds, held_of};
-ghost use Rattle.segment_store.specs.Quiet.{IsQuiet};
 ghost use Rattle.site_config.specs.Configuration.{config_of_bytes};
 ghost use Rattle.site_config.specs.Valid.{IsConfig};
 ghost use Rattle.site_config.specs.declared.config.Config.{Config};
-ghost use Rattle.status.specs.fault_lines.FaultLine.{fault_line};
-ghost use Rattle.status.specs.fault_lines.Telling.{TellsAtMost};
-ghost use Rattle.status.specs.declared.status.Status.TheVariants.{Done, ReadFault, WriteFault, DiskFault, OutOfMemory};
-ghost use Rattle.status.specs.Printing.{IsPrinting, IsReporting};
-ghost use Rattle.report_command.specs.Answers.{IsSound, ReportAnswers, MayAnswerOver};
-ghost use Rattle.segment_store.specs.Image.{IsStoreOf};
+ghost use Rattle.report_command.specs.OverStore.{IsOverStore, IsUntold};
 ghost use Rattle.report_command.specs.repeat_command.Printing.{Prints};
 
 use crate::repeat_command::printing::print_held;
@@ -38,29 +31,9 @@ pub fn repeat_command<C: Source, K: Station, O: Sink>(
         config_of_bytes (C.left config.old) ≡ Ok bridge → (w : ℕ → List ℤ) (n : List ℕ) →
         Holds bridge.setup w n (K.seen station.old) →
         Prints result bridge (held_of w n) (O.written out.old) (O.written out.new) }
-    ensures nothing { O.tells → (IsPrinting result → ⊥) → O.written out.new ≡ O.written out.old }
-    // At most the line of the answer is told, and the store stays.
-    ensures quiet { K.tells → TellsAtMost (fault_line result [])
-        (K.clock station.old) (K.moments station.old) (K.clock station.new) (K.moments station.new)
-        (K.told station.old) (K.told station.new) (K.seen station.old) (K.seen station.new)
-        (K.leaves station.old) (K.leaves station.new) }
-    ensures silent { K.tells → result ≡ Done → K.told station.new ≡ K.told station.old }
-    ensures last { K.tells → result ≢ Done →
-        CountRose (K.faults station.old) (K.faults station.new) ⊎
-        (K.told station.new ≡ K.told station.old ++ fault_line result [] ∷ []) }
-    // Which answer it is, and when it is `Done`.
-    ensures answer { K.tells → C.tells →
-        ReportAnswers (config_of_bytes (C.left config.old)) (K.seen station.old) result }
-    ensures complete { K.tells → C.tells →
-        IsSound (config_of_bytes (C.left config.old)) (K.seen station.old) →
-        (CountRose (C.faults config.old) (C.faults config.new) → ⊥) →
-        (CountRose (K.faults station.old) (K.faults station.new) → ⊥) →
-        (CountRose (O.faults out.old) (O.faults out.new) → ⊥) →
-        (result ≡ Done) ⊎ (result ≡ OutOfMemory) }
-    ensures kind { IsReporting result }
-    ensures read { result ≡ ReadFault → CountRose (C.faults config.old) (C.faults config.new) }
-    ensures write { result ≡ WriteFault → CountRose (O.faults out.old) (O.faults out.new) }
-    ensures disk { result ≡ DiskFault → CountRose (K.faults station.old) (K.faults station.new) }
+    // Besides, it tells at most the line of its answer, and each answer has its cause.
+    ensures run { IsOverStore ⟦<C as Source>⟧ ⟦<K as Station>⟧ ⟦<O as Sink>⟧
+        config.old config.new station.old station.new out.old out.new result }
 {
     let Ok(mut line) = FaultLine::new(alloc, MAX_NAME_BYTES) else {
         tell_no_memory(station);
@@ -90,20 +63,8 @@ fn repeat_by<K: Station, O: Sink>(
     ensures prints { O.tells → K.tells → (w : ℕ → List ℤ) (n : List ℕ) →
         Holds bridge.now.setup w n (K.seen station.old) →
         Prints result bridge.now (held_of w n) (O.written out.old) (O.written out.new) }
-    ensures nothing { O.tells → (IsPrinting result → ⊥) → O.written out.new ≡ O.written out.old }
-    ensures quiet { K.tells → IsQuiet (K.clock station.old) (K.moments station.old)
-        (K.clock station.new) (K.moments station.new) (K.told station.old) (K.told station.new)
-        (K.seen station.old) (K.seen station.new) (K.leaves station.old) (K.leaves station.new) }
-    ensures later { K.faults station.old ≤ K.faults station.new }
-    ensures answer { K.tells → MayAnswerOver bridge.now (K.seen station.old) result }
-    ensures complete { K.tells → IsStoreOf bridge.now.setup (K.seen station.old) →
-        (CountRose (K.faults station.old) (K.faults station.new) → ⊥) →
-        (CountRose (O.faults out.old) (O.faults out.new) → ⊥) →
-        (result ≡ Done) ⊎ (result ≡ OutOfMemory) }
-    ensures kind { IsReporting result }
-    ensures no_read { result ≢ ReadFault }
-    ensures write { result ≡ WriteFault → CountRose (O.faults out.old) (O.faults out.new) }
-    ensures disk { result ≡ DiskFault → CountRose (K.faults station.old) (K.faults station.new) }
+    ensures run { IsUntold ⟦<K as Station>⟧ ⟦<O as Sink>⟧ bridge.now
+        station.old station.new out.old out.new result }
 {
     let Ok(mut page) = Page::new(alloc, bridge.setup.grid.classes()) else {
         return Status::OutOfMemory;

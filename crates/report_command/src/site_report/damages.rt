@@ -5,25 +5,24 @@ ghost use Rattle.report.specs.Figures.{Figures, Agree, figures_of};
 ghost use Rattle.segment.specs.Segment.{IsSegment};
 ghost use Rattle.site_config.specs.Valid.{IsConfig};
 ghost use Rattle.report_command.specs.site_report.Damages.{IsDamageOf, AreDamages, AreHalves};
-ghost use Rattle.report_command.specs.site_report.Report.{Agrees};
+ghost use Rattle.report_command.specs.site_report.Report.{Agrees, AreOver};
 
 use calibration::{Grid, MAX_CLASSES};
 use damage::exact_frac::Frac;
 use damage::miner::damage;
 use damage::sn_curve::Detail;
 use segment::Segment;
-use segment_store::Store;
 use site_config::Config;
 
 const PLACES: usize = MAX_CLASSES as usize;
 
-/// Sums the damage of each detail by the held segment of its gauge.
-pub fn sum_damages(bridge: &Config, store: &Store, damages: &mut Vec<Frac>)
+/// Sums the damage of each detail by the segment of its gauge.
+pub fn sum_damages(bridge: &Config, segments: &[Segment], damages: &mut Vec<Frac>)
     requires bridge { IsConfig bridge.now }
-    requires setup { store.now.head.setup ≡ bridge.now.setup }
-    requires gauges { length store.now.held ≡ length bridge.now.gauges }
+    requires setup { AreOver bridge.now.setup.grid segments.now }
+    requires gauges { length segments.now ≡ length bridge.now.gauges }
     requires room { length bridge.now.details ≤ vec_capacity damages.old }
-    ensures damages { (figures : ℕ → Figures) → Agrees bridge.now store.now.held figures →
+    ensures damages { (figures : ℕ → Figures) → Agrees bridge.now segments.now figures →
         AreDamages bridge.now figures damages.new.items }
     ensures one_each { length damages.new.items ≡ length bridge.now.details }
     ensures few { All (λ damage. damage.whole ≤ MAX_HALF_CYCLES) damages.new.items }
@@ -31,8 +30,8 @@ pub fn sum_damages(bridge: &Config, store: &Store, damages: &mut Vec<Frac>)
 {
     damages.clear();
     for detail in bridge.details.as_slice() {
-        let held = store.held(detail.gauge);
-        damages.push_reserved(damage_by(&detail.detail, held));
+        let gauge = usize::from(detail.gauge);
+        damages.push_reserved(damage_by(&detail.detail, &segments[gauge]));
     }
 }
 

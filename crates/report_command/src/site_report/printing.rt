@@ -7,29 +7,28 @@ ghost use Rattle.report.specs.Figures.{Agree, Figures, figures_of};
 ghost use Rattle.report.specs.Texts as texts;
 ghost use Rattle.segment.specs.Segment.{IsSegment};
 ghost use Rattle.site_config.specs.Valid.{IsConfig};
-ghost use Rattle.report_command.specs.site_report.Report.{Agrees, gauge_lines, detail_lines};
+ghost use Rattle.report_command.specs.site_report.Report.{Agrees, AreOver, gauge_lines, detail_lines};
 
 use damage::exact_frac::Frac;
 use outside::{Failed, Sink};
 use report::{Page, detail_text, gauge_text};
 use segment::Segment;
-use segment_store::Store;
 use site_config::Config;
 
 /// Prints the text of each gauge.
 pub fn print_gauges<O: Sink>(
     bridge: &Config,
-    store: &Store,
+    segments: &[Segment],
     page: &mut Page,
     out: &mut O,
 ) -> Result<(), Failed>
     requires bridge { IsConfig bridge.now }
-    requires setup { store.now.head.setup ≡ bridge.now.setup }
-    requires gauges { length store.now.held ≡ length bridge.now.gauges }
+    requires setup { AreOver bridge.now.setup.grid segments.now }
+    requires gauges { length segments.now ≡ length bridge.now.gauges }
     requires classes { bridge.now.setup.grid.classes ≤ page.old.classes }
-    ensures ok { O.tells → (figures : ℕ → Figures) → Agrees bridge.now store.now.held figures →
+    ensures ok { O.tells → (figures : ℕ → Figures) → Agrees bridge.now segments.now figures →
         OnOk result (O.written out.new ≡ O.written out.old ++ gauge_lines bridge.now figures) }
-    ensures failed { O.tells → (figures : ℕ → Figures) → Agrees bridge.now store.now.held figures →
+    ensures failed { O.tells → (figures : ℕ → Figures) → Agrees bridge.now segments.now figures →
         OnErr result (AppendsPrefix (O.written out.old) (O.written out.new)
         (gauge_lines bridge.now figures)) }
     ensures cause { HasCause (O.faults out.old) (O.faults out.new) result }
@@ -37,13 +36,13 @@ pub fn print_gauges<O: Sink>(
 {
     for gauge in 0..bridge.gauges.as_slice().len() {
         let name = bridge.gauges.as_slice()[gauge].name.as_str();
-        print_gauge(name, store.held(gauge as u16), page, out)?;
+        print_gauge(name, &segments[gauge], page, out)?;
     }
     Ok(())
 }
 
 // Prints the text of a gauge by its segment.
-fn print_gauge<O: Sink>(
+pub(crate) fn print_gauge<O: Sink>(
     name: &str,
     segment: &Segment,
     page: &mut Page,

@@ -3,15 +3,16 @@ ghost use Rattle.outside.specs.Fault.{HasCause};
 ghost use Rattle.outside.specs.Sink.{AppendsPrefix};
 ghost use Rattle.report.specs.Figures.{Figures};
 ghost use Rattle.site_config.specs.Valid.{IsConfig};
-ghost use Rattle.report_command.specs.site_report.Report.{Agrees, IsReport};
+ghost use Rattle.report_command.specs.site_report.Report.{Agrees, AreOver, IsReport, IsWindowReport, names_of};
 ghost use Rattle.report_command.specs.site_report.Room.{HasRoom};
 
 use crate::site_report::damages::sum_damages;
 use crate::site_report::printing::{print_details, print_gauges};
+use crate::site_report::window_printing::print_windows;
 use damage::exact_frac::Frac;
 use outside::{Failed, Sink};
 use report::Page;
-use segment_store::Store;
+use segment::Segment;
 use site_config::Config;
 use std::alloc::{AllocError, Global};
 use std::marker::Model;
@@ -44,30 +45,59 @@ impl Report {
         })
     }
 
-    /// Prints the report of what is held: the text of each gauge, then the line of each detail.
-    /// Takes no memory. Where a put fails, a front of the report is written.
+    /// Prints the report of the segments of a site's gauges: the text of each gauge, then the line
+    /// of each detail. Takes no memory. Where a put fails, a front of the report is written.
     pub fn print<O: Sink>(
         &mut self,
         bridge: &Config,
-        store: &Store,
+        segments: &[Segment],
         out: &mut O,
     ) -> Result<(), Failed>
         requires bridge { IsConfig bridge.now }
-        requires setup { store.now.head.setup ≡ bridge.now.setup }
-        requires gauges { length store.now.held ≡ length bridge.now.gauges }
+        requires setup { AreOver bridge.now.setup.grid segments.now }
+        requires gauges { length segments.now ≡ length bridge.now.gauges }
         requires room { HasRoom bridge.now self.old }
-        ensures ok { O.tells → (figures : ℕ → Figures) → Agrees bridge.now store.now.held figures →
+        ensures ok { O.tells → (figures : ℕ → Figures) → Agrees bridge.now segments.now figures →
             OnOk result ((text : List ℕ) × IsReport bridge.now figures text ×
             (O.written out.new ≡ O.written out.old ++ text)) }
         ensures failed { O.tells → (figures : ℕ → Figures) →
-            Agrees bridge.now store.now.held figures →
+            Agrees bridge.now segments.now figures →
             OnErr result ((text : List ℕ) × IsReport bridge.now figures text ×
             AppendsPrefix (O.written out.old) (O.written out.new) text) }
         ensures cause { HasCause (O.faults out.old) (O.faults out.new) result }
         ensures room { HasRoom bridge.now self.new }
     {
-        sum_damages(bridge, store, &mut self.damages);
-        print_gauges(bridge, store, &mut self.page, out)?;
+        sum_damages(bridge, segments, &mut self.damages);
+        print_gauges(bridge, segments, &mut self.page, out)?;
+        print_details(bridge, &self.damages, &mut self.page, out)
+    }
+
+    /// Prints the report of a window of time: before the text of each gauge the line of its window,
+    /// which its segment names. Takes no memory. Where a put fails, a front of it is written.
+    pub fn print_window<O: Sink>(
+        &mut self,
+        bridge: &Config,
+        segments: &[Segment],
+        out: &mut O,
+    ) -> Result<(), Failed>
+        requires bridge { IsConfig bridge.now }
+        requires setup { AreOver bridge.now.setup.grid segments.now }
+        requires gauges { length segments.now ≡ length bridge.now.gauges }
+        requires room { HasRoom bridge.now self.old }
+        ensures ok { O.tells → (figures : ℕ → Figures) → Agrees bridge.now segments.now figures →
+            OnOk result ((text : List ℕ) ×
+            IsWindowReport bridge.now (names_of segments.now) figures text ×
+            (O.written out.new ≡ O.written out.old ++ text)) }
+        ensures failed { O.tells → (figures : ℕ → Figures) →
+            Agrees bridge.now segments.now figures →
+            OnErr result ((text : List ℕ) ×
+            IsWindowReport bridge.now (names_of segments.now) figures text ×
+            AppendsPrefix (O.written out.old) (O.written out.new) text) }
+        ensures cause { HasCause (O.faults out.old) (O.faults out.new) result }
+        ensures room { HasRoom bridge.now self.new }
+    {
+        sum_damages(bridge, segments, &mut self.damages);
+        print_windows(bridge, segments, &mut self.page, out)?;
         print_details(bridge, &self.damages, &mut self.page, out)
     }
 }

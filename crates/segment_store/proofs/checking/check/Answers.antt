@@ -12,7 +12,6 @@ use Rattle.segment.specs.declared.segment_rules.name.Name.{Name}
 use Rattle.segment.specs.declared.segment.join.JoinRefusal.TheVariants as refusals
 use Rattle.segment_store.specs.declared.damage.Damage.TheVariants as damages
 use Rattle.segment_store.specs.declared.damage.Stop.{Stop}
-use Rattle.segment_store.specs.Held.{ends_of}
 use Rattle.segment_store.specs.Resuming.{Checks, TellsAs, StopsAs, digest, no_body, stranger, empty, apart, sound}
 use Rattle.segment_store.proofs.checking.check.Goals as goal
 
@@ -38,18 +37,18 @@ pub returns-in-Err-clause-checks : goal.returns-in-Err-clause-checks
 returns-in-Err-clause-checks c = no_body_of _ _ _ _ _ _
     (c.are_same.ensures.0 c.if-not-are_same.false) c.in-Err.fault c.stop_of.result c.in-Err.ensures.exact c.stop_of.ensures.as_is
 
-pub returns-then-from-gauges-clause-checks : goal.returns-then-from-gauges-clause-checks
-returns-then-from-gauges-clause-checks c =
+pub returns-then-gauge-ends-clause-checks : goal.returns-then-gauge-ends-clause-checks
+returns-then-gauge-ends-clause-checks c =
     let gauge = ap (λ (n : Name). n.gauge) c.name-name.ensures.value in
-    subst (λ n. Checks c.args.layout c.args.setup.now (ends_of c.args.held.now) c.args.bytes.now c.args.kept c.args.found
+    subst (λ n. Checks c.args.layout c.args.setup.now c.args.ends.now c.args.bytes.now c.args.kept c.args.found
     (Err (damages.Gauge n))) (sym gauge)
-    (stranger (c.are_same.ensures.0 c.if-not-are_same.false) c.in-Ok.ensures.exact (omega (arith, gauge)))
+    (stranger (c.are_same.ensures.0 c.if-not-are_same.false) c.in-Ok.ensures.exact (omega (arith, gauge, c.from-gauge.ensures)))
 
 pub returns-then-name-clause-checks : goal.returns-then-name-clause-checks
 returns-then-name-clause-checks c =
     let n = c.name-name.ensures.value in
     let gauge = ap (λ (n : Name). n.gauge) n in
-    empty (c.are_same.ensures.0 c.if-not-are_same.false) c.in-Ok.ensures.exact (omega (arith, gauge))
+    empty (c.are_same.ensures.0 c.if-not-are_same.false) c.in-Ok.ensures.exact (omega (arith, gauge, c.from-gauge.ensures))
     (omega (arith, ap (λ (n : Name). n.from) n, ap (λ (n : Name). n.to) n))
 
 pub returns-then-name-to-clause-checks : goal.returns-then-name-to-clause-checks
@@ -58,15 +57,19 @@ returns-then-name-to-clause-checks c =
     let gauge = ap (λ (n : Name). n.gauge) n in
     let from = ap (λ (n : Name). n.from) n in
     let to = ap (λ (n : Name). n.to) n in
-    let end = c.end-to.ensures ∙ ap (λ g. get_or (ends_of c.args.held.now) g 0) gauge in
-    let joins : Checks c.args.layout c.args.setup.now (ends_of c.args.held.now) c.args.bytes.now c.args.kept c.args.found
-    (Err (damages.Join (refusals.NotNext (get_or (ends_of c.args.held.now) c.in-Ok.segment.gauge 0) c.in-Ok.segment.from))) =
-    apart (c.are_same.ensures.0 c.if-not-are_same.false) c.in-Ok.ensures.exact (omega (arith, gauge)) (omega (arith, from, to))
+    let end = ap (λ g. get_or c.args.ends.now g 0) (c.from-gauge.ensures ∙ gauge) in
+    let joins : Checks c.args.layout c.args.setup.now c.args.ends.now c.args.bytes.now c.args.kept c.args.found
+    (Err (damages.Join (refusals.NotNext (get_or c.args.ends.now c.in-Ok.segment.gauge 0) c.in-Ok.segment.from))) =
+    apart (c.are_same.ensures.0 c.if-not-are_same.false) c.in-Ok.ensures.exact (omega (arith, gauge, c.from-gauge.ensures)) (omega (
+      arith,
+      from,
+      to,
+    ))
     (λ e. c.if-name-to.true (from ∙ e ∙ sym end)) in
-    subst (λ a. Checks c.args.layout c.args.setup.now (ends_of c.args.held.now) c.args.bytes.now c.args.kept c.args.found
+    subst (λ a. Checks c.args.layout c.args.setup.now c.args.ends.now c.args.bytes.now c.args.kept c.args.found
     (Err (damages.Join (refusals.NotNext a c.name-name.result.from)))) (sym end)
-    (subst (λ b. Checks c.args.layout c.args.setup.now (ends_of c.args.held.now) c.args.bytes.now c.args.kept c.args.found
-    (Err (damages.Join (refusals.NotNext (get_or (ends_of c.args.held.now) c.in-Ok.segment.gauge 0) b)))) (sym from) joins)
+    (subst (λ b. Checks c.args.layout c.args.setup.now c.args.ends.now c.args.bytes.now c.args.kept c.args.found
+    (Err (damages.Join (refusals.NotNext (get_or c.args.ends.now c.in-Ok.segment.gauge 0) b)))) (sym from) joins)
 
 pub returns-clause-checks : goal.returns-clause-checks
 returns-clause-checks c =
@@ -74,6 +77,11 @@ returns-clause-checks c =
     let gauge = ap (λ (n : Name). n.gauge) n in
     let from = ap (λ (n : Name). n.from) n in
     let to = ap (λ (n : Name). n.to) n in
-    let end = c.end-to.ensures ∙ ap (λ g. get_or (ends_of c.args.held.now) g 0) gauge in
-    sound (c.are_same.ensures.0 c.if-not-are_same.false) c.in-Ok.ensures.found (omega (arith, gauge, c.gauges.ensures))
+    let end = ap (λ g. get_or c.args.ends.now g 0) (c.from-gauge.ensures ∙ gauge) in
+    sound (c.are_same.ensures.0 c.if-not-are_same.false) c.in-Ok.ensures.found (omega (
+      arith,
+      gauge,
+      c.from-gauge.ensures,
+      c.requires.gauges,
+    ))
     (omega (arith, from, to)) (sym from ∙ c.if-name-to.false ∙ end)

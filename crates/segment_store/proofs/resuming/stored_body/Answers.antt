@@ -6,7 +6,6 @@ use Rattle.outside.specs.station.Station.{Image}
 use Rattle.segment.specs.Segment.{SegmentValue}
 use Rattle.segment.specs.Parts.{parts_of}
 use Rattle.store_bytes.specs.declared.segment_bytes.layout.Layout.{Layout}
-use Rattle.segment_store.specs.Held.{ends_of}
 use Rattle.segment_store.specs.declared.damage.Damage.TheVariants as damages
 use Rattle.segment_store.specs.declared.damage.Stop.{Stop}
 use Rattle.segment_store.specs.declared.damage.Stop.TheVariants as stops
@@ -43,7 +42,7 @@ pub returns-then-size-at-lt5-clause-finds : goal.returns-then-size-at-lt5-clause
 returns-then-size-at-lt5-clause-finds g c tells =
     let size = c.requires.size tells in
     subst (λ n. Finds c.args.layout c.args.setup.now c.args.limit (g.K.Station.seen c.args.station.now)
-    (ends_of c.args.held.now) c.args.at (Err (damages.Cut n))) (sym size) (no_length (omega (arith, size)))
+    c.args.ends.now c.args.at (Err (damages.Cut n))) (sym size) (no_length (omega (arith, size)))
 
 pub returns-then-len-limit-clause-finds : goal.returns-then-len-limit-clause-finds
 returns-then-len-limit-clause-finds g c tells =
@@ -51,7 +50,7 @@ returns-then-len-limit-clause-finds g c tells =
     let n = length_is (g.K.Station.seen c.args.station.now) c.args.at _ c.length_of-len.result
     (c.in_ok-read_at.ensures.bytes tells) c.length_of-len.ensures.value in
     subst (λ n. Finds c.args.layout c.args.setup.now c.args.limit (g.K.Station.seen c.args.station.now)
-    (ends_of c.args.held.now) c.args.at (Err (damages.Length n))) (sym n) (too_long (omega (arith, size)) (omega (arith, n)))
+    c.args.ends.now c.args.at (Err (damages.Length n))) (sym n) (too_long (omega (arith, size)) (omega (arith, n)))
 
 pub returns-then-size-at-clause-finds : goal.returns-then-size-at-clause-finds
 returns-then-size-at-clause-finds g c tells =
@@ -59,7 +58,7 @@ returns-then-size-at-clause-finds g c tells =
     let n = length_is (g.K.Station.seen c.args.station.now) c.args.at _ c.length_of-len.result
     (c.in_ok-read_at.ensures.bytes tells) c.length_of-len.ensures.value in
     subst (λ n. Finds c.args.layout c.args.setup.now c.args.limit (g.K.Station.seen c.args.station.now)
-    (ends_of c.args.held.now) c.args.at (Err (damages.Cut n))) (sym size)
+    c.args.ends.now c.args.at (Err (damages.Cut n))) (sym size)
     (no_gate (omega (arith, size)) (omega (arith, n)) (omega (arith, n, size)))
 
 pub returns-in-Ok-clause-finds : goal.returns-in-Ok-clause-finds
@@ -80,13 +79,13 @@ returns-in-Ok-clause-finds g c tells =
     ∙ ap (λ (l : List ℕ). sha256 (l ++ c.read_at-2.new.buf)) (field_is image at _ field)
     ∙ ap (λ (l : List ℕ). sha256 (field_at image at ++ l)) body in
     let setup : Setup = c.args.setup.now in
-    let checked : TellsAs parts_of (Checks c.args.layout setup (ends_of c.args.held.now) (bytes_at image at) (kept_at image at)
+    let checked : TellsAs parts_of (Checks c.args.layout setup c.args.ends.now (bytes_at image at) (kept_at image at)
     (found_at image at)) (Ok c.in-Ok.segment) =
-    subst (λ f. TellsAs parts_of (Checks c.args.layout setup (ends_of c.args.held.now) (bytes_at image at) (kept_at image at) f)
+    subst (λ f. TellsAs parts_of (Checks c.args.layout setup c.args.ends.now (bytes_at image at) (kept_at image at) f)
     (Ok c.in-Ok.segment)) found
-    (subst (λ k. TellsAs parts_of (Checks c.args.layout setup (ends_of c.args.held.now) (bytes_at image at) k c.digest_of-found.result)
+    (subst (λ k. TellsAs parts_of (Checks c.args.layout setup c.args.ends.now (bytes_at image at) k c.digest_of-found.result)
     (Ok c.in-Ok.segment)) kept
-    (subst (λ b. TellsAs parts_of (Checks c.args.layout setup (ends_of c.args.held.now) b c.read_at-3.new.buf c.digest_of-found.result)
+    (subst (λ b. TellsAs parts_of (Checks c.args.layout setup c.args.ends.now b c.read_at-3.new.buf c.digest_of-found.result)
     (Ok c.in-Ok.segment)) body c.in-Ok.ensures.checks)) in
     let is_whole : IsWhole c.args.limit image at = record {
       field = omega (arith, size);
@@ -95,7 +94,7 @@ returns-in-Ok-clause-finds g c tells =
       within = omega (arith, n);
       reaches = omega (arith, n, size);
     } in
-    told_ok c.args.layout setup c.args.limit image (ends_of c.args.held.now) at 0 is_whole c.in-Ok.segment checked
+    told_ok c.args.layout setup c.args.limit image c.args.ends.now at 0 is_whole c.in-Ok.segment checked
 
 pub returns-in-Err-clause-finds : goal.returns-in-Err-clause-finds
 returns-in-Err-clause-finds g c tells =
@@ -115,13 +114,13 @@ returns-in-Err-clause-finds g c tells =
     ∙ ap (λ (l : List ℕ). sha256 (l ++ c.read_at-2.new.buf)) (field_is image at _ field)
     ∙ ap (λ (l : List ℕ). sha256 (field_at image at ++ l)) body in
     let setup : Setup = c.args.setup.now in
-    let checked : TellsAs parts_of (Checks c.args.layout setup (ends_of c.args.held.now) (bytes_at image at) (kept_at image at)
+    let checked : TellsAs parts_of (Checks c.args.layout setup c.args.ends.now (bytes_at image at) (kept_at image at)
     (found_at image at)) (Err c.in-Err.stop) =
-    subst (λ f. TellsAs parts_of (Checks c.args.layout setup (ends_of c.args.held.now) (bytes_at image at) (kept_at image at) f)
+    subst (λ f. TellsAs parts_of (Checks c.args.layout setup c.args.ends.now (bytes_at image at) (kept_at image at) f)
     (Err c.in-Err.stop)) found
-    (subst (λ k. TellsAs parts_of (Checks c.args.layout setup (ends_of c.args.held.now) (bytes_at image at) k c.digest_of-found.result)
+    (subst (λ k. TellsAs parts_of (Checks c.args.layout setup c.args.ends.now (bytes_at image at) k c.digest_of-found.result)
     (Err c.in-Err.stop)) kept
-    (subst (λ b. TellsAs parts_of (Checks c.args.layout setup (ends_of c.args.held.now) b c.read_at-3.new.buf c.digest_of-found.result)
+    (subst (λ b. TellsAs parts_of (Checks c.args.layout setup c.args.ends.now b c.read_at-3.new.buf c.digest_of-found.result)
     (Err c.in-Err.stop)) body c.in-Err.ensures.checks)) in
     let is_whole : IsWhole c.args.limit image at = record {
       field = omega (arith, size);
@@ -130,7 +129,7 @@ returns-in-Err-clause-finds g c tells =
       within = omega (arith, n);
       reaches = omega (arith, n, size);
     } in
-    told_err c.args.layout setup c.args.limit image (ends_of c.args.held.now) at 0 is_whole c.in-Err.stop checked
+    told_err c.args.layout setup c.args.limit image c.args.ends.now at 0 is_whole c.in-Err.stop checked
 
 pub returns-in-Ok-clause-quiet : goal.returns-in-Ok-clause-quiet
 returns-in-Ok-clause-quiet g c tells =
@@ -175,5 +174,15 @@ returns-in_err-read_at-3-clause-quiet g c tells =
     (c.read_at-3.ensures.crash tells).none_new
 
 pub returns-in-Ok-clause-step : goal.returns-in-Ok-clause-step
-returns-in-Ok-clause-step g c = step_is c.args.layout c.args.setup.now.grid (ends_of c.args.held.now) _ c.args.at _
+returns-in-Ok-clause-step g c = step_is c.args.layout c.args.setup.now.grid c.args.ends.now _ c.args.at _
     (parts_of c.in-Ok.segment) c.in-Ok.ensures.grid c.in-Ok.ensures.body c.in-Ok.ensures.joins c.in-Ok.ensures.some (omega arith)
+
+pub returns-in-Ok-clause-next : goal.returns-in-Ok-clause-next
+returns-in-Ok-clause-next g c = record {
+  body = record {
+    segment = c.in-Ok.ensures.body.segment;
+    gauge = omega (arith, c.in-Ok.ensures.gauge, c.requires.gauges);
+    some = c.in-Ok.ensures.some;
+  };
+  joins = c.in-Ok.ensures.joins;
+}

@@ -1,4 +1,3 @@
-use Rattle.segment_store.specs.Held.{ends_of}
 use Rattle.segment_store.specs.Resuming.{Walks}
 use Rattle.segment_store.proofs.Reading.{walks_only}
 use Rattle.segment_store.proofs.Walking.{no_damage}
@@ -10,8 +9,9 @@ returns-clause-reads g c tells bodies last gate front rest starts =
     let setup = c.args.setup.now in
     let limit = c.args.limit in
     let image = g.K.Station.seen c.args.station.now in
-    let ends = ends_of c.args.held.now in
-    no_damage last (Walks lay setup limit image 0 c.args.start ends) (λ x. (x.0, ends_of c.walk_from.new.held)) c.walk_from.result
+    let ends = c.args.ends.now in
+    no_damage last (Walks lay setup limit image 0 c.args.stretch.start ends) (λ x. (x.0, c.walk_from.new.ends)) c.walk_from.result
     (c.walk_from.ensures.walks tells)
-    (λ q w. walks_only lay setup starts.is_setup limit c.requires.few image gate rest starts.closed starts.within front 0 c.args.start
+    (λ q w. walks_only lay setup starts.is_setup limit c.requires.few image gate rest starts.closed starts.within front 0
+    c.args.stretch.start
     ends last bodies q starts.here starts.whole starts.tiles w)

@@ -2,7 +2,7 @@ use Rattle.std.proofs.Common.{◌≡◌, ◌<◌, ◌≤◌, List, length, sym, 
 use Rattle.std.specs.Prelude.{All}
 use Rattle.std.proofs.lemmas.List.{get_or_default}
 use Rattle.std.proofs.lemmas.List.Elements.{All-push}
-use Rattle.calibration.specs.declared.setup.Setup.{Setup}
+use Rattle.segment.specs.Segment.{SegmentValue}
 use Rattle.damage.specs.declared.exact_frac.frac.Frac.{Frac}
 use Rattle.damage.specs.declared.miner.TheConstants.{MAX_HALF_CYCLES}
 use Rattle.site_config.specs.declared.config.NamedDetail.{NamedDetail}
@@ -21,13 +21,17 @@ loop-detail-preserved c =
     omega (arith, c.loop-detail-test.true, ap (λ (l : List NamedDetail). length l) c.as_slice-detail-items.ensures) in
     let is = c.detail-item.is ∙ ap (λ (l : List NamedDetail). get_or l c.loop-detail.detail-index c.detail-item.result)
     c.as_slice-detail-items.ensures in
-    let on : c.detail-item.result.gauge < length c.args.store.now.held =
+    let on : c.detail-item.result.gauge < length c.args.segments.now =
     omega (
       arith,
       subst (λ (d : NamedDetail). d.gauge < length c.args.bridge.now.gauges) (sym is) (c.requires.bridge.on at item within),
       c.requires.gauges,
     ) in
-    let grid = c.held-held.ensures.grid ∙ ap (λ (s : Setup). s.grid) c.requires.setup in
+    let gauge = c.from-gauge.ensures in
+    let known : c.from-gauge.result < length c.args.segments.now = omega (arith, on, gauge) in
+    let grid = ap (λ (x : SegmentValue). x.grid) c.index-segments-gauge.is
+    ∙ c.requires.setup c.from-gauge.result c.index-segments-gauge.result known in
+    let held = c.index-segments-gauge.is ∙ ap (λ n. get_or c.args.segments.now n c.index-segments-gauge.result) gauge in
     let long : c.loop-detail.detail-index ≡ length c.loop-detail.damages.items = omega (arith, was.many, c.loop-detail.damages.ok.0) in
     record {
       many = omega (arith, was.many, c.push_reserved.ensures.len);
@@ -36,9 +40,9 @@ loop-detail-preserved c =
           (All-push (λ (damage : Frac). damage.whole ≤ MAX_HALF_CYCLES) items c.damage_by.result was.few c.damage_by.ensures.few);
       each = λ figures agrees. damages_more bridge figures items more c.damage_by.result at c.push_reserved.ensures.items long
           (was.each figures agrees)
-          (λ d. damage_here bridge c.args.store.now.held figures item (get_or bridge.details at d) c.held-held.result.now
+          (λ d. damage_here bridge c.args.segments.now figures item (get_or bridge.details at d) c.index-segments-gauge.result
           c.damage_by.result agrees
-          (is ∙ get_or_default bridge.details at item d within) on (c.held-held.ensures.held c.held-held.result.now) grid
+          (is ∙ get_or_default bridge.details at item d within) on held grid
           c.damage_by.ensures.rules
           c.damage_by.ensures.damage);
     }

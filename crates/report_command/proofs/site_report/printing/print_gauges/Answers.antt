@@ -1,8 +1,8 @@
 use Rattle.std.proofs.Common.{◌<◌, ◌≤◌, ◌++◌, ℕ, List, length, refl, ◌∙◌, ap, subst, arith}
 use Rattle.outside.specs.Sink.{AppendsPrefix}
-use Rattle.calibration.specs.declared.setup.Setup.{Setup}
 use Rattle.calibration.specs.declared.limits.TheConstants.{MAX_NAME_BYTES}
 use Rattle.lemmas.proofs.Outcomes.{on_err}
+use Rattle.segment.specs.Segment.{SegmentValue}
 use Rattle.site_config.specs.Valid.{name_of}
 use Rattle.site_config.proofs.Named.{name_is, short_name}
 use Rattle.report_command.specs.site_report.Report.{gauge_lines, text_of_gauge}
@@ -30,7 +30,8 @@ pub loop-gauge-preserved : goal.loop-gauge-preserved
 loop-gauge-preserved g c =
     let was = c.loop-gauge.invariant in
     let known : c.loop-gauge.gauge < length c.args.bridge.now.gauges = omega (arith, ap length c.as_slice-gauge-end.ensures) in
-    let grid = c.held.ensures.grid ∙ ap (λ (s : Setup). s.grid) c.requires.setup in
+    let grid = ap (λ (x : SegmentValue). x.grid) c.index-segments-gauge.is
+    ∙ c.requires.setup c.loop-gauge.gauge c.index-segments-gauge.result (omega (arith, known, c.requires.gauges)) in
     let name = name_is c.args.bridge.now c.loop-gauge.gauge _ _ _ known c.as_slice.ensures c.as_str-name.ensures in
     record {
       classes = c.print_gauge.ensures.classes ∙ was.classes;
@@ -39,10 +40,11 @@ loop-gauge-preserved g c =
           (g.O.Sink.written c.args.out.now) (g.O.Sink.written c.loop-gauge.out) (g.O.Sink.written c.print_gauge.new.out)
           (gauge_lines c.args.bridge.now figures) known (was.printed tells figures agrees)
           (c.in_ok-print_gauge.ensures.ok tells (figures c.loop-gauge.gauge)
-          (agree_held c.args.bridge.now c.args.store.now.held figures c.loop-gauge.gauge c.loop-gauge.gauge c.held.result.now agrees refl
-          (omega (arith, known, c.requires.gauges)) (c.held.ensures.held c.held.result.now) grid c.print_gauge.ensures.rules)
+          (agree_held c.args.bridge.now c.args.segments.now figures c.loop-gauge.gauge c.loop-gauge.gauge c.index-segments-gauge.result
+          agrees refl
+          (omega (arith, known, c.requires.gauges)) c.index-segments-gauge.is grid c.print_gauge.ensures.rules)
           ∙ ap (λ (t : List ℕ). g.O.Sink.written c.loop-gauge.out ++ t)
-          (text_is c.args.bridge.now figures c.loop-gauge.gauge c.held.result.now.grid c.as_str-name.result.now grid name));
+          (text_is c.args.bridge.now figures c.loop-gauge.gauge c.index-segments-gauge.result.grid c.as_str-name.result.now grid name));
       later = omega (arith, was.later, c.print_gauge.ensures.cause.later);
     }
 
@@ -50,16 +52,18 @@ pub returns-in_err-print_gauge-clause-failed : goal.returns-in_err-print_gauge-c
 returns-in_err-print_gauge-clause-failed g c = λ tells figures agrees.
     let was = c.loop-gauge.invariant in
     let known : c.loop-gauge.gauge < length c.args.bridge.now.gauges = omega (arith, ap length c.as_slice-gauge-end.ensures) in
-    let grid = c.held.ensures.grid ∙ ap (λ (s : Setup). s.grid) c.requires.setup in
+    let grid = ap (λ (x : SegmentValue). x.grid) c.index-segments-gauge.is
+    ∙ c.requires.setup c.loop-gauge.gauge c.index-segments-gauge.result (omega (arith, known, c.requires.gauges)) in
     let name = name_is c.args.bridge.now c.loop-gauge.gauge _ _ _ known c.as_slice.ensures c.as_str-name.ensures in
     on_err _ (lines_front (text_of_gauge c.args.bridge.now figures) c.loop-gauge.gauge (length c.args.bridge.now.gauges)
     (g.O.Sink.written c.args.out.now) (g.O.Sink.written c.loop-gauge.out) (g.O.Sink.written c.print_gauge.new.out)
     (gauge_lines c.args.bridge.now figures) known (was.printed tells figures agrees)
     (subst (AppendsPrefix (g.O.Sink.written c.loop-gauge.out) (g.O.Sink.written c.print_gauge.new.out))
-    (text_is c.args.bridge.now figures c.loop-gauge.gauge c.held.result.now.grid c.as_str-name.result.now grid name)
+    (text_is c.args.bridge.now figures c.loop-gauge.gauge c.index-segments-gauge.result.grid c.as_str-name.result.now grid name)
     (c.in_err-print_gauge.ensures.failed tells (figures c.loop-gauge.gauge)
-    (agree_held c.args.bridge.now c.args.store.now.held figures c.loop-gauge.gauge c.loop-gauge.gauge c.held.result.now agrees refl
-    (omega (arith, known, c.requires.gauges)) (c.held.ensures.held c.held.result.now) grid c.print_gauge.ensures.rules))))
+    (agree_held c.args.bridge.now c.args.segments.now figures c.loop-gauge.gauge c.loop-gauge.gauge c.index-segments-gauge.result agrees
+    refl
+    (omega (arith, known, c.requires.gauges)) c.index-segments-gauge.is grid c.print_gauge.ensures.rules))))
 
 pub returns-clause-ok : goal.returns-clause-ok
 returns-clause-ok g c = λ tells figures agrees. lines_whole (text_of_gauge c.args.bridge.now figures) c.loop-gauge.gauge

@@ -128,6 +128,7 @@ returns-in-Ok-clause-kept g c =
       count = omega (arith, v.count, c.stage-n.ensures.len);
       room = omega (arith, v.room, c.stage-n.ensures.same_room);
       gauges = c.join.ensures.gauges ∙ v.gauges;
+      heads = v.heads;
       joined = (
         v.joined.0 ++ p ∷ [],
         subst (λ g. AreHeld g (v.joined.0 ++ p ∷ []) c.join.new.self) over

@@ -9,7 +9,8 @@ returns-in-Ok-clause-reads g c tells head bodies ends same reads =
     let k = g.K.Station in
     let s = see_state c.in-Ok.state in
     let on = c.in-Ok.ensures.on tells in
-    let seen = (c.open.ensures.quiet tells).seen_same in
-    let both = same_on s head bodies on.0 ends (k.seen c.open.new.station) (k.leaves c.open.new.station) (same ∙ sym c.in-Ok.ensures.setup)
+    let seen = (c.resume.ensures.quiet tells).seen_same in
+    let both = same_on s head bodies on.0 ends (k.seen c.resume.new.station) (k.leaves c.resume.new.station) (same
+    ∙ sym c.in-Ok.ensures.setup)
     (subst (λ i. Reads head bodies ends i) (sym seen) reads) on.1 in
     (both.0, both.1.0, both.1.1)
