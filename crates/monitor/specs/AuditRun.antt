@@ -7,7 +7,7 @@ use Rattle.site_config.specs.declared.config.Config.{Config}
 use Rattle.site_config.specs.recorded.Recorded.{recordings}
 use Rattle.site_config.specs.recorded.Asked.{names_in}
 use Rattle.status.specs.declared.status.Status.{Status}
-use Rattle.status.specs.declared.status.Status.TheVariants.{Done, Usage, ReadFault, WriteFault, DiskFault, OutOfMemory}
+use Rattle.status.specs.declared.status.Status.TheVariants.{Done, ReadFault, WriteFault, DiskFault, OutOfMemory}
 use Rattle.status.specs.Printing.{IsPrinting}
 use Rattle.audit_command.specs.Answers.{AuditAnswers, IsSound}
 use Rattle.audit_command.specs.Asked.{AuditAsks}
@@ -17,10 +17,10 @@ use Rattle.monitor.specs.InitRun.{line_for}
 use Rattle.monitor.specs.Shown.{Shown, Tells, Ends}
 
 pub record AuditRuns (before after : Shown) (answer : Status) : Type 0 where
-  -- Which answer it is, by what the bodies of each gauge keep and what its recording begins with, and when it is
-  -- `Done`.
+  -- Which answer it is, by what the bodies of each gauge keep and what its recording begins with.
   pub answer_is : before.station_tells → before.site_tells → before.config_tells →
       AuditAnswers (config_of_bytes before.config) before.seen before.files answer
+  -- Where all is sound and no count of the outside rises, it is `Done`, or memory ran out.
   pub complete : before.station_tells → before.site_tells → before.config_tells →
       IsSound (config_of_bytes before.config) before.seen before.files →
       ¬ CountRose before.config_faults after.config_faults → ¬ CountRose before.site_faults after.site_faults →
@@ -30,20 +30,25 @@ pub record AuditRuns (before after : Shown) (answer : Status) : Type 0 where
   pub stands : before.station_tells → before.site_tells → before.config_tells → (c : Config) →
       config_of_bytes before.config ≡ Ok c → (w : ℕ → List ℤ) (n : List ℕ) → Holds c.setup w n before.seen →
       FindsDifference c (IsStanding c (held_of w n)) (held_of (recordings c before.files).samples n) answer
-  -- A line for each gauge.
+  -- With `Done` a line for each gauge is printed, with `WriteFault` a front of them.
   pub prints : before.output_tells → before.config_tells → (c : Config) →
       config_of_bytes before.config ≡ Ok c → Prints answer c before.written after.written
+  -- With any other answer nothing is printed.
   pub nothing : before.output_tells → ¬ IsPrinting answer → after.written ≡ before.written
   -- At most the line of the answer is told, and the store stays.
   pub quiet : before.station_tells → before.config_tells → Tells (line_for before answer) before after
+  -- With `Done` no line is told.
   pub silent : before.station_tells → answer ≡ Done → after.told ≡ before.told
+  -- The line of any other answer is told last, unless the station's count rose.
   pub last : before.station_tells → before.config_tells → answer ≢ Done → Ends (line_for before answer) before after
-  pub named : answer ≢ Usage
+  -- A read fault is answered only where the configuration's or the site's count of faults rose.
   pub read : answer ≡ ReadFault → CountRose before.config_faults after.config_faults ⊎
       CountRose before.site_faults after.site_faults
+  -- A write fault is answered only where the output's count rose.
   pub write : answer ≡ WriteFault → CountRose before.output_faults after.output_faults
+  -- A station fault is answered only where the station's count rose.
   pub disk : answer ≡ DiskFault → CountRose before.station_faults after.station_faults
-  -- The gauges' files are asked for, gauge by gauge, and no other: none where the configuration or
-  -- the store is refused, and none behind a recording that is refused.
+  -- The gauges' files are asked for, gauge by gauge, and no other: none where the configuration or the store is
+  -- refused, and none behind a recording that is refused.
   pub asked : before.config_tells →
       AuditAsks answer before.names_asked after.names_asked (names_in (config_of_bytes before.config))

@@ -12,12 +12,13 @@ use Rattle.site_config.specs.declared.config.Config.{Config}
 use Rattle.site_config.specs.recorded.Recorded.{recordings}
 use Rattle.site_config.specs.recorded.Asked.{names_in}
 use Rattle.count_command.specs.held_samples.Going.{AllHold, KeepsTold}
-use Rattle.count_command.specs.held_samples.Told.{Acknowledges}
 use Rattle.site_lanes.specs.Answers.{HeadsFit, AllSound}
 use Rattle.status.specs.declared.status.Status.{Status}
-use Rattle.status.specs.declared.status.Status.TheVariants.{Done, Usage, ReadFault, WriteFault, DiskFault, OutOfMemory}
+use Rattle.status.specs.declared.status.Status.TheVariants.{Done, ReadFault, WriteFault, DiskFault, OutOfMemory}
 use Rattle.status.specs.Printing.{IsPrinting}
+use Rattle.count_command.specs.Acknowledging.{AreShort, AcknowledgesBy}
 use Rattle.count_command.specs.Appending.{HasGrown, TellsTruly}
+use Rattle.count_command.specs.Pacing.{TellsInPace}
 use Rattle.count_command.specs.Holding.{HeldAt, HeldCut, LeavesStore}
 use Rattle.count_command.specs.Answer.{CountAnswers}
 use Rattle.count_command.specs.Asked.{CountAsks}
@@ -36,31 +37,42 @@ pub record CountRuns (before after : Shown) (answer : Status) : Type 0 where
   pub appends : before.station_tells → (first : HeadValue) (front : List PartsValue) (ends : List ℕ) →
       Reads first front ends before.seen →
       Since before.clock before.moments after.clock after.moments (HasGrown first front before.leaves)
-  -- And no line of the run acknowledges more than the bodies have then.
+  -- No line of the run acknowledges more than the bodies have then.
   pub truly : before.station_tells → before.config_tells → (c : Config) → config_of_bytes before.config ≡ Ok c →
       (files : Files) (first : HeadValue) (front : List PartsValue) (ends : List ℕ) →
       Reads first front ends before.seen → Since before.clock before.moments after.clock after.moments
       (TellsTruly (recordings c files) first front before.told before.leaves)
-  -- At a good end all samples are held, and where a recording is torn or too long and no source failed, as many as a
-  -- recording may have.
+  -- A line is told for each body that is stored, before the next one is, and by the end for all of them, unless the
+  -- disk fails. Behind these comes at most the answer's line.
+  pub paced : before.station_tells → before.config_tells → (c : Config) → config_of_bytes before.config ≡ Ok c →
+      (first : HeadValue) (front : List PartsValue) (ends : List ℕ) → Reads first front ends before.seen →
+      TellsInPace c first front (line_for before answer) before.clock before.moments before.told before.leaves
+      after.clock after.moments after.told after.leaves (answer ≢ DiskFault)
+  -- At a good end all samples are held.
   pub ended : before.station_tells → before.site_tells → before.config_tells → (c : Config) →
       config_of_bytes before.config ≡ Ok c → (a : List ℕ) → AllHold (recordings c before.files) a before.leaves →
       HeldAt answer (recordings c before.files) after.leaves
+  -- Where a recording is torn or too long and no source failed, as many are held as a recording may have.
   pub cut : before.station_tells → before.site_tells → before.config_tells → (c : Config) →
       config_of_bytes before.config ≡ Ok c → (a : List ℕ) → AllHold (recordings c before.files) a before.leaves →
       ¬ CountRose before.site_faults after.site_faults → HeldCut answer (recordings c before.files) after.leaves
-  -- The report is that of all samples, and each round was acknowledged.
+  -- With `Done` the report of all samples is printed, with `WriteFault` a front of it.
   pub prints : before.output_tells → before.station_tells → before.site_tells → before.config_tells → (c : Config) →
       config_of_bytes before.config ≡ Ok c → (a : List ℕ) → AllHold (recordings c before.files) a before.leaves →
       Prints answer c (recordings c before.files).samples before.written after.written
+  -- With any other answer nothing is printed.
   pub nothing : before.output_tells → ¬ IsPrinting answer → after.written ≡ before.written
+  -- Where each recording was read to its end, the lines of all rounds were told: with `Done` no other, else behind them at
+  -- most the answer's line.
   pub acknowledged : before.station_tells → before.site_tells → before.config_tells → (c : Config) →
       config_of_bytes before.config ≡ Ok c → (n : List ℕ) →
-      Holds c.setup (recordings c before.files).samples n before.seen → answer ≡ Done →
-      Acknowledges c.block (recordings c before.files) n before.told after.told
-  -- Which answer it is, and when it is `Done`.
+      Holds c.setup (recordings c before.files).samples n before.seen →
+      AcknowledgesBy answer (¬ CountRose before.site_faults after.site_faults × AreShort (recordings c before.files))
+      c.block (recordings c before.files) n before.told (line_for before answer) after.told
+  -- The answer is the first thing that is wrong; a fault of the outside and want of memory have no place in this order.
   pub answer_is : before.station_tells → before.site_tells → before.config_tells →
       CountAnswers (config_of_bytes before.config) before.seen before.files answer
+  -- Where the store and all recordings are sound and no count of the outside rises, it is `Done`, or memory ran out.
   pub complete : before.station_tells → before.site_tells → before.config_tells → (c : Config) →
       config_of_bytes before.config ≡ Ok c → (n : List ℕ)
       (h : Holds c.setup (recordings c before.files).samples n before.seen) → HeadsFit c h.head.heads before.files →
@@ -68,16 +80,18 @@ pub record CountRuns (before after : Shown) (answer : Status) : Type 0 where
       ¬ CountRose before.config_faults after.config_faults → ¬ CountRose before.site_faults after.site_faults →
       ¬ CountRose before.station_faults after.station_faults → ¬ CountRose before.output_faults after.output_faults →
       (answer ≡ Done) ⊎ (answer ≡ OutOfMemory)
-  -- After these nothing was stored and acknowledged.
+  -- Where it is refused or memory ran out, at most the line of the answer is told, and nothing else changes.
   pub quiet : before.station_tells → LeavesStore answer → (name : List ℕ) × Tells (fault_line answer name) before after
-  pub named : answer ≢ Usage
+  -- A read fault is answered only where the configuration's or the site's count of faults rose.
   pub read : answer ≡ ReadFault → CountRose before.config_faults after.config_faults ⊎
       CountRose before.site_faults after.site_faults
+  -- A write fault is answered only where the output's count rose.
   pub write : answer ≡ WriteFault → CountRose before.output_faults after.output_faults
+  -- A station fault is answered only where the station's count rose.
   pub disk : answer ≡ DiskFault → CountRose before.station_faults after.station_faults
-  -- The gauges' files are asked for, gauge by gauge, and no other: none where the configuration or the store is refused,
-  -- and none behind a recording that is refused.
+  -- The gauges' files are asked for, gauge by gauge, and no other: none where the configuration or the store is
+  -- refused, and none behind a recording that is refused.
   pub asked : before.config_tells →
       CountAsks answer before.names_asked after.names_asked (names_in (config_of_bytes before.config))
-  -- The last line told is the answer's.
+  -- The line of any answer but `Done` is told last, unless the station's count rose.
   pub last : before.station_tells → before.config_tells → answer ≢ Done → Ends (line_for before answer) before after

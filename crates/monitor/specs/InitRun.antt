@@ -19,9 +19,10 @@ abbrev pub line_for : Shown → Status → List ℕ
 line_for before answer = fault_line answer (name_by (config_of_bytes before.config) answer)
 
 pub record InitRuns (before after : Shown) (answer : Status) : Type 0 where
-  -- With `Done` a crash leaves the new store and nothing else, and its line was told.
+  -- With `Done` a crash leaves the new store and nothing else.
   pub made : before.station_tells → before.site_tells → before.config_tells → answer ≡ Done → (c : Config) →
       config_of_bytes before.config ≡ Ok c → IsMade c before.files after.seen after.leaves
+  -- With `Done` its line was told, and no other.
   pub told : before.station_tells → before.config_tells → answer ≡ Done → (c : Config) →
       config_of_bytes before.config ≡ Ok c → after.told ≡ before.told ++ init_line (length c.gauges) ∷ []
   -- On an empty station, at each moment: until `init G` is told, what is there is too short for a head, or has no open
@@ -35,28 +36,33 @@ pub record InitRuns (before after : Shown) (answer : Status) : Type 0 where
   pub ended : before.station_tells → before.site_tells → before.config_tells → (c : Config) →
       config_of_bytes before.config ≡ Ok c → ((image : Image) → before.leaves image → length image ≡ 0) →
       InMaking c before.files before.told (line_for before answer) after.told after.seen
-  -- Where it is refused, and over a station that is not empty, at most the line of the answer is told.
+  -- Where it is refused, at most the line of the answer is told, and nothing else changes.
   pub unmade : before.station_tells → before.config_tells → IsUnmade answer →
       Tells (line_for before answer) before after
+  -- So it is over a station that is not empty.
   pub quiet : before.station_tells → before.config_tells → 0 < length before.seen →
       Tells (line_for before answer) before after
+  -- The line of any answer but `Done` is told last, unless the station's count rose.
   pub last : before.station_tells → before.config_tells → answer ≢ Done → Ends (line_for before answer) before after
-  -- Which answer it is, and when it is `Done`.
+  -- The answer is the first thing that is wrong; a fault of the outside and want of memory have no place in this order.
   pub answer_is : before.station_tells → before.site_tells → before.config_tells →
       InitAnswers (config_of_bytes before.config) before.files before.seen answer
+  -- Where the configuration, all heads and the empty station are sound and no count of the outside rises, it is `Done`,
+  -- or memory ran out.
   pub complete : before.station_tells → before.site_tells → before.config_tells → (c : Config) →
       config_of_bytes before.config ≡ Ok c → AreSound c before.files (length c.gauges) → length before.seen ≡ 0 →
       ¬ CountRose before.config_faults after.config_faults → ¬ CountRose before.site_faults after.site_faults →
       ¬ CountRose before.station_faults after.station_faults → (answer ≡ Done) ⊎ (answer ≡ OutOfMemory)
+  -- No other answers are given than those of `init`.
   pub kind : IsInit answer
+  -- A read fault is answered only where the configuration's or the site's count of faults rose.
   pub read : answer ≡ ReadFault → CountRose before.config_faults after.config_faults ⊎
       CountRose before.site_faults after.site_faults
+  -- A station fault is answered only where the station's count rose.
   pub disk : answer ≡ DiskFault → CountRose before.station_faults after.station_faults
-  -- The gauges' files are asked for, gauge by gauge, and no other: none where the configuration is
-  -- refused, and none behind a recording that is refused.
+  -- The gauges' files are asked for, gauge by gauge, and no other: none where the configuration is refused, and none
+  -- behind a recording that is refused.
   pub asked : before.config_tells →
       InitAsks answer before.names_asked after.names_asked (names_in (config_of_bytes before.config))
-  -- What stays.
+  -- Nothing is printed.
   pub nothing : before.output_tells → after.written ≡ before.written
-  pub back : after.out ≡ 0
-  pub files : before.site_tells → after.files ≡ before.files

@@ -1,4 +1,3 @@
-pub mod Line
 pub mod Figures
 pub mod Printed
 pub mod Numbers
@@ -11,3 +10,7 @@ pub mod SheetRun
 pub mod CountRun
 pub mod AuditRun
 pub mod DemoRun
+pub mod StoreRun
+pub mod WindowRun
+pub mod CompactRun
+pub mod Run

@@ -41,8 +41,6 @@ pub(crate) fn told_column<T: Site, K: Station, O: Sink>(
     ensures last { K.tells → result ≢ Status.Done →
         CountRose (K.faults station.old) (K.faults station.new) ⊎
         EndsIn (fault_line result file.now) (K.told station.new) }
-    ensures back { T.out site.new ≡ 0 }
-    ensures files { T.tells → T.files site.new ≡ T.files site.old }
 {
     let Ok(mut line) = FaultLine::new(alloc, file.len()) else {
         return no_memory(station);

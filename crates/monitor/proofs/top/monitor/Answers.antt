@@ -1,248 +1,284 @@
-use Rattle.std.proofs.Common.{◌≡◌, inr, refl, ◌∙◌, ap, sym, map, string_bytes}
-use Rattle.std.specs.Prelude.{Some}
-use Rattle.command_words.specs.Line.{Table, Demo, Column, command_of}
-use Rattle.command_words.specs.Commands.{meaning_of}
-use Rattle.file_commands.specs.file_tasks.Run.{outside}
+use Rattle.std.proofs.Common.{refl, sym, ◌∙◌, ap, subst}
+use Rattle.std.specs.Prelude.{Option, IfSome}
+use Rattle.command_words.specs.Commands.{meaning_of, IsWithinRanges}
+use Rattle.command_words.specs.declared.command.Command.{Command as Named}
+use Rattle.init_command.specs.Init.{IsInit}
+use Rattle.demo_command.specs.Answer.{IsDemoAnswer}
+use Rattle.status.specs.Printing.{IsReporting}
+use Rattle.status.specs.declared.status.Status.{Status}
+use Rattle.monitor.proofs.NoMemory.{ends_in}
+use Rattle.report_command.specs.declared.window_counts.counting.Times.{Times}
+use Rattle.report_command.proofs.on_window_counts.Adding.{times_passed}
 use Rattle.monitor.specs.Shown.{shown_by}
-use Rattle.monitor.proofs.NoMemory.{nothing_done, init_without_memory, report_without_memory, demo_without_memory, ends_at, table_last, column_last, demo_last, usage_last}
-use Rattle.monitor.proofs.CountLeft.{count_without_memory}
-use Rattle.monitor.proofs.AuditLeft.{audit_without_memory}
-use Rattle.monitor.proofs.RepeatLeft.{repeat_without_memory}
-use Rattle.monitor.proofs.SheetLeft.{sheet_without_memory}
+use Rattle.monitor.specs.WindowRun.{WindowRuns}
+use Rattle.monitor.proofs.StoreLeft.{store_run}
+use Rattle.monitor.proofs.Runs.{of_words, is_run, back_of, files_of, refused, not_done, left_run}
 use Rattle.monitor.proofs.top.monitor.Goals as goal
 
-pub returns-in-Ok-Some-Table-clause-last : goal.returns-in-Ok-Some-Table-clause-last
-returns-in-Ok-Some-Table-clause-last g c = λ name told tells some.
+pub returns-in-Ok-Some-Table : goal.returns-in-Ok-Some-Table
+returns-in-Ok-Some-Table g c =
     let here = c.in-Ok-Some-Table in
-    let words = command_of (map string_bytes c.args.words.now) in
-    let is : words ≡ Some (Table here.file.now) = sym here.ensures.line ∙ ap meaning_of here.field-0-is ∙ ap (λ x. meaning_of (Some x))
-    here.field-0-0-is in
-    table_last words here.file.now name c.told_table.result
-    (shown_by g.C.Source g.T.Site g.K.Station g.O.Sink c.args.config.now c.args.site.now c.args.station.now c.args.out.now)
-    (shown_by g.C.Source g.T.Site g.K.Station g.O.Sink c.args.config.now c.told_table.new.site c.told_table.new.station
-    c.told_table.new.out)
-    is told (c.told_table.ensures.last tells some)
+    let run = c.told_table.ensures in
+    record {
+      run = is_run (of_words here.ensures.line here.field-0-is here.field-0-0-is)
+          (record {
+            run = run.run;
+            tells = record { told = run.told; silent = run.silent; last = run.last };
+            unread = refl;
+          })
+          run.named (back_of run.run) (files_of run.run);
+    }
 
-pub returns-in-Ok-Some-Init-clause-init : goal.returns-in-Ok-Some-Init-clause-init
-returns-in-Ok-Some-Init-clause-init g c = λ is.
+pub returns-in-Ok-Some-Init : goal.returns-in-Ok-Some-Init
+returns-in-Ok-Some-Init g c =
+    let here = c.in-Ok-Some-Init in
     let run = c.init_command.ensures in
-    let k = g.K.Station in
-    let now = c.init_command.new.station in
     record {
-      made = run.made;
-      told = run.told;
-      any_moment = run.any_moment;
-      ended = λ tells shows gives bridge read none.
-          let moments = run.any_moment tells shows gives bridge read none in
-          moments.each (k.told now) (k.seen now) (g.met.K.Station.counts_now tells now (k.clock c.args.station.now) (k.seen now)
-          moments.later (g.met.K.Station.seen_counts tells now));
-      unmade = run.unmade;
-      quiet = run.quiet;
-      last = run.last;
-      answer_is = run.answer;
-      complete = run.complete;
-      kind = run.kind;
-      read = run.read;
-      disk = run.disk;
-      asked = run.asked;
-      nothing = λ shows. refl;
-      back = run.back;
-      files = run.files;
+      run = is_run (of_words here.ensures.line here.field-0-is here.field-0-0-is)
+          (record {
+            made = run.made;
+            told = run.told;
+            any_moment = run.any_moment;
+            ended = λ tells shows gives bridge read none.
+                let k = g.K.Station in
+                let now = c.init_command.new.station in
+                let moments = run.any_moment tells shows gives bridge read none in
+                moments.each (k.told now) (k.seen now) (g.met.K.Station.counts_now tells now (k.clock c.args.station.now) (k.seen now)
+                moments.later (g.met.K.Station.seen_counts tells now));
+            unmade = run.unmade;
+            quiet = run.quiet;
+            last = run.last;
+            answer_is = run.answer;
+            complete = run.complete;
+            kind = run.kind;
+            read = run.read;
+            disk = run.disk;
+            asked = run.asked;
+            nothing = λ shows. refl;
+          })
+          (λ is. subst (λ (x : Status). IsInit x) is run.kind) run.back run.files;
     }
 
-pub returns-in-Ok-None-clause-last : goal.returns-in-Ok-None-clause-last
-returns-in-Ok-None-clause-last g c = λ name told tells some.
-    usage_last c.usage.result name
-    (shown_by g.C.Source g.T.Site g.K.Station g.O.Sink c.args.config.now c.args.site.now c.args.station.now c.args.out.now)
-    (shown_by g.C.Source g.T.Site g.K.Station g.O.Sink c.args.config.now c.args.site.now c.usage.new.station c.args.out.now)
-    c.usage.ensures.status (c.usage.ensures.last tells)
-
-pub returns-in-Err-clause-table : goal.returns-in-Err-clause-table
-returns-in-Err-clause-table g c = λ file is.
-    inr (nothing_done (outside g.T.Site g.O.Sink c.args.site.now c.args.out.now) c.no_memory.result c.no_memory.ensures.status
-    c.requires.home)
-
-pub returns-in-Err-clause-init : goal.returns-in-Err-clause-init
-returns-in-Err-clause-init g c = λ is.
-    init_without_memory (shown_by g.C.Source g.T.Site g.K.Station g.O.Sink c.args.config.now c.args.site.now c.args.station.now
-    c.args.out.now)
-    (shown_by g.C.Source g.T.Site g.K.Station g.O.Sink c.args.config.now c.args.site.now c.no_memory.new.station c.args.out.now)
-    c.no_memory.result c.no_memory.ensures.status (λ tells. g.met.K.Station.seen_counts tells c.args.station.now)
-    c.no_memory.ensures.told c.no_memory.ensures.last (λ shows. refl) c.requires.home (λ shows. refl) (λ names has. has)
-
-pub returns-in-Ok-Some-Report-clause-report : goal.returns-in-Ok-Some-Report-clause-report
-returns-in-Ok-Some-Report-clause-report g c = λ is.
-    let run = c.report_command.ensures in
-    record {
-      prints = run.prints;
-      kept = run.kept;
-      nothing = run.nothing;
-      quiet = run.quiet;
-      silent = run.silent;
-      last = λ tells some.
-          ends_at (shown_by g.C.Source g.T.Site g.K.Station g.O.Sink c.args.config.now c.args.site.now c.args.station.now c.args.out.now)
-          (shown_by g.C.Source g.T.Site g.K.Station g.O.Sink c.report_command.new.config c.args.site.now c.report_command.new.station
-          c.report_command.new.out)
-          _ (run.last tells some);
-      answer_is = run.answer;
-      complete = run.complete;
-      kind = run.kind;
-      read = run.read;
-      write = run.write;
-      disk = run.disk;
-      asked = λ names has. has;
-    }
-
-pub returns-in-Err-clause-report : goal.returns-in-Err-clause-report
-returns-in-Err-clause-report g c = λ is.
-    report_without_memory (shown_by g.C.Source g.T.Site g.K.Station g.O.Sink c.args.config.now c.args.site.now c.args.station.now
-    c.args.out.now)
-    (shown_by g.C.Source g.T.Site g.K.Station g.O.Sink c.args.config.now c.args.site.now c.no_memory.new.station c.args.out.now)
-    c.no_memory.result c.no_memory.ensures.status c.no_memory.ensures.told c.no_memory.ensures.last refl (λ names has. has)
-
-pub returns-in-Err-clause-demo : goal.returns-in-Err-clause-demo
-returns-in-Err-clause-demo g c = λ seed samples workers is.
-    demo_without_memory seed samples g.O.Sink.tells (g.O.Sink.written c.args.out.now) (g.O.Sink.faults c.args.out.now) c.no_memory.result
-    c.no_memory.ensures.status
-
-pub returns-in-Ok-Some-Demo-clause-last : goal.returns-in-Ok-Some-Demo-clause-last
-returns-in-Ok-Some-Demo-clause-last g c = λ name told tells some.
-    let here = c.in-Ok-Some-Demo in
-    let words = command_of (map string_bytes c.args.words.now) in
-    let is : words ≡ Some (Demo here.seed here.samples here.workers) = sym here.ensures.line ∙ ap meaning_of here.field-0-is
-    ∙ ap (λ x. meaning_of (Some x)) here.field-0-0-is in
-    demo_last words here.seed here.samples here.workers name c.told_demo.result
-    (shown_by g.C.Source g.T.Site g.K.Station g.O.Sink c.args.config.now c.args.site.now c.args.station.now c.args.out.now)
-    (shown_by g.C.Source g.T.Site g.K.Station g.O.Sink c.args.config.now c.args.site.now c.told_demo.new.station c.told_demo.new.out)
-    is told (c.told_demo.ensures.last tells some)
-
-pub returns-in-Ok-Some-Count-clause-count : goal.returns-in-Ok-Some-Count-clause-count
-returns-in-Ok-Some-Count-clause-count g c = λ workers is.
+pub returns-in-Ok-Some-Count : goal.returns-in-Ok-Some-Count
+returns-in-Ok-Some-Count g c =
+    let here = c.in-Ok-Some-Count in
     let run = c.count_command.ensures in
     record {
-      every_moment = run.every_moment;
-      appends = run.appends;
-      truly = run.truly;
-      ended = run.ended;
-      cut = run.cut;
-      prints = run.prints;
-      nothing = run.nothing;
-      acknowledged = run.acknowledged;
-      answer_is = run.answer;
-      complete = run.complete;
-      quiet = run.quiet;
-      named = run.named;
-      read = run.read;
-      write = run.write;
-      disk = run.disk;
-      asked = run.asked;
-      last = run.last;
+      run = is_run (of_words here.ensures.line here.field-0-is here.field-0-0-is)
+          (record {
+            every_moment = run.every_moment;
+            appends = run.appends;
+            truly = run.truly;
+            paced = run.paced;
+            ended = run.ended;
+            cut = run.cut;
+            prints = run.prints;
+            nothing = run.nothing;
+            acknowledged = run.acknowledged;
+            answer_is = run.answer;
+            complete = run.complete;
+            quiet = run.quiet;
+            read = run.read;
+            write = run.write;
+            disk = run.disk;
+            asked = run.asked;
+            last = run.last;
+          })
+          run.named run.back run.files;
     }
 
-pub returns-in-Err-clause-count : goal.returns-in-Err-clause-count
-returns-in-Err-clause-count g c = λ workers is.
-    count_without_memory (shown_by g.C.Source g.T.Site g.K.Station g.O.Sink c.args.config.now c.args.site.now c.args.station.now
-    c.args.out.now)
-    (shown_by g.C.Source g.T.Site g.K.Station g.O.Sink c.args.config.now c.args.site.now c.no_memory.new.station c.args.out.now)
-    c.no_memory.result c.no_memory.ensures.status (λ tells. g.met.K.Station.only_now tells c.args.station.now)
-    c.no_memory.ensures.told c.no_memory.ensures.last refl (λ names has. has)
+pub returns-in-Ok-Some-Report : goal.returns-in-Ok-Some-Report
+returns-in-Ok-Some-Report g c =
+    let here = c.in-Ok-Some-Report in
+    let run = c.report_command.ensures in
+    record {
+      run = is_run (of_words here.ensures.line here.field-0-is here.field-0-0-is)
+          (record {
+            prints = run.prints;
+            kept = run.kept;
+            nothing = run.run.nothing;
+            tells = record {
+              told = run.run.quiet;
+              silent = run.run.silent;
+              last = λ tells some. ends_in (g.K.Station.told c.args.station.now) _ (run.run.last tells some);
+            };
+            answer_is = run.run.answer_is;
+            complete = run.run.complete;
+            kind = run.run.kind;
+            read = run.run.read;
+            write = run.run.write;
+            disk = run.run.disk;
+            asked = λ names has. has;
+          })
+          (λ is. subst (λ (x : Status). IsReporting x) is run.run.kind) c.requires.home (λ tells. refl);
+    }
 
-pub returns-in-Ok-Some-Audit-clause-audit : goal.returns-in-Ok-Some-Audit-clause-audit
-returns-in-Ok-Some-Audit-clause-audit g c = λ is.
+pub returns-in-Ok-Some-Audit : goal.returns-in-Ok-Some-Audit
+returns-in-Ok-Some-Audit g c =
+    let here = c.in-Ok-Some-Audit in
     let run = c.audit_command.ensures in
     record {
-      answer_is = run.answer;
-      complete = run.complete;
-      stands = run.stands;
-      prints = run.prints;
-      nothing = run.nothing;
-      quiet = run.quiet;
-      silent = run.silent;
-      last = λ tells reads some.
-          ends_at (shown_by g.C.Source g.T.Site g.K.Station g.O.Sink c.args.config.now c.args.site.now c.args.station.now c.args.out.now)
-          (shown_by g.C.Source g.T.Site g.K.Station g.O.Sink c.audit_command.new.config c.audit_command.new.site c.audit_command.new.station
-          c.audit_command.new.out)
-          _ (run.last tells reads some);
-      named = run.named;
-      read = run.read;
-      write = run.write;
-      disk = run.disk;
-      asked = run.asked;
+      run = is_run (of_words here.ensures.line here.field-0-is here.field-0-0-is)
+          (record {
+            answer_is = run.answer;
+            complete = run.complete;
+            stands = run.stands;
+            prints = run.prints;
+            nothing = run.nothing;
+            quiet = run.quiet;
+            silent = run.silent;
+            last = λ tells reads some. ends_in (g.K.Station.told c.args.station.now) _ (run.last tells reads some);
+            read = run.read;
+            write = run.write;
+            disk = run.disk;
+            asked = run.asked;
+          })
+          run.named run.back run.files;
     }
 
-pub returns-in-Err-clause-audit : goal.returns-in-Err-clause-audit
-returns-in-Err-clause-audit g c = λ is.
-    audit_without_memory (shown_by g.C.Source g.T.Site g.K.Station g.O.Sink c.args.config.now c.args.site.now c.args.station.now
-    c.args.out.now)
-    (shown_by g.C.Source g.T.Site g.K.Station g.O.Sink c.args.config.now c.args.site.now c.no_memory.new.station c.args.out.now)
-    c.no_memory.result c.no_memory.ensures.status c.no_memory.ensures.told c.no_memory.ensures.last refl (λ names has. has)
+pub returns-in-Ok-Some-Demo : goal.returns-in-Ok-Some-Demo
+returns-in-Ok-Some-Demo g c =
+    let here = c.in-Ok-Some-Demo in
+    let run = c.told_demo.ensures in
+    record {
+      run = is_run (of_words here.ensures.line here.field-0-is here.field-0-0-is)
+          (record {
+            done = run.done;
+            front = run.front;
+            nothing = run.nothing;
+            some = run.some;
+            kind = run.kind;
+            write = run.write;
+            asked = λ names has. has;
+            tells = record { told = run.told; silent = run.silent; last = run.last };
+            unread = refl;
+          })
+          (λ is. subst (λ (x : Status). IsDemoAnswer x) is run.kind) c.requires.home (λ tells. refl);
+    }
 
-pub returns-in-Ok-Some-Repeat-clause-repeat : goal.returns-in-Ok-Some-Repeat-clause-repeat
-returns-in-Ok-Some-Repeat-clause-repeat g c = λ is.
+pub returns-in-Ok-Some-Repeat : goal.returns-in-Ok-Some-Repeat
+returns-in-Ok-Some-Repeat g c =
+    let here = c.in-Ok-Some-Repeat in
     let run = c.repeat_command.ensures in
     record {
-      prints = run.prints;
-      nothing = run.nothing;
-      quiet = run.quiet;
-      silent = run.silent;
-      last = λ tells some.
-          ends_at (shown_by g.C.Source g.T.Site g.K.Station g.O.Sink c.args.config.now c.args.site.now c.args.station.now c.args.out.now)
-          (shown_by g.C.Source g.T.Site g.K.Station g.O.Sink c.repeat_command.new.config c.args.site.now c.repeat_command.new.station
-          c.repeat_command.new.out)
-          _ (run.last tells some);
-      answer_is = run.answer;
-      complete = run.complete;
-      kind = run.kind;
-      read = run.read;
-      write = run.write;
-      disk = run.disk;
-      asked = λ names has. has;
+      run = is_run (of_words here.ensures.line here.field-0-is here.field-0-0-is)
+          (record {
+            prints = run.prints;
+            nothing = run.run.nothing;
+            tells = record {
+              told = run.run.quiet;
+              silent = run.run.silent;
+              last = λ tells some. ends_in (g.K.Station.told c.args.station.now) _ (run.run.last tells some);
+            };
+            answer_is = run.run.answer_is;
+            complete = run.run.complete;
+            kind = run.run.kind;
+            read = run.run.read;
+            write = run.run.write;
+            disk = run.run.disk;
+            asked = λ names has. has;
+          })
+          (λ is. subst (λ (x : Status). IsReporting x) is run.run.kind) c.requires.home (λ tells. refl);
     }
 
-pub returns-in-Err-clause-repeat : goal.returns-in-Err-clause-repeat
-returns-in-Err-clause-repeat g c = λ is.
-    repeat_without_memory (shown_by g.C.Source g.T.Site g.K.Station g.O.Sink c.args.config.now c.args.site.now c.args.station.now
-    c.args.out.now)
-    (shown_by g.C.Source g.T.Site g.K.Station g.O.Sink c.args.config.now c.args.site.now c.no_memory.new.station c.args.out.now)
-    c.no_memory.result c.no_memory.ensures.status c.no_memory.ensures.told c.no_memory.ensures.last refl (λ names has. has)
-
-pub returns-in-Ok-Some-Column-clause-last : goal.returns-in-Ok-Some-Column-clause-last
-returns-in-Ok-Some-Column-clause-last g c = λ name told tells some.
+pub returns-in-Ok-Some-Column : goal.returns-in-Ok-Some-Column
+returns-in-Ok-Some-Column g c =
     let here = c.in-Ok-Some-Column in
-    let words = command_of (map string_bytes c.args.words.now) in
-    let is : words ≡ Some (Column here.file.now here.name.now here.id here.period_us) = sym here.ensures.line ∙ ap meaning_of
-    here.field-0-is ∙ ap (λ x. meaning_of (Some x)) here.field-0-0-is in
-    column_last words here.file.now here.name.now here.id here.period_us name c.told_column.result
-    (shown_by g.C.Source g.T.Site g.K.Station g.O.Sink c.args.config.now c.args.site.now c.args.station.now c.args.out.now)
-    (shown_by g.C.Source g.T.Site g.K.Station g.O.Sink c.args.config.now c.told_column.new.site c.told_column.new.station
-    c.told_column.new.out)
-    is told (c.told_column.ensures.last tells some)
+    let run = c.told_column.ensures in
+    record {
+      run = is_run (of_words here.ensures.line here.field-0-is here.field-0-0-is)
+          (record {
+            run = run.run;
+            tells = record { told = run.told; silent = run.silent; last = run.last };
+            unread = refl;
+          })
+          run.named (back_of run.run) (files_of run.run);
+    }
 
-pub returns-in-Err-clause-column : goal.returns-in-Err-clause-column
-returns-in-Err-clause-column g c = λ file name id period is.
-    inr (nothing_done (outside g.T.Site g.O.Sink c.args.site.now c.args.out.now) c.no_memory.result c.no_memory.ensures.status
-    c.requires.home)
-
-pub returns-in-Ok-Some-Sheet-clause-sheet : goal.returns-in-Ok-Some-Sheet-clause-sheet
-returns-in-Ok-Some-Sheet-clause-sheet g c = λ is.
+pub returns-in-Ok-Some-Sheet : goal.returns-in-Ok-Some-Sheet
+returns-in-Ok-Some-Sheet g c =
+    let here = c.in-Ok-Some-Sheet in
     let run = c.sheet_command.ensures in
     record {
-      prints = run.prints;
-      nothing = run.nothing;
-      quiet = run.quiet;
-      silent = run.silent;
-      last = run.last;
-      answer_is = run.answer;
-      complete = run.complete;
-      named = run.named;
-      read = run.read;
-      write = run.write;
-      asked = run.asked;
+      run = is_run (of_words here.ensures.line here.field-0-is here.field-0-0-is)
+          (record {
+            prints = run.prints;
+            nothing = run.nothing;
+            quiet = run.quiet;
+            silent = run.silent;
+            last = run.last;
+            answer_is = run.answer;
+            complete = run.complete;
+            read = run.read;
+            write = run.write;
+            asked = run.asked;
+          })
+          run.named run.back run.files;
     }
 
-pub returns-in-Err-clause-sheet : goal.returns-in-Err-clause-sheet
-returns-in-Err-clause-sheet g c = λ is.
-    sheet_without_memory (shown_by g.C.Source g.T.Site g.K.Station g.O.Sink c.args.config.now c.args.site.now c.args.station.now
-    c.args.out.now)
-    (shown_by g.C.Source g.T.Site g.K.Station g.O.Sink c.args.config.now c.args.site.now c.no_memory.new.station c.args.out.now)
-    c.no_memory.result c.no_memory.ensures.status c.no_memory.ensures.told c.no_memory.ensures.last refl (λ names has. has)
+pub returns-in-Ok-Some-Window : goal.returns-in-Ok-Some-Window
+returns-in-Ok-Some-Window g c =
+    let here = c.in-Ok-Some-Window in
+    let run = c.window_command.ensures in
+    let ranges = subst IsWithinRanges here.field-0-0-is
+    (subst (λ (r : Option Named). IfSome r IsWithinRanges) here.field-0-is here.ensures.ranges) in
+    let before = shown_by g.C.Source g.T.Site g.K.Station g.O.Sink c.args.config.now c.args.site.now c.args.station.now c.args.out.now in
+    let after = shown_by g.C.Source g.T.Site g.K.Station g.O.Sink c.window_command.new.config c.args.site.now
+    c.window_command.new.station c.window_command.new.out in
+    record {
+      run = is_run (of_words here.ensures.line here.field-0-is here.field-0-0-is)
+          (subst (λ (t : Times). WindowRuns t before after c.window_command.result)
+          (times_passed here.start here.from here.to ranges.0 ranges.1 ranges.2) (record {
+            prints = run.prints;
+            kept = run.kept;
+            run = store_run g.C.Source g.T.Site g.K.Station g.O.Sink c.args.config.now c.window_command.new.config c.args.site.now
+                c.args.station.now c.window_command.new.station c.args.out.now c.window_command.new.out c.window_command.result run.run;
+          }))
+          (λ is. subst (λ (x : Status). IsReporting x) is run.run.kind) c.requires.home (λ tells. refl);
+    }
+
+pub returns-in-Ok-Some-Compact : goal.returns-in-Ok-Some-Compact
+returns-in-Ok-Some-Compact g c =
+    let here = c.in-Ok-Some-Compact in
+    let run = c.compact_command.ensures in
+    record {
+      run = is_run (of_words here.ensures.line here.field-0-is here.field-0-0-is)
+          (record {
+            copies = run.copies;
+            holds = run.holds;
+            run = store_run g.C.Source g.T.Site g.K.Station g.O.Sink c.args.config.now c.compact_command.new.config c.args.site.now
+                c.args.station.now c.compact_command.new.station c.args.out.now c.compact_command.new.out c.compact_command.result
+                run.run;
+          })
+          (λ is. subst (λ (x : Status). IsReporting x) is run.run.kind) c.requires.home (λ tells. refl);
+    }
+
+pub returns-in-Ok-None : goal.returns-in-Ok-None
+returns-in-Ok-None g c =
+    let here = c.in-Ok-None in
+    let run = c.usage.ensures in
+    record {
+      run = is_run (sym here.ensures.line ∙ ap meaning_of here.field-0-is) (record {
+        run = refused run.status (record { written = refl; asked = λ names has. has; back = c.requires.home; files = λ tells. refl });
+        tells = record {
+          told = run.told;
+          silent = λ tells done. absurd (not_done run.status done);
+          last = λ tells some. run.last tells;
+        };
+        unread = refl;
+      })
+          run.status c.requires.home (λ tells. refl);
+    }
+
+pub returns-in-Err : goal.returns-in-Err
+returns-in-Err g c =
+    let run = c.no_memory.ensures in
+    record {
+      run = left_run run.status refl (record {
+        counts = λ tells. g.met.K.Station.seen_counts tells c.args.station.now;
+        only = λ tells. g.met.K.Station.only_now tells c.args.station.now;
+        tells = run.told;
+        ends = run.last;
+        same = record { written = refl; asked = λ names has. has; back = c.requires.home; files = λ tells. refl };
+      });
+    }

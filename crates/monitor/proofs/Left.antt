@@ -1,0 +1,24 @@
+-- Memory ran out while the words were read.
+--   Untouched   nothing was asked for and nothing printed
+--   LeftEarly   besides, the line of the answer is told at most, and nothing else changes
+use Rattle.std.specs.Prelude.{◌≡◌, []}
+use Rattle.outside.specs.Site.{AsksNothing}
+use Rattle.outside.specs.station.Station.{Image, Lines}
+use Rattle.file_commands.specs.file_tasks.Run.{Outside}
+use Rattle.status.specs.declared.status.Status.TheVariants.{OutOfMemory}
+use Rattle.status.specs.fault_lines.FaultLine.{fault_line}
+use Rattle.monitor.specs.Shown.{Shown, outside_in, Tells, Ends}
+
+pub record Untouched (before after : Outside) : Type 0 where
+  pub written : after.written ≡ before.written
+  pub asked : AsksNothing before.names_asked after.names_asked
+  pub back : after.out ≡ 0
+  pub files : before.site_tells → after.files ≡ before.files
+
+pub record LeftEarly (before after : Shown) : Type 0 where
+  pub counts : before.station_tells → before.leaves before.seen
+  pub only : before.station_tells → (lines : Lines) (image : Image) → before.moments before.clock lines image →
+      (lines ≡ before.told) × before.leaves image
+  pub tells : before.station_tells → Tells (fault_line OutOfMemory []) before after
+  pub ends : before.station_tells → Ends (fault_line OutOfMemory []) before after
+  pub same : Untouched (outside_in before) (outside_in after)
