@@ -205,7 +205,8 @@ fn faults_of_the_outside(rt: HostRuntime) -> Result<(), Fail> {
             Status::Usage,
             "usage: monitor table FILE | init | count [--workers N] | report | audit | \
              demo [--seed N] [--samples N] [--workers N] | repeat | \
-             column FILE NAME ID PERIOD | sheet",
+             column FILE NAME ID PERIOD | sheet | window START FROM TO | \
+             compact",
         ),
         (Status::ReadFault, "read fault"),
         (Status::WriteFault, "write fault"),

@@ -8,11 +8,15 @@
 #[cfg(test)]
 mod audit_runs;
 #[cfg(test)]
+mod bodies;
+#[cfg(test)]
 mod changes;
 #[cfg(test)]
 mod column_runs;
 #[cfg(test)]
 mod columns;
+#[cfg(test)]
+mod compact_runs;
 #[cfg(test)]
 mod configuration_readings;
 #[cfg(test)]
@@ -61,5 +65,7 @@ mod sites;
 mod stops;
 #[cfg(test)]
 mod usual;
+#[cfg(test)]
+mod window_runs;
 #[cfg(test)]
 mod words;

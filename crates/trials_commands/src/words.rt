@@ -120,3 +120,57 @@ fn lines_of_others(rt: HostRuntime) -> Result<(), Fail> {
     assert_eq!(rt; read_words(rt.alloc(), &none)?, None);
     Ok(())
 }
+
+// A line, and where sample 0 stands, where the window begins and where it ends, in nanoseconds, or
+// none where the line is refused.
+const WINDOWS: &[(&str, Option<(i128, i128, i128)>)] = &[
+    (
+        "window 2024-01-01T00:00:00Z 1969-12-31T23:59:59.5Z 2024-01-01T00:00:00.000000001Z",
+        Some((
+            1_704_067_200_000_000_000,
+            -500_000_000,
+            1_704_067_200_000_000_001,
+        )),
+    ),
+    (
+        "window 2024-01-01T01:00:00+01:00 1970-01-01T00:00:00Z 1970-01-01T00:00:00Z",
+        Some((1_704_067_200_000_000_000, 0, 0)),
+    ),
+    (
+        "window 1970-01-01T00:00:00Z -- -009999-01-02T01:59:59Z 9999-12-30T22:00:00.999999999Z",
+        Some((0, -377_705_023_201_000_000_000, 253_402_207_200_999_999_999)),
+    ),
+    (
+        "window 1970-01-01T00:00:00Z 1970-01-01T00:00:01Z 1970-01-01T00:00:00Z",
+        None,
+    ),
+    (
+        "window 1970-01-01T00:00:00Z 1970-01-01T00:00:01Z noon",
+        None,
+    ),
+    (
+        "window 1970-01-01T00:00:00Z 1970-01-01T00:00:00Z 9999-12-31T23:59:59Z",
+        None,
+    ),
+    ("window 1970-01-01T00:00:00Z 1970-01-01T00:00:00Z", None),
+    ("window 1970-01-01 1970-01-02 1970-01-03", None),
+];
+
+#[test]
+fn lines_of_window(rt: HostRuntime) -> Result<(), Fail> {
+    for &(line, times) in WINDOWS {
+        let words = words_of(&rt, line)?;
+        let command = times.map(|(start, from, to)| Command::Window { start, from, to });
+        assert_eq!(rt; read_words(rt.alloc(), &words)?, command);
+    }
+    Ok(())
+}
+
+#[test]
+fn lines_of_compact(rt: HostRuntime) -> Result<(), Fail> {
+    let words = words_of(&rt, "compact")?;
+    assert_eq!(rt; read_words(rt.alloc(), &words)?, Some(Command::Compact));
+    let words = words_of(&rt, "compact x")?;
+    assert_eq!(rt; read_words(rt.alloc(), &words)?, None);
+    Ok(())
+}

@@ -1,7 +1,8 @@
-//! Tests of the outside in memory, of recordings, rounds and whole stores, beside what their
-//! contracts prove: faults of sources, sinks and stations, the bytes of a store against a
-//! written example, every moment of making and of putting, and stores that were changed, cut,
-//! padded, put together from others, or grow while they are read. There is no code but the tests.
+//! Tests of the outside in memory, of recordings, live views, rounds and whole stores, beside what
+//! their contracts prove: faults of sources, sinks and stations, looks beside shows, the bytes of a
+//! store against a written example, every moment of making and of putting, and stores that were
+//! changed, cut, padded, put together from others, or grow while they are read. There is no code
+//! but the tests.
 #![tactic(auto)]
 
 #[cfg(test)]
@@ -18,6 +19,8 @@ mod deposits;
 mod growing;
 #[cfg(test)]
 mod lane_ends;
+#[cfg(test)]
+mod live_views;
 #[cfg(test)]
 mod moments;
 #[cfg(test)]

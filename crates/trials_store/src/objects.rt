@@ -74,6 +74,34 @@ fn a_steady_source_fills_each_buffer(rt: HostRuntime) -> Result<(), Fail> {
     Ok(())
 }
 
+// A skip that failed skips nothing, and no skip passes the end.
+#[test]
+fn skips_are_short_and_fail_by_number(rt: HostRuntime) -> Result<(), Fail> {
+    let alloc = rt.alloc();
+    let bytes = vec![in alloc; 1, 2, 3, 4, 5, 6]?;
+    let mut source = BytesSource::new(bytes, 2, vec![in alloc; 1, 6]?);
+    for (most, skipped) in [(3, Ok(2)), (3, Err(Failed)), (1, Ok(1)), (0, Ok(0))] {
+        assert_eq!(rt; source.skip(most), skipped);
+    }
+    assert_eq!(rt; take_four(&mut source), (Ok(2), [4, 5, 0, 0]));
+    for (most, skipped) in [(9, Ok(1)), (9, Err(Failed)), (9, Ok(0))] {
+        assert_eq!(rt; source.skip(most), skipped);
+    }
+    Ok(())
+}
+
+#[test]
+fn a_steady_source_skips_all_at_once(rt: HostRuntime) -> Result<(), Fail> {
+    let bytes = vec![in rt.alloc(); 1, 2, 3, 4, 5]?;
+    let mut source = SteadySource::new(bytes);
+    assert_eq!(rt; source.skip(3), Ok(3));
+    assert_eq!(rt; take_four(&mut source), (Ok(2), [4, 5, 0, 0]));
+    assert_eq!(rt; source.skip(3), Ok(0));
+    let bytes = vec![in rt.alloc(); 1, 2, 3, 4, 5]?;
+    assert_eq!(rt; SteadySource::new(bytes).skip(u64::MAX), Ok(5));
+    Ok(())
+}
+
 #[test]
 fn puts_fail_by_number_and_past_the_room(rt: HostRuntime) -> Result<(), Fail> {
     let alloc = rt.alloc();

@@ -64,6 +64,41 @@ fn samples_are_skipped_by_takes_of_any_size(rt: HostRuntime) -> Result<(), Fail>
     Ok(())
 }
 
+// Skips of three bytes, of which one fails. Behind it stands what the samples that came before it
+// and their part sample have left.
+#[test]
+fn a_failed_skip_loses_a_part_sample(rt: HostRuntime) -> Result<(), Fail> {
+    let cases = [
+        (0, 0, (3, FillEnd::Torn(2))),
+        (1, 0, (2, FillEnd::Torn(3))),
+        (2, 1, (2, FillEnd::Ended)),
+        (3, 2, (1, FillEnd::Torn(1))),
+    ];
+    for (failing, n, rest) in cases {
+        let mut source = source_of(rt.alloc(), BODY, 3, &[failing])?;
+        assert_eq!(rt;
+            skipped(&mut source, 3),
+            (n, FillEnd::Failed),
+            "at {failing}"
+        );
+        assert_eq!(rt; skipped(&mut source, u64::MAX), rest, "at {failing}");
+    }
+    Ok(())
+}
+
+// A source that has no faster way takes what it skips.
+#[test]
+fn made_samples_are_skipped(rt: HostRuntime) -> Result<(), Fail> {
+    let mut synth = Synth::new(7, 5);
+    assert_eq!(rt; skipped(&mut synth, 2), (2, FillEnd::More));
+    assert_eq!(rt; filled(&mut synth), (2, FillEnd::More, [52, -30]));
+    assert_eq!(rt; skipped(&mut synth, 2), (1, FillEnd::Ended));
+    let mut synth = Synth::new(7, 40_000);
+    assert_eq!(rt; skipped(&mut synth, 39_999), (39_999, FillEnd::More));
+    assert_eq!(rt; skipped(&mut synth, u64::MAX), (1, FillEnd::Ended));
+    Ok(())
+}
+
 #[test]
 fn a_failed_take_loses_a_part_sample(rt: HostRuntime) -> Result<(), Fail> {
     let mut source = source_of(rt.alloc(), BODY, 3, &[2])?;
