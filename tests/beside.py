@@ -5,8 +5,8 @@ beside.py PROGRAM [SEED [TRIALS]]
 
 - Two and three `count` at once, TRIALS times (60 where it is left out), over recordings that grow between and during them. Each ends with the report of what it read, or
   is refused since another holds the store. Afterwards the report is that of all the samples.
-- `report` and `repeat` beside a `count` with a backlog, until TRIALS of them began and ended while it ran. Each prints what is held of a front
-  of each recording, with at least what was acknowledged before it began.
+- `report`, `repeat`, `window` and `compact` beside a `count` with a backlog, until TRIALS of them began and ended while it ran. Each prints what is
+  held of a front of each recording, with at least what was acknowledged before it began.
 - Two `init` at once, half as often. One makes the store, the other is refused.
 - `count`, `init` and the readers beside a program that holds the store.
 What is expected comes from an independent count (model.py). Last line: beside: N passed, M failed
@@ -24,8 +24,9 @@ import time
 # No folder is made in the checkout.
 sys.dont_write_bytecode = True
 
-from model import Count, recording, repeat, report
-from trial import GAIN, GRID, Trial, held, other_lines, read, samples
+import stores
+from model import Count, recording, repeat, report, window_report
+from trial import ALL_TIME, GAIN, GRID, Trial, as_text, held, other_lines, parts, read, samples
 
 IN_USE = "monitor: monitor.store: in use by another monitor\nstation fault\n"
 NAMES = ["north", "south"]
@@ -43,7 +44,7 @@ class Run:
     """A command that runs, whose lines are read as they come."""
 
     def __init__(self, program, *words):
-        self.child = subprocess.Popen([program, *words], stdout=subprocess.PIPE, stderr=subprocess.PIPE, text=True)
+        self.child = subprocess.Popen([program, *words], stdout=subprocess.PIPE, stderr=subprocess.PIPE)
         self.told, self.printed = "", ""
         self.readers = [threading.Thread(target=read) for read in (self.read_lines, self.read_text)]
         for reader in self.readers:
@@ -51,10 +52,10 @@ class Run:
 
     def read_lines(self):
         for line in self.child.stderr:
-            self.told += line
+            self.told += as_text(line)
 
     def read_text(self):
-        self.printed = self.child.stdout.read()
+        self.printed = as_text(self.child.stdout.read())
 
     def is_running(self):
         return self.child.poll() is None
@@ -105,6 +106,31 @@ class Trials(Trial):
     def repeat(self, lengths):
         return repeat(NAMES, self.counts(lengths))
 
+    def window(self, lengths):
+        """The window of all time."""
+        return window_report(NAMES, [(0, n) for n in lengths], self.counts(lengths), [])
+
+    def copy(self, lengths):
+        head = stores.Head(GRID, [GAIN] * len(NAMES), [bytes([number]) * 16 for number in (1, 2)], [10000] * len(NAMES))
+        return as_text(stores.copy(head, self.counts(lengths)))
+
+    def check_front(self, word, end, acknowledged):
+        """What a reader printed is of a front of each recording, with at least what was acknowledged."""
+        status, printed, told = end
+        self.check("%s beside count" % word, (status, told), (0, ""))
+        if word == "repeat":
+            return
+        if word == "report":
+            there, text_of = samples(printed), self.report
+        elif word == "window":
+            there, text_of = [end for _, end in parts(printed)], self.window
+        else:
+            ends = {name.gauge: name.end for name in stores.names(printed.encode("utf-8", "surrogateescape"))}
+            there, text_of = [ends.get(gauge, 0) for gauge in range(len(NAMES))], self.copy
+        enough = [acknowledged.get(name, 0) <= n for name, n in zip(NAMES, there)]
+        self.check("what was acknowledged before %s" % word, enough, [True] * len(NAMES))
+        self.check("%s of a front" % word, printed, text_of(there))
+
     def end_of_one(self, run, before):
         """What a `count` beside others acknowledged. Its recordings had these lengths when it was started."""
         status, printed, told = run.end()
@@ -147,27 +173,24 @@ class Trials(Trial):
         return refused
 
     def read_beside(self, due):
-        """`report` and `repeat` until so many ran beside a `count`. How many did."""
+        """Readers until so many ran beside a `count`. How many did."""
         beside = grown = 0
         while beside < due and grown < 40:
             grown += 1
             self.grow(4000)
             run = Run(self.program, "count")
             while run.is_running() and beside < due:
+                words = self.rng.choice((("report",), ("report",), ("repeat",), ALL_TIME, ("compact",)))
                 acknowledged = held(run.told)
-                word = self.rng.choice(("report", "report", "repeat"))
-                status, printed, told = self.run(word)
+                end = self.run(*words)
                 beside += run.is_running()
-                self.check("%s beside count" % word, (status, told), (0, ""))
-                if word == "report":
-                    there = samples(printed)
-                    enough = [acknowledged.get(name, 0) <= n for name, n in zip(NAMES, there)]
-                    self.check("what was acknowledged", enough, [True] * len(NAMES))
-                    self.check("report of a front", printed, self.report(there))
+                self.check_front(words[0], end, acknowledged)
             status, printed, _ = run.end()
             lengths = [len(raws) for raws in self.raws]
             self.check("count with readers", (status, printed), (0, self.report(lengths)))
             self.check("repeat", self.run("repeat"), (0, self.repeat(lengths), ""))
+            self.check("window", self.run(*ALL_TIME), (0, self.window(lengths), ""))
+            self.check("compact", self.run("compact"), (0, self.copy(lengths), ""))
         return beside
 
     def init_at_once(self, store):
@@ -190,6 +213,8 @@ class Trials(Trial):
             self.check("init of a store in use", self.run("init"), (8, "", IN_USE))
             self.check("report of a store in use", self.run("report"), (0, self.report(lengths), ""))
             self.check("repeat of a store in use", self.run("repeat"), (0, self.repeat(lengths), ""))
+            self.check("window of a store in use", self.run(*ALL_TIME), (0, self.window(lengths), ""))
+            self.check("compact of a store in use", self.run("compact"), (0, self.copy(lengths), ""))
             same = "".join("audit %s same\n" % name for name in NAMES)
             self.check("audit of a store in use", self.run("audit"), (0, same, ""))
         self.check("count of a store that was let go", self.run("count")[0], 0)

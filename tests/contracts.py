@@ -4,7 +4,7 @@
   contracts.py                                    prints the figures
   contracts.py --repeated                         prints each clause that stands three times or more, and where
   contracts.py PUBLIC_LINES PARAMETERS REPEATED   ends with status 1 where a public function has more lines of clauses, a function has more
-                                                  parameters, or the clauses that stand three times or more have more places in all
+                                                  parameters, or more of a thousand clauses stand three times or more
 
 It reads the products: no crate whose name begins with trials_ or bench_, and no module of tests. A clause is `requires`, `ensures` or `ghost`, starred or
 not, between the signature of a function and its body; those of closures don't count, and a line of comment is no line of a clause. Two clauses are the
@@ -214,14 +214,14 @@ def main(words: list[str]) -> int:
     if not words:
         tell(every, repeated)
         return 0
-    lines, parameters, places_in_all = (int(it) for it in words)
+    lines, parameters, share = (int(it) for it in words)
     longest, widest = max(it.lines for it in every if it.public), max(len(it.parameters) for it in every)
-    found = sum(map(len, repeated.values()))
-    print(f"contracts: at most {longest} lines of clauses at a public function and {widest} parameters; {found} places of repeated clauses")
+    found, clauses = sum(map(len, repeated.values())), sum(len(it.clauses) for it in every)
+    print(f"contracts: at most {longest} lines of clauses at a public function and {widest} parameters; {found} of {clauses} clauses repeated")
     faults = [f"{it} has {it.lines} lines of clauses, where at most {lines} may be" for it in every if it.public and it.lines > lines]
     faults += [f"{it} has {len(it.parameters)} parameters, where at most {parameters} may be" for it in every if len(it.parameters) > parameters]
-    if found > places_in_all:
-        faults.append(f"{found} places of clauses that stand three times or more, where at most {places_in_all} may be; --repeated prints them")
+    if found * 1000 > share * clauses:
+        faults.append(f"{found} of {clauses} clauses stand three times or more, where at most {share} of 1000 may; --repeated prints them")
     for fault in faults:
         print(f"contracts: {fault}")
     return 1 if faults else 0

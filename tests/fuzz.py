@@ -9,6 +9,7 @@ Bodies of a changed store often get a digest that fits, so that what stands behi
 - the exit status is one of docs/FORMATS.md that the command may have: no signal ends the program, and no limit of time;
 - the line of the status is told last, in the form of docs/FORMATS.md, and besides only lines that acknowledge;
 - with another status than 0 nothing is printed, and with 0 the command's text is;
+- a copy that `compact` writes is one of which `report` prints what it prints of the store, and `compact` the same bytes;
 - the store is as it was where it has to be;
 - the program never takes more memory than the greatest site needs.
 The folder of a run that fails is kept and named. Last line: fuzz: N passed, M failed
@@ -29,6 +30,7 @@ import tempfile
 # No folder is made in the checkout.
 sys.dont_write_bytecode = True
 
+import instants
 from model import recording
 
 # (The name `site` is that of a module of Python.)
@@ -60,8 +62,13 @@ STATUSES = {
     "report": (0, 2, 3, 6, 8, 9),
     "repeat": (0, 2, 3, 6, 8, 9),
     "audit": (0, 2, 3, 4, 6, 8, 9, 11),
+    "window": (0, 2, 3, 6, 8, 9),
+    "compact": (0, 2, 3, 6, 8, 9),
 }
 BEGINS = {"table": b"samples ", "init": b"", "count": b"gauge ", "report": b"gauge ", "repeat": b"repeat ", "audit": b"audit "}
+BEGINS |= {"window": b"window ", "compact": b"\x01SGST\x02"}
+# The commands that read the store and no recording.
+READERS = ("report", "repeat", "window", "compact")
 NUMBERS = [0, 1, 2, 3, 7, 8, 127, 128, 129, 255, 256, 1024, 1025, 4095, 4096, 65535, 65536, 10**6, 10**9, 10**9 + 1]
 NUMBERS += [2**31 - 1, 2**31, 2**32 - 1, 2**32, 2**40 - 1, 2**40, 2**63 - 1, 2**63, 2**64 - 1, 2**64, 10**30]
 
@@ -280,19 +287,32 @@ def run(program, room, words):
 
 
 WORDS = ["", "-", "--", "-h", "--help", "--workers", "--workers=2", "--workers=0", "9", "-1", "x" * 5000, "\n", "--seed", "count"]
+TIMES = ["2024-01-01T00:00:00Z", "2024-01-01", "2024-02-30T00:00:00Z", "9999-12-31T23:59:59Z", "-009999-01-01T00:00:00Z", "-000000-01-01T00:00:00Z"]
+TIMES += ["2024-01-01T00:00:00.%sZ" % ("9" * 5000), "2024-01-01T00:00:00[UTC]", "2024-01-01T00:00:00+25:59:59[!x=y]", "20240101T000000.5Z", "noon"]
+
+
+def times(rng):
+    """The words of a window, most of them in order."""
+    if rng.random() < 0.1:
+        return [rng.choice(TIMES) for _ in range(3)]
+    # (as far apart as the bodies of a random site)
+    near = [rng.randrange(2 * 10**9) for _ in range(2)]
+    borders = near if rng.random() < 0.8 else [rng.randint(instants.EARLIEST, instants.LATEST) for _ in range(2)]
+    return instants.words(rng, 0, *(sorted(borders) if rng.random() < 0.95 else borders))
 
 
 class Case:
     """One run: the files of a site, the command and its words."""
 
     def __init__(self, rng, kept):
-        self.command = rng.choice(("table", "init", "count", "count", "report", "repeat", "audit"))
+        self.command = rng.choice(("table", "init", "count", "count", "report", "repeat", "audit", "window", "compact"))
         self.configuration = kept.configuration
         self.recordings = dict(zip(kept.files, kept.recordings))
         self.store = b"" if self.command == "init" and rng.random() < 0.8 else rng.choice(kept.stores)
         self.file = rng.choice(kept.files)
-        self.words = [self.command] + ([self.file] if self.command == "table" else [])
-        self.words_changed = False
+        self.words = [self.command] + ([self.file] if self.command == "table" else times(rng) if self.command == "window" else [])
+        # (a window's words may be in the wrong order, or no instants)
+        self.words_changed = self.command == "window"
         for part in rng.sample(self.parts(), rng.choice((1, 1, 1, 2))):
             part(rng)
 
@@ -300,7 +320,7 @@ class Case:
         if self.command == "table":
             return [self.change_recording, self.change_words]
         parts = [self.change_configuration, self.change_words]
-        if self.command not in ("report", "repeat"):
+        if self.command not in READERS:
             parts += [self.change_recording, self.change_recording]
         if self.store:
             parts += [self.change_store, self.change_store, self.change_store]
@@ -324,7 +344,7 @@ class Case:
         if rng.random() < 0.3:
             self.words = self.words[: rng.randint(0, len(self.words))]
         for _ in range(rng.randint(0, 2)):
-            self.words.insert(rng.randint(0, len(self.words)), rng.choice(WORDS))
+            self.words.insert(rng.randint(0, len(self.words)), rng.choice(WORDS + TIMES if self.command == "window" else WORDS))
 
     def faults(self, status, printed, told, memory, left):
         """What is wrong with how it ended."""
@@ -351,10 +371,21 @@ class Case:
         others = [line for line in lines if not re.fullmatch(r"held [A-Za-z0-9_-]{1,32} [1-9]\d*" if command == "count" else r"init \d+", line)]
         if others or (lines and command not in ("count", "init")):
             yield "told besides %r" % lines[:3]
-        if (status in (1, 2, 3, 4, 11) or command in ("table", "report", "repeat", "audit")) and (left or b"") != self.store:
+        if (status in (1, 2, 3, 4, 11) or command in ("table", "audit", *READERS)) and (left or b"") != self.store:
             yield "status %d, and the store changed" % status
         if memory > MOST_MEMORY:
             yield "%d KiB of memory" % memory
+
+
+def faults_of_copy(program, room, copy):
+    """What is wrong with a copy of the store in this folder."""
+    due = run(program, room, ["report"])[:3]
+    with tempfile.TemporaryDirectory() as other:
+        put(other, read(os.path.join(room, "monitor.toml")), {}, copy)
+        if run(program, other, ["report"])[:3] != due:
+            yield "another report of a copy"
+        if run(program, other, ["compact"])[:3] != (0, copy, b""):
+            yield "another copy of a copy"
 
 
 def attempt(program, rng, kept, what):
@@ -364,6 +395,8 @@ def attempt(program, rng, kept, what):
     put(room, case.configuration, case.recordings, case.store)
     status, printed, told, memory = run(program, room, case.words)
     faults = list(case.faults(status, printed, told, memory, read(os.path.join(room, "monitor.store"))))
+    if status == 0 and case.words[0] == "compact":
+        faults += faults_of_copy(program, room, printed)
     if faults:
         put(room, case.configuration, case.recordings, case.store)
         print("fuzz: %s: %s: %r in %s" % (what, "; ".join(faults), case.words, room), flush=True)

@@ -226,6 +226,22 @@ def report(names, counts, details):
     return text_of(lines)
 
 
+def window_of(bodies, period, start, first, last):
+    """Which samples of a gauge a window counts, of bodies from where to where: from the first start to the last end of those that lie
+    inside, 0 to 0 where none does. Instants are nanoseconds, the period is microseconds."""
+    inside = [(a, b) for a, b in bodies if first <= start + 1000 * period * a and start + 1000 * period * b <= last]
+    return (inside[0][0], inside[-1][1]) if inside else (0, 0)
+
+
+def window_report(names, windows, counts, details):
+    """What `window` prints of gauges with these names, windows and counts of their samples."""
+    lines = []
+    for name, (first, end), count in zip(names, windows, counts):
+        lines += ["window %s %d %d" % (name, first, end)] + count.text(name)
+    lines += [d.line(names[d.gauge], counts[d.gauge]) for d in details]
+    return text_of(lines)
+
+
 def repeat(names, counts):
     """What `repeat` prints of gauges with these names and counts."""
     return text_of(line for name, count in zip(names, counts) for line in count.repeat_text(name))

@@ -6,7 +6,9 @@ reasons.py PROGRAM
 What is wrong is: no configuration, no recording, a folder in the place of either, of the store or of a CSV file, files that may not be read
 or written, a file that may not grow, a file system that is full, and standard streams that are closed. After each the store is as it was,
 or holds what was acknowledged, and a further `count` prints the whole report. On a store, a folder and a file system that can only be read,
-`report`, `repeat` and `audit` end as ever, and change neither bytes nor times.
+`report`, `repeat`, `audit`, `window` and `compact` end as ever, and change neither bytes nor times. Of a recording that is longer than what is read
+ahead, what is held is passed over, in a file by a seek and in a pipe, where none can be made, by reading: what is new is counted, and one that
+became shorter is refused.
 Where this is run by root, what a user may not do is tried as another user, and file systems are mounted. What can't be tried is told.
 What is expected comes from an independent count (model.py). Last line: reasons: N passed, M failed
 """
@@ -19,17 +21,22 @@ import signal
 import subprocess
 import sys
 import tempfile
+import threading
 
 # No folder is made in the checkout.
 sys.dont_write_bytecode = True
 
-from model import Count, recording, repeat, report
-from trial import GAIN, GRID, ONE_GAUGE, other_lines, read, samples, write
+import stores
+from model import Count, recording, repeat, report, window_report
+from trial import ALL_TIME, GAIN, GRID, ONE_GAUGE, as_text, other_lines, read, samples, write
 from trial import Trial as Counted
 
 RNG = random.Random(5)
 RAWS = [RNG.randint(-8, 7) for _ in range(600)]
+LONG = [RNG.randint(-8, 7) for _ in range(42000)]
 NOBODY = 65534
+# The commands that only read the store, with their words.
+READERS = (("report",), ("repeat",), ("audit",), ALL_TIME, ("compact",))
 DOING = {2: "config", 6: "read fault", 7: "write fault", 8: "station fault"}
 
 
@@ -76,8 +83,8 @@ class Trial(Counted):
 
     def run(self, *words, before=None, user=None):
         others = {} if user is None else {"user": user, "group": user, "extra_groups": []}
-        done = subprocess.run([self.program, *words], capture_output=True, text=True, preexec_fn=before, **others)
-        return done.returncode, done.stdout, done.stderr
+        done = subprocess.run([self.program, *words], capture_output=True, preexec_fn=before, **others)
+        return done.returncode, as_text(done.stdout), as_text(done.stderr)
 
     def fails(self, what, words, status, name, text, **how):
         self.check(what, self.run(*words, **how), (status, "", reason(name, text, status)))
@@ -110,8 +117,8 @@ def missing(trial):
     none = "No such file or directory"
     os.makedirs("empty")
     os.chdir("empty")
-    for word in ("init", "count", "report", "repeat", "audit", "sheet"):
-        trial.fails("%s without a configuration" % word, (word,), 6, "monitor.toml", none)
+    for words in (("init",), ("count",), ("sheet",), *READERS):
+        trial.fails("%s without a configuration" % words[0], words, 6, "monitor.toml", none)
     trial.fails("no table", ("table", "none\tthere"), 6, "none?there", none)
     trial.fails("no column", ("column", "none.csv", "a", "0" * 32, "1"), 6, "none.csv", none)
     trial.begin("no-recording")
@@ -139,11 +146,12 @@ def folders(trial):
     os.mkdir("monitor.store")
     os.rmdir("g1.sgrc")
     write("g1.sgrc", recording(RAWS[:300]))
-    for word in ("init", "count", "report", "repeat", "audit"):
-        trial.fails("%s with a folder for a store" % word, (word,), 8, "monitor.store", folder)
+    for words in (("init",), ("count",), *READERS):
+        trial.fails("%s with a folder for a store" % words[0], words, 8, "monitor.store", folder)
     os.remove("monitor.toml")
     os.mkdir("monitor.toml")
-    trial.fails("a folder for a configuration", ("report",), 6, "monitor.toml", folder)
+    for words in READERS:
+        trial.fails("a folder for the configuration of %s" % words[0], words, 6, "monitor.toml", folder)
 
 
 def limits(trial):
@@ -170,30 +178,70 @@ def streams(trial):
     text = "Bad file descriptor"
     trial.begin("streams")
     trial.fails("table", ("table", "g1.sgrc"), 7, "standard output", text, before=close(1))
-    trial.fails("report", ("report",), 7, "standard output", text, before=close(1))
-    trial.fails("audit", ("audit",), 7, "standard output", text, before=close(1))
+    for words in READERS:
+        trial.fails(words[0], words, 7, "standard output", text, before=close(1))
     store = read("monitor.store")
     for closed in ((1,), (2,), (0, 1), (0, 2), (1, 2), (0, 1, 2)):
-        for word in ("report", "count", "repeat", "audit", "init"):
-            trial.run(word, before=close(*closed))
-            trial.check("the store after %s without %s" % (word, closed), read("monitor.store"), store)
+        for words in (("count",), ("init",), *READERS):
+            trial.run(*words, before=close(*closed))
+            trial.check("the store after %s without %s" % (words[0], closed), read("monitor.store"), store)
     write("g1.sgrc", recording(RAWS))
     trial.run("count", before=close(0, 1, 2))
     trial.goes_on("without streams")
     if os.path.exists("/dev/full"):
         with open("/dev/full", "w") as full:
-            done = subprocess.run([trial.program, "report"], stdout=full, stderr=subprocess.PIPE, text=True)
+            ends = [subprocess.run([trial.program, *words], stdout=full, stderr=subprocess.PIPE, text=True) for words in READERS]
         due = (7, reason("standard output", "No space left on device", 7))
-        trial.check("a full output", (done.returncode, done.stderr), due)
+        for words, done in zip(READERS, ends):
+            trial.check("a full output of %s" % words[0], (done.returncode, done.stderr), due)
+
+
+def feed(name, data):
+    """Puts a pipe in a file's place, into which these bytes are written."""
+
+    def write_all():
+        # A reader that refuses what it reads goes before the end.
+        try:
+            write(name, data)
+        except BrokenPipeError:
+            pass
+
+    os.remove(name)
+    os.mkfifo(name)
+    threading.Thread(target=write_all, daemon=True).start()
+
+
+def long_recordings(trial):
+    """Recordings that are longer than what is read ahead, of which most is held."""
+    trial.enter("long")
+    write("monitor.toml", ONE_GAUGE.replace("block = 4", "block = 1024").encode())
+    write("g1.sgrc", recording([]))
+    trial.check("init of a long recording", trial.run("init"), (0, "", "init 1\n"))
+    for count in (40000, 40000, 41000):
+        write("g1.sgrc", recording(LONG[:count]))
+        due = report(["G1"], [Count(GRID, GAIN, LONG[:count])], [])
+        trial.check("count of %d samples" % count, trial.run("count")[:2], (0, due))
+    feed("g1.sgrc", recording(LONG))
+    due = report(["G1"], [Count(GRID, GAIN, LONG)], [])
+    trial.check("count of a pipe", trial.run("count")[:2], (0, due))
+    feed("g1.sgrc", recording(LONG))
+    trial.check("audit of a pipe", trial.run("audit"), (0, "audit G1 same\n", ""))
+    fewer = (4, "", "recording G1: %d held, 30000 there\n" % len(LONG))
+    feed("g1.sgrc", recording(LONG[:30000]))
+    trial.check("count of a shorter pipe", trial.run("count"), fewer)
+    os.remove("g1.sgrc")
+    write("g1.sgrc", recording(LONG[:30000]) + bytes(3))
+    trial.check("count of a shorter recording", trial.run("count"), fewer)
 
 
 def readers(trial, folder, what, **how):
     """The readers end as ever, and change nothing."""
     before = marks(folder)
-    trial.check("report of " + what, trial.run("report", **how), (0, text_of(300), ""))
-    due = repeat(["G1"], [Count(GRID, GAIN, RAWS[:300])])
-    trial.check("repeat of " + what, trial.run("repeat", **how), (0, due, ""))
-    trial.check("audit of " + what, trial.run("audit", **how), (0, "audit G1 same\n", ""))
+    counts = [Count(GRID, GAIN, RAWS[:300])]
+    copy = stores.copy(stores.Head(GRID, [GAIN], [b"\x11" * 16], [10000]), counts)
+    texts = (text_of(300), repeat(["G1"], counts), "audit G1 same\n", window_report(["G1"], [(0, 300)], counts, []), as_text(copy))
+    for words, due in zip(READERS, texts):
+        trial.check("%s of %s" % (words[0], what), trial.run(*words, **how), (0, due, ""))
     trial.check("what is there of " + what, marks(folder), before)
 
 
@@ -217,7 +265,8 @@ def permissions(trial):
     trial.fails("sheet of a secret recording", ("sheet",), 6, "g1.sgrc", text, **how)
     trial.fails("init over a secret recording", ("init",), 6, "g1.sgrc", text, **how)
     os.chmod("monitor.toml", 0)
-    trial.fails("a secret configuration", ("report",), 6, "monitor.toml", text, **how)
+    for words in READERS:
+        trial.fails("a secret configuration for %s" % words[0], words, 6, "monitor.toml", text, **how)
 
 
 def mounts(trial):
@@ -272,7 +321,7 @@ def main():
         shutil.copy(sys.argv[1], program)
         os.chmod(program, 0o755)
         trial = Trial(program, room)
-        for part in (missing, folders, limits, streams, permissions):
+        for part in (missing, folders, limits, streams, long_recordings, permissions):
             os.chdir(room)
             part(trial)
         os.chdir(room)

@@ -20,8 +20,9 @@ import tempfile
 # No folder is made in the checkout.
 sys.dont_write_bytecode = True
 
-from model import Count, Detail, Grid, recording, repeat, report
-from trial import GAIN, GRID, ONE_GAUGE, held, read, write
+import stores
+from model import Count, Detail, Grid, recording, repeat, report, window_report
+from trial import ALL_TIME, GAIN, GRID, ONE_GAUGE, as_text, held, read, write
 from trial import Trial as Counted
 
 LIBRARY = r"""
@@ -75,6 +76,16 @@ def report_of(samples):
     return report(["G1"], [Count(GRID, GAIN, EXAMPLE[:samples])], [Detail("W1", 0, "normal", 71, 100)])
 
 
+def window_of_all():
+    """The window in which all samples lie."""
+    return window_report(["G1"], [(0, len(EXAMPLE))], [Count(GRID, GAIN, EXAMPLE)], [Detail("W1", 0, "normal", 71, 100)])
+
+
+def copy_of_all():
+    """The compact copy of the store that holds all samples."""
+    return as_text(stores.copy(stores.Head(GRID, [GAIN], [b"\x11" * 16], [10000]), [Count(GRID, GAIN, EXAMPLE)]))
+
+
 def table_of(raws):
     lines = Count(Grid(64, 2, 0, 32), GAIN, raws).table()
     return "".join(line + "\n" for line in lines)
@@ -93,12 +104,11 @@ class Trial(Counted):
         """Status, text and lines of a run of which this request is refused, and whether it came so far."""
         reader, writer = os.pipe()
         env = dict(os.environ, LD_PRELOAD=self.library, REFUSED=str(number), REFUSED_FD=str(writer))
-        as_text = {"text": True, "errors": "surrogateescape"}
-        done = subprocess.run([self.program, *words], capture_output=True, env=env, pass_fds=[writer], timeout=60, **as_text)
+        done = subprocess.run([self.program, *words], capture_output=True, env=env, pass_fds=[writer], timeout=60)
         os.close(writer)
         was_refused = os.read(reader, 1) == b"x"
         os.close(reader)
-        return (done.returncode, done.stdout, done.stderr), was_refused
+        return (done.returncode, as_text(done.stdout), as_text(done.stderr)), was_refused
 
     def each(self, name, words, begin, after):
         """Tries a command with each request refused, in a folder that `begin` fills. `after` looks at it, with the lines that were told."""
@@ -159,12 +169,14 @@ def rows(trial):
     trial.check("count", trial.run(["count"])[0], [(0, report_of(9), "")])
     image = store()
     repeated = repeat(["G1"], [Count(GRID, GAIN, EXAMPLE)])
-    for command, due in (("report", report_of(9)), ("repeat", repeated), ("audit", "audit G1 same\n")):
-        trial.check(command, trial.run([command])[0], [(0, due, "")])
-        trial.each(command, [command], lambda: None, after_reading(image))
+    readers = (("report",), report_of(9)), (("repeat",), repeated), (("audit",), "audit G1 same\n")
+    for words, due in (*readers, (ALL_TIME, window_of_all()), (("compact",), copy_of_all())):
+        trial.check(words[0], trial.run(words)[0], [(0, due, "")])
+        trial.each(words[0], words, lambda: None, after_reading(image))
     no_store()
     trial.check("no store", trial.run(["report"])[0], [(3, "", "store: not a store\n")])
-    trial.each("report of no store", ["report"], no_store, after_reading(b""))
+    for words in (["report"], ALL_TIME, ["compact"]):
+        trial.each("%s of no store" % words[0], words, no_store, after_reading(b""))
     trial.check("table", trial.run(["table", "t.sgrc"])[0], [(0, table_of([raw + 8 for raw in EXAMPLE]), "")])
     trial.each("table", ["table", "t.sgrc"], no_store, after_reading(b""))
     sheet = "G1\n" + "".join("%d\n" % raw for raw in EXAMPLE)
@@ -172,7 +184,7 @@ def rows(trial):
     trial.each("sheet", ["sheet"], no_store, after_reading(b""))
     write("d.csv", b"t,G1\n0,-2\n1,1\n2,\n")
     column = ["column", "d.csv", "G1", "11" * 16, "10000"]
-    made = recording([-2, 1, -(2**31)]).decode("utf-8", "surrogateescape")
+    made = as_text(recording([-2, 1, -(2**31)]))
     trial.check("column", trial.run(column)[0], [(0, made, "")])
     trial.each("column", column, no_store, after_reading(b""))
     trial.each("demo", ["demo", "--samples", "100", "--workers", "2"], no_store, after_reading(b""))

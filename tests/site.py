@@ -9,7 +9,11 @@ Only a kill that met a running program is one of the KILLS; a growth has at most
 - after a kill `report` is that of a front of each recording, which holds every acknowledged sample;
 - after `count`, its report and that of `report` are those of the whole recordings, and each last acknowledged number is the length;
 - after `count`, what `repeat` prints is the count of each whole recording as a history that repeats;
+- `window` over random instants, most of them near the ends of stored bodies, prints the report of the samples whose bodies lie inside;
+- `compact` writes the bytes of a store that has one body for each gauge, and of such a copy the same bytes. Half of the copies take the
+  store's place, so that the further runs go on over them;
 - `audit` finds every gauge the same, and the one that was changed where a held sample was.
+Some cases begin over a store that is made here, of either version, with bodies that end anywhere.
 Last line: site: N passed, M failed
 """
 
@@ -23,9 +27,12 @@ import time
 # No folder is made in the checkout.
 sys.dont_write_bytecode = True
 
-from model import MISSING, Count, Detail, Grid, recording, repeat, report
+import instants
+import stores
+from model import MISSING, Count, Detail, Grid, recording, repeat, report, window_of, window_report
 from trial import Trial as Counted
-from trial import held, other_lines, samples
+from trial import held, other_lines, read, samples
+from trial import write as write_file
 
 NORMAL = [160, 140, 125, 112, 100, 90, 80, 71, 63, 56, 50, 45, 40, 36]
 
@@ -45,6 +52,7 @@ class Site:
         self.details = [self.detail(d) for d in range(rng.randint(0, 5))]
         self.block = rng.choice((1, 2, 7, 64, 1024) if longest < 1000 else (16, 64))
         self.workers = rng.randint(1, 8)
+        self.periods = [rng.choice((10000, 10000, 0, 1, 2**32 - 1, rng.randint(1, 2**32 - 1))) for _ in self.names]
 
     def gain(self):
         rng = self.rng
@@ -102,9 +110,53 @@ class Site:
         return repeat(self.names, self.counts(lengths))
 
     def counts(self, lengths):
+        return self.counts_of([(0, n) for n in lengths])
+
+    def counts_of(self, parts):
+        """The counts of a part of each gauge, from one sample to another."""
         return [
-            Count(self.grid, gain, raws[:n]) for gain, raws, n in zip(self.gains, self.raws, lengths)
+            Count(self.grid, gain, raws[a:b]) for gain, raws, (a, b) in zip(self.gains, self.raws, parts)
         ]
+
+    def head(self, version=2):
+        """What the store is made for."""
+        ids = [bytes([g + 1]) * 16 for g in range(len(self.names))]
+        return stores.Head(self.grid, self.gains, ids, self.periods, version)
+
+    def copy(self, lengths):
+        """The compact copy of a store that holds so many samples of each gauge."""
+        return stores.copy(self.head(), self.counts(lengths))
+
+    def store(self, lengths, version):
+        """A store that holds so many, in bodies that end anywhere, of gauges in any order."""
+        ends, bodies = [0] * len(lengths), []
+        while ends != lengths:
+            g = self.rng.choice([g for g, n in enumerate(lengths) if ends[g] < n])
+            first, ends[g] = ends[g], self.rng.randint(ends[g] + 1, min(lengths[g], ends[g] + 1 + lengths[g] // 3))
+            count = Count(self.grid, self.gains[g], self.raws[g][first : ends[g]])
+            bodies.append(stores.body(stores.Name(g, first, ends[g]), count, layout=version))
+        return stores.store(self.head(version), bodies)
+
+    def times(self, image):
+        """The start and two borders: most of them near an end of a body of this store, the others anywhere."""
+        rng = self.rng
+        start = rng.choice((0, -1, 1704067200 * instants.SECOND, instants.EARLIEST, instants.LATEST))
+        start = rng.choice((start, rng.randint(instants.EARLIEST, instants.LATEST)))
+        ends = [start + 1000 * self.periods[name.gauge] * n for name in stores.names(image) for n in (name.first, name.end)]
+        borders = []
+        for _ in range(2):
+            border = rng.choice((instants.EARLIEST, instants.LATEST, rng.randint(instants.EARLIEST, instants.LATEST)))
+            if ends and rng.random() < 0.8:
+                border = rng.choice(ends) + rng.choice((0, 0, 0, 1, -1, 1000, -1000, rng.randint(-(10**9), 10**9)))
+            borders.append(min(max(border, instants.EARLIEST), instants.LATEST))
+        return start, min(borders), max(borders)
+
+    def window(self, image, start, first, last):
+        """What `window` prints of this store."""
+        parts = [
+            window_of(stores.names_of(image, g), period, start, first, last) for g, period in enumerate(self.periods)
+        ]
+        return window_report(self.names, parts, self.counts_of(parts), self.details)
 
 
 class Trial(Counted):
@@ -119,6 +171,11 @@ class Trial(Counted):
 
     def run(self, *words):
         done = subprocess.run([self.program, *words], capture_output=True, text=True)
+        return done.returncode, done.stdout, done.stderr
+
+    def run_bytes(self, *words):
+        """The same, where what is printed is no text."""
+        done = subprocess.run([self.program, *words], capture_output=True)
         return done.returncode, done.stdout, done.stderr
 
     def kill(self, rng):
@@ -141,7 +198,34 @@ class Trial(Counted):
 def write(site, lengths):
     for g, (name, raws, n) in enumerate(zip(site.names, site.raws, lengths)):
         with open(name + ".sgrc", "wb") as out:
-            out.write(recording(raws[:n], g + 1))
+            out.write(recording(raws[:n], g + 1, site.periods[g]))
+
+
+def windows(trial, site, tries):
+    """So many windows over the store that is there."""
+    image = read("monitor.store")
+    for _ in range(tries):
+        start, first, last = site.times(image)
+        words = instants.words(site.rng, start, first, last)
+        trial.check("window %s" % words, trial.run("window", *words), (0, site.window(image, start, first, last), ""))
+        if first < last:
+            status, text, told = trial.run("window", *instants.words(site.rng, start, last, first))
+            trial.check("a window that ends before it begins", (status, text, told[:15]), (1, "", "usage: monitor "))
+    trial.check("the store behind windows", read("monitor.store") == image, True)
+
+
+def copies(trial, site, lengths):
+    """The copy of the store that is there and holds so many samples, and the copy of that."""
+    image = read("monitor.store")
+    due = site.copy(lengths)
+    trial.check("compact", trial.run_bytes("compact"), (0, due, b""))
+    trial.check("the store behind compact", read("monitor.store") == image, True)
+    write_file("monitor.store", due)
+    trial.check("compact of a copy", trial.run_bytes("compact"), (0, due, b""))
+    trial.check("report of a copy", trial.run("report"), (0, site.report(lengths), ""))
+    windows(trial, site, 1)
+    if site.rng.random() < 0.5:
+        write_file("monitor.store", image)
 
 
 def grow(trial, site, lengths, kills):
@@ -160,6 +244,8 @@ def grow(trial, site, lengths, kills):
         trial.check("report of a front", text, site.report(there))
         kept = [acknowledged.get(name, 0) <= n for name, n in zip(site.names, there)]
         trial.check("what was acknowledged", all(kept), True)
+        if site.rng.random() < 0.25:
+            windows(trial, site, 1)
     status, text, told = trial.run("count")
     trial.check("status of count", (status, other_lines(told)), (0, ""))
     trial.check("report of count", text, site.report(lengths))
@@ -169,6 +255,8 @@ def grow(trial, site, lengths, kills):
             trial.check("last acknowledged", held(told)[name], n)
     trial.check("report", trial.run("report"), (0, text, ""))
     trial.check("repeat", trial.run("repeat"), (0, site.repeat(lengths), ""))
+    windows(trial, site, 1 if kills else 3)
+    copies(trial, site, lengths)
     return time.time() - begun
 
 
@@ -190,6 +278,18 @@ def audit(trial, site, lengths):
         return
 
 
+def begin_over(trial, site):
+    """A store that is made here takes the place of the one that `init` made. How many samples it holds."""
+    version = site.rng.choice((1, 2)) if site.grid.classes <= 128 else 2
+    lengths = [site.rng.randint(0, len(raws) // 2) for raws in site.raws]
+    write(site, lengths)
+    write_file("monitor.store", site.store(lengths, version))
+    trial.check("report of a store of version %d" % version, trial.run("report"), (0, site.report(lengths), ""))
+    windows(trial, site, 3)
+    copies(trial, site, lengths)
+    return lengths
+
+
 def case(trial, rng, kills):
     site = Site(rng, 20000 if kills else 400)
     with open("monitor.toml", "w") as out:
@@ -199,6 +299,8 @@ def case(trial, rng, kills):
     trial.check("init", made, (0, "", "init %d\n" % len(site.names)))
     trial.check("init again", trial.run("init")[0], 3)
     lengths = [0] * len(site.names)
+    if not kills and rng.random() < 0.3:
+        lengths = begin_over(trial, site)
     for _ in range(rng.randint(1, 3)):
         lengths = [rng.randint(n, len(raws)) for n, raws in zip(lengths, site.raws)]
         grow(trial, site, lengths, kills)

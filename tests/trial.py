@@ -28,6 +28,8 @@ name = "G1"
 file = "g1.sgrc"
 num = 1000
 """
+# The words of a window that every body of a recording lies in.
+ALL_TIME = ("window", "2024-01-01T00:00:00Z", "2024-01-01T00:00:00Z", "9999-01-01T00:00:00Z")
 
 
 class Trial:
@@ -63,6 +65,16 @@ def held(told: str) -> dict[str, int]:
 def other_lines(told: str) -> str:
     """What was told besides what is acknowledged."""
     return "".join(line + "\n" for line in told.splitlines() if not line.startswith("held "))
+
+
+def parts(text: str) -> list[tuple[int, int]]:
+    """The samples that the lines of a window name, from where to where."""
+    return [(int(first), int(end)) for first, end in re.findall(r"^window \S+ (\d+) (\d+)$", text, re.M)]
+
+
+def as_text(data: bytes) -> str:
+    """What was printed or told, byte for byte: also a text that is none."""
+    return data.decode("utf-8", "surrogateescape")
 
 
 def samples(text: str) -> list[int]:

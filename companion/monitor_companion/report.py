@@ -37,6 +37,7 @@ _OTHER_TEXTS = {
     "init ": "a line that `init` tells on standard error, and no report",
     "samples ": "the table of one recording by `table`, and no report",
     "repeat ": "the text of `repeat`, and no report",
+    "window ": "the text of `window`: without its lines that begin with `window ` it is a report",
     "audit ": "the text of `audit`, and no report",
     "demo ": "the text of `demo`, and no report",
     "usage: ": "a refusal of the program, and no report",
