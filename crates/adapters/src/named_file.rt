@@ -71,6 +71,8 @@ impl<'a> Source for NamedFile<'a> {
 
     ghost failed_last = { λ _. Unit {0} };
 
+    ghost number = { λ _. 0 };
+
     fn take(&mut self, buf: &mut [u8]) -> Result<usize, Failed> {
         match self.take_some(buf) {
             Ok(n) => Ok(n),

@@ -24,7 +24,7 @@ impl StoreAccess {
         if first.as_str() == "init" {
             return StoreAccess::Make;
         }
-        if first.as_str() == "count" {
+        if first.as_str() == "count" || first.as_str() == "watch" {
             return StoreAccess::Write;
         }
         StoreAccess::Read

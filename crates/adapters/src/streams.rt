@@ -69,6 +69,8 @@ impl<F: Read + PassOver + Send + Drop> Source for FileSource<F> {
 
     ghost failed_last = { λ _. Unit {0} };
 
+    ghost number = { λ _. 0 };
+
     // A read that was interrupted is tried again.
     fn take(&mut self, buf: &mut [u8]) -> Result<usize, Failed> {
         for _ in 0..u64::MAX {

@@ -1,4 +1,4 @@
-ghost use Rattle.std.specs.Prelude.{◌≡◌, ◌≤◌, ◌<◌, length};
+ghost use Rattle.std.specs.Prelude.{◌≡◌, ◌≢◌, ◌≤◌, ◌<◌, length};
 ghost use Rattle.outside.specs.Fault.{CountRose};
 ghost use Rattle.segment_store.specs.Held.{ends_of};
 ghost use Rattle.site_config.specs.Valid.{IsConfig};
@@ -37,6 +37,7 @@ pub(crate) fn audit_held<T: Site, O: Sink>(
         (ends_of store.now.held) (T.files site.old) result }
     ensures kind { IsAuditing result }
     ensures read { result ≡ ReadFault → CountRose (T.faults site.old) (T.faults site.new) }
+    ensures steady { result ≢ ReadFault → T.faults site.new ≡ T.faults site.old }
     ensures write { result ≡ WriteFault → CountRose (O.faults out.old) (O.faults out.new) }
     ensures asked { AuditAsks result (T.names_asked site.old) (T.names_asked site.new)
         (file_names bridge.now) }

@@ -72,6 +72,8 @@ pub fn audit_command<C: Source, T: Site, K: Station, O: Sink>(
     ensures named { result ≢ Usage }
     ensures read { result ≡ ReadFault → CountRose (C.faults config.old) (C.faults config.new) ⊎
         CountRose (T.faults site.old) (T.faults site.new) }
+    // Where a call of the site fails, the answer is a read fault.
+    ensures steady { result ≢ ReadFault → T.faults site.new ≡ T.faults site.old }
     ensures write { result ≡ WriteFault → CountRose (O.faults out.old) (O.faults out.new) }
     ensures disk { result ≡ DiskFault → CountRose (K.faults station.old) (K.faults station.new) }
     // The gauges' files are asked for, gauge by gauge, and no other: none where the
@@ -127,6 +129,7 @@ fn audit_by<T: Site, K: Station, O: Sink>(
     ensures later { K.faults station.old ≤ K.faults station.new }
     ensures named { result ≢ Usage }
     ensures read { result ≡ ReadFault → CountRose (T.faults site.old) (T.faults site.new) }
+    ensures steady { result ≢ ReadFault → T.faults site.new ≡ T.faults site.old }
     ensures write { result ≡ WriteFault → CountRose (O.faults out.old) (O.faults out.new) }
     ensures disk { result ≡ DiskFault → CountRose (K.faults station.old) (K.faults station.new) }
     ensures asked { AuditAsks result (T.names_asked site.old) (T.names_asked site.new)

@@ -1,4 +1,4 @@
-ghost use Rattle.std.specs.Prelude.{◌≡◌, ◌<◌, ◌≤◌, ℤ, List, [], ◌∷◌, Some, Err, IfOk, IfErr, OnOk, length, take, slice_index, vec_len, vec_capacity};
+ghost use Rattle.std.specs.Prelude.{◌≡◌, ◌≢◌, ◌<◌, ◌≤◌, ℤ, List, [], ◌∷◌, Some, Err, IfOk, IfErr, OnOk, length, take, slice_index, vec_len, vec_capacity};
 ghost use Rattle.outside.specs.Fault.{CountRose};
 ghost use Rattle.outside.specs.Site.{Asks};
 ghost use Rattle.recording.specs.Samples.{samples as samples_of};
@@ -58,6 +58,7 @@ pub(crate) fn recount_all<T: Site>(
     ensures back { T.out site.new ≡ 0 }
     ensures files { T.tells → T.files site.new ≡ T.files site.old }
     ensures cause { result ≡ Err ReadFault → CountRose (T.faults site.old) (T.faults site.new) }
+    ensures steady { result ≢ Err ReadFault → T.faults site.new ≡ T.faults site.old }
     ensures later { T.faults site.old ≤ T.faults site.new }
 {
     for gauge in 0..bridge.gauges.as_slice().len() {
@@ -94,6 +95,7 @@ fn recount_gauge<T: Site>(
     ensures back { T.out site.new ≡ 0 }
     ensures files { T.tells → T.files site.new ≡ T.files site.old }
     ensures cause { result ≡ Err ReadFault → CountRose (T.faults site.old) (T.faults site.new) }
+    ensures steady { result ≢ Err ReadFault → T.faults site.new ≡ T.faults site.old }
     ensures later { T.faults site.old ≤ T.faults site.new }
 {
     let name = bridge.gauges.as_slice()[gauge as usize].file.as_str();
@@ -132,6 +134,7 @@ fn recount_source<S: Source>(
     ensures kind { IfErr result IsRecounting }
     ensures own { IfErr result (IsOfGauge gauge) }
     ensures cause { result ≡ Err ReadFault → CountRose (S.faults src.old) (S.faults src.new) }
+    ensures steady { result ≢ Err ReadFault → S.faults src.new ≡ S.faults src.old }
     ensures later { S.faults src.old ≤ S.faults src.new }
 {
     match open_recording(src, kept, 0) {

@@ -8,7 +8,8 @@
 //! them, read the lanes and then count; where a thread can't be made, its work is done by the
 //! caller.
 //!
-//! What a round does is said by `RoundDone` (`crates/count_workers/specs/round_making/Round.antt`).
+//! What a round does is said by `RoundDone` and `SourcesBack`
+//! (`crates/count_workers/specs/round_making/Round.antt`).
 //!
 //! From below: [`gauge_ring`] carries units between threads, [`block_workers`] read and count,
 //! [`collector`] puts what was counted on the board, [`lane_loans`] lends lanes to a round and

@@ -45,7 +45,7 @@ impl<C: Source + Send> Prepared<C> {
     ghost use Rattle.count_workers.specs.Plans.{IsPlan, IsNew};
     ghost use Rattle.count_workers.specs.round_making.Resting.{PreparedValue, IsSameBut};
     ghost use Rattle.count_workers.specs.lane_loans.Lent.{CanRound};
-    ghost use Rattle.count_workers.specs.round_making.Round.{RoundDone};
+    ghost use Rattle.count_workers.specs.round_making.Round.{RoundDone, SourcesBack};
 
     /// Takes all memory of rounds: 16 units for each gauge, a ring for each gauge and worker, a
     /// return ring for each worker, and the board.
@@ -89,7 +89,8 @@ impl<C: Source + Send> Prepared<C> {
         requires long { length lanes.old ≡ self.old.gauges }
         requires lanes { (g : ℕ) (d : _) → g < length lanes.old
             → CanRound g (slice_index_or lanes.old g d) }
-        ensures { RoundDone C.tells C.left C.faults self.old self.new lanes.old lanes.new }
+        ensures done { RoundDone C.tells C.left C.faults self.old self.new lanes.old lanes.new }
+        ensures sources { SourcesBack C.number lanes.old lanes.new }
     {
         make_round(
             rt,

@@ -78,6 +78,8 @@ pub fn init_command<C: Source, T: Site, K: Station>(
     ensures kind { IsInit result }
     ensures read { result ≡ ReadFault → CountRose (C.faults config.old) (C.faults config.new) ⊎
         CountRose (T.faults site.old) (T.faults site.new) }
+    // Where a call of the site fails, the answer is a read fault.
+    ensures steady { result ≢ ReadFault → T.faults site.new ≡ T.faults site.old }
     ensures disk { result ≡ DiskFault → CountRose (K.faults station.old) (K.faults station.new) }
     // The gauges' files are asked for, gauge by gauge, and no other: none where the
     // configuration is refused, and none behind a recording that is refused.
@@ -136,6 +138,7 @@ fn init_by<T: Site, K: Station>(
         AnswersBy bridge (T.files site.old) (K.seen station.old) result }
     ensures kind { IsInit result }
     ensures read { result ≡ ReadFault → CountRose (T.faults site.old) (T.faults site.new) }
+    ensures steady { result ≢ ReadFault → T.faults site.new ≡ T.faults site.old }
     ensures disk { result ≡ DiskFault → CountRose (K.faults station.old) (K.faults station.new) }
     ensures asked { InitAsks result (T.names_asked site.old) (T.names_asked site.new)
         (file_names bridge) }

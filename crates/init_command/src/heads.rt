@@ -1,4 +1,4 @@
-ghost use Rattle.std.specs.Prelude.{◌≡◌, ◌≤◌, ◌<◌, [], ◌∷◌, Err, IfOk, IfErr, MatchResult, length};
+ghost use Rattle.std.specs.Prelude.{◌≡◌, ◌≢◌, ◌≤◌, ◌<◌, [], ◌∷◌, Err, IfOk, IfErr, MatchResult, length};
 ghost use Rattle.outside.specs.Fault.{CountRose};
 ghost use Rattle.outside.specs.Site.{Asks};
 ghost use Rattle.site_config.specs.Valid.{IsConfig};
@@ -26,6 +26,7 @@ pub(crate) fn read_heads<T: Site>(
     ensures all { IfOk result (λ heads. length heads ≡ length bridge.now.gauges) }
     ensures kind { IfErr result IsHeadsStatus }
     ensures cause { result ≡ Err ReadFault → CountRose (T.faults site.old) (T.faults site.new) }
+    ensures steady { result ≢ Err ReadFault → T.faults site.new ≡ T.faults site.old }
     ensures later { T.faults site.old ≤ T.faults site.new }
     // Where a head is refused no later file is asked for.
     ensures asked { MatchResult result (λ heads. Asks (T.names_asked site.old)
@@ -55,6 +56,7 @@ fn read_head_of<T: Site>(gauge: u16, file: &str, site: &mut T) -> Result<Head, S
     ensures answer { T.tells → HeadAnswer (T.files site.old file.now) gauge result }
     ensures kind { IfErr result (IsHeadStatus gauge) }
     ensures cause { result ≡ Err ReadFault → CountRose (T.faults site.old) (T.faults site.new) }
+    ensures steady { result ≢ Err ReadFault → T.faults site.new ≡ T.faults site.old }
     ensures later { T.faults site.old ≤ T.faults site.new }
     ensures asked { Asks (T.names_asked site.old) (T.names_asked site.new) (file.now ∷ []) }
     ensures back { T.out site.new ≡ 0 }

@@ -5,7 +5,8 @@
 //! content by plain members (`left`, `written`, `files`). So code over a trait can speak of the
 //! bytes of the outside, and an adapter of the real outside, which tells nothing, keeps the rest.
 //! Each object counts its faults. A call answers `Failed` only where this count rose in the call:
-//! it is greater afterwards, or stands at the last value of a counter.
+//! it is greater afterwards, or stands at the last value of a counter. A take, a skip and a fetch
+//! that succeed leave it as it was.
 //!
 //! The objects in memory fail where they were told to. `BytesSource`, `SteadySource` and `VecSink`
 //! fail there and nowhere else, by their clauses. A fetch of `MapSite` fails there, where it has no

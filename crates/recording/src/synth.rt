@@ -1,4 +1,4 @@
-ghost use Rattle.std.specs.Prelude.{◌≡◌, ◌≤◌, ◌*◌, min, length, drop, IsOk, OnErr};
+ghost use Rattle.std.specs.Prelude.{◌≡◌, ◌≤◌, ◌*◌, ℕ, min, length, drop, IsOk, OnOk, OnErr};
 ghost use Rattle.std.specs.Io.{ReadsAtMost};
 ghost use Rattle.outside.specs.Fault.{HasCause};
 ghost use Rattle.outside.specs.Source.{TakesFrom, EndsAtZero};
@@ -85,6 +85,8 @@ impl Source for Synth {
 
     ghost failed_last = { λ _. ⊥ };
 
+    ghost number = { λ _. 0 };
+
     fn take(&mut self, buf: &mut [u8]) -> Result<usize, Failed>
         ensures bound { ReadsAtMost result buf.new }
         ensures bytes { Unit {0} → TakesFrom self.old self.new result buf.new }
@@ -92,6 +94,8 @@ impl Source for Synth {
         ensures failed { Unit {0} → OnErr result (self.new ≡ self.old) }
         ensures last { OnErr result ⊥ }
         ensures cause { HasCause 0 0 result }
+        ensures steady { OnOk result (◌≡◌ {A = ℕ} 0 0) }
+        ensures number { ◌≡◌ {A = ℕ} 0 0 }
 
         ensures never_fails { IsOk result }
     {

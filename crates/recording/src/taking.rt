@@ -1,4 +1,4 @@
-ghost use Rattle.std.specs.Prelude.{◌≡◌, ◌≤◌, ◌*◌, ◌/◌, ◌++◌, ◌↔◌, [], length, take};
+ghost use Rattle.std.specs.Prelude.{◌≡◌, ◌≢◌, ◌≤◌, ◌*◌, ◌/◌, ◌++◌, ◌↔◌, [], length, take};
 ghost use Rattle.outside.specs.Fault.{CountRose};
 ghost use Rattle.recording.specs.Filling.{SameFirst, Skips};
 ghost use Rattle.recording.specs.declared.taking.Stop.TheVariants.{Full, Ended, Failed};
@@ -34,7 +34,9 @@ pub(crate) fn take_all<S: Source>(src: &mut S, bytes: &mut [u8]) -> ByteFill
     ensures ended { S.tells → result.stop ≡ Ended → S.left src.new ≡ [] }
     ensures cause { result.stop ≡ Failed → CountRose (S.faults src.old) (S.faults src.new) }
     ensures last { result.stop ≡ Failed → S.failed_last src.new }
+    ensures steady { result.stop ≢ Failed → S.faults src.new ≡ S.faults src.old }
     ensures later { S.faults src.old ≤ S.faults src.new }
+    ensures number { S.number src.new ≡ S.number src.old }
 {
     let mut n = 0;
     while n < bytes.len() {
@@ -61,7 +63,7 @@ pub(crate) fn take_samples<S: Source>(src: &mut S, bytes: &mut [u8]) -> Fill
     requires { length bytes.old ≡ 4 * (length bytes.old / 4) }
     ensures length { length bytes.new ≡ length bytes.old }
     ensures bytes { S.tells → SameFirst (4 * result.n) bytes.new (S.left src.old) }
-    ensures samples { Skips S.tells S.left S.faults S.failed_last src.old src.new
+    ensures samples { Skips ⟦<S as Source>⟧ src.old src.new
         (length bytes.old / 4) result.n result.end }
 {
     let taken = take_all(src, bytes);

@@ -77,6 +77,7 @@ pub fn count_again<S: Source>(
     ensures fewer { S.tells → (there : ℕ) → result ≡ Err (Fewer there) →
         (there ≡ length (samples_of (S.left src.old))) × (there < samples) }
     ensures cause { result ≡ Err ReadFault → CountRose (S.faults src.old) (S.faults src.new) }
+    ensures steady { result ≢ Err ReadFault → S.faults src.new ≡ S.faults src.old }
     ensures later { S.faults src.old ≤ S.faults src.new }
 {
     let mut piece = Piece::new(alloc)?;
@@ -110,6 +111,7 @@ fn take_samples<S: Source>(
         (there ≡ length (samples_of (S.left src.old))) × (there < samples) }
     ensures memory { result ≢ Err OutOfMemory }
     ensures cause { result ≡ Err ReadFault → CountRose (S.faults src.old) (S.faults src.new) }
+    ensures steady { result ≢ Err ReadFault → S.faults src.new ≡ S.faults src.old }
     ensures later { S.faults src.old ≤ S.faults src.new }
 {
     let raws = piece.raws.as_mut_slice();

@@ -4,6 +4,7 @@
 --   AreReady      each lane may be read in a round
 --   AreHeldTo     so it may, and each gauge is held up to where its lane is
 --   IsFaulty      a read fault has raised its source's count
+--   HasNoFaults   no call of its source failed
 use Rattle.std.specs.Prelude.{◌≡◌, ◌≢◌, ◌<◌, ◌≤◌, ℕ, ℤ, List, length, drop, Some, slice_index, slice_index_or}
 use Rattle.recording.specs.Samples.{samples, torn_bytes}
 use Rattle.calibration.specs.declared.limits.TheConstants.{MAX_SAMPLES}
@@ -59,6 +60,9 @@ module _ {C : Type 0} where
   -- nor because it is too long
   abbrev pub IsWhole : Lane C → Type 0
   IsWhole lane = (lane.end ≢ ReadFault) × (lane.end ≢ TooLong)
+
+  abbrev pub HasNoFaults : (C → ℕ) → Lane C → Type 0
+  HasNoFaults faults lane = (src : C) → lane.src ≡ Some src → faults src ≡ 0
 
   abbrev pub IsFaulty : (C → ℕ) → Lane C → Type 0
   IsFaulty faults lane = (src : C) → lane.src ≡ Some src → lane.end ≡ ReadFault → 0 < faults src

@@ -14,7 +14,7 @@ ghost use Rattle.std.specs.List.{All};
 ghost use Rattle.outside.specs.Fault.{CountRose};
 ghost use Rattle.outside.specs.Site.{AsksNothing};
 ghost use Rattle.recording.specs.declared.lane_ends.end.End.TheVariants.{ReadFault};
-ghost use Rattle.site_lanes.specs.Lanes.{HasSource, HasEnded, IsFaulty, HasNotFailed};
+ghost use Rattle.site_lanes.specs.Lanes.{HasSource, HasNoFaults, HasEnded, IsFaulty, HasNotFailed};
 ghost use Rattle.site_lanes.specs.Ending.{FirstFault};
 
 use count_workers::lane_loans::Lane;
@@ -52,7 +52,8 @@ pub fn first_fault<C: Source>(lanes: &[Lane<C>]) -> Option<Status>
     None
 }
 
-/// Gives every source back to the site. Where its count didn't rise, no lane ended by a read fault.
+/// Gives every source back to the site. Where its count didn't rise, no lane ended by a read fault;
+/// where no call of any source failed, it doesn't rise.
 pub fn give_back<T: Site>(site: &mut T, mut lanes: Vec<Lane<T::Src>>)
     requires out { T.out site.old ≡ vec_len lanes }
     requires sources { All HasSource lanes.items }
@@ -62,6 +63,8 @@ pub fn give_back<T: Site>(site: &mut T, mut lanes: Vec<Lane<T::Src>>)
     ensures files { T.tells → T.files site.new ≡ T.files site.old }
     ensures cause { (CountRose (T.faults site.old) (T.faults site.new) → ⊥) →
         All HasNotFailed lanes.items }
+    ensures steady { All (HasNoFaults T.Src.faults) lanes.items →
+        T.faults site.new ≡ T.faults site.old }
     ensures later { T.faults site.old ≤ T.faults site.new }
 {
     for _ in 0..lanes.len() {
@@ -80,6 +83,7 @@ fn give_back_one<T: Site>(site: &mut T, lane: Lane<T::Src>)
     ensures asked { AsksNothing (T.names_asked site.old) (T.names_asked site.new) }
     ensures files { T.tells → T.files site.new ≡ T.files site.old }
     ensures cause { lane.end ≡ ReadFault → CountRose (T.faults site.old) (T.faults site.new) }
+    ensures steady { HasNoFaults T.Src.faults lane → T.faults site.new ≡ T.faults site.old }
     ensures later { T.faults site.old ≤ T.faults site.new }
 {
     match lane.src {

@@ -1,5 +1,6 @@
 ghost use Rattle.std.specs.Prelude.{
   ◌≡◌,
+  ◌≢◌,
   ◌≤◌,
   ◌<◌,
   ◌+◌,
@@ -23,7 +24,7 @@ ghost use Rattle.segment_store.specs.Held.{ends_of};
 ghost use Rattle.site_config.specs.Valid.{IsConfig, file_of};
 ghost use Rattle.site_config.specs.recorded.Recorded.{recordings};
 ghost use Rattle.site_config.specs.recorded.Asked.{file_names};
-ghost use Rattle.site_lanes.specs.Lanes.{IsLane, AreLanes, AreHeldTo, HasSource, IsNew};
+ghost use Rattle.site_lanes.specs.Lanes.{IsLane, AreLanes, AreHeldTo, HasSource, HasNoFaults, IsNew};
 ghost use Rattle.site_lanes.specs.Answers.{IsOpening, GaugeAnswers, OpenAnswers};
 ghost use Rattle.site_lanes.specs.Asked.{IsOfGauge, OpeningAsks};
 ghost use Rattle.site_lanes.specs.Opening.{opened_status};
@@ -77,6 +78,8 @@ fn open_lane<T: Site>(
         (file_of bridge.now gauge ∷ []) }
     ensures files { T.tells → T.files site.new ≡ T.files site.old }
     ensures cause { result ≡ Err ReadFault → CountRose (T.faults site.old) (T.faults site.new) }
+    ensures steady { result ≢ Err ReadFault → T.faults site.new ≡ T.faults site.old }
+    ensures fresh { IfOk result (HasNoFaults T.Src.faults) }
     ensures later { T.faults site.old ≤ T.faults site.new }
 {
     let name = bridge.gauges.as_slice()[gauge as usize].file.as_str();
@@ -134,6 +137,9 @@ pub fn open_lanes<T: Site>(
         (file_names bridge.now) }
     ensures files { T.tells → T.files site.new ≡ T.files site.old }
     ensures cause { result ≡ Err ReadFault → CountRose (T.faults site.old) (T.faults site.new) }
+    // A call of the site or of a source that fails ends the opening, as a read fault.
+    ensures steady { result ≢ Err ReadFault → T.faults site.new ≡ T.faults site.old }
+    ensures fresh { All (HasNoFaults T.Src.faults) lanes.new.items }
     ensures later { T.faults site.old ≤ T.faults site.new }
 {
     for gauge in 0..bridge.gauges.as_slice().len() {

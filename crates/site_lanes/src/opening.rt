@@ -1,4 +1,4 @@
-ghost use Rattle.std.specs.Prelude.{◌≡◌, ◌≤◌, Some, Err, OnOk};
+ghost use Rattle.std.specs.Prelude.{◌≡◌, ◌≢◌, ◌≤◌, Some, Err, OnOk};
 ghost use Rattle.outside.specs.Fault.{CountRose};
 ghost use Rattle.site_config.specs.recorded.Recorded.{body_in};
 ghost use Rattle.site_lanes.specs.Opening.{fault_of, open_fault, IsOpeningAnswer, IsBehind};
@@ -50,6 +50,7 @@ pub fn open_recording<S: Source>(src: &mut S, kept: &Head, held: u64) -> Result<
         (IsBehind held (body_in (Some (S.left src.old))) (S.left src.new)) }
     ensures answer { S.tells → IsOpeningAnswer (fault_of kept.now held (S.left src.old)) result }
     ensures cause { result ≡ Err ReadFault → CountRose (S.faults src.old) (S.faults src.new) }
+    ensures steady { result ≢ Err ReadFault → S.faults src.new ≡ S.faults src.old }
     ensures later { S.faults src.old ≤ S.faults src.new }
 {
     let head = match read_head(src) {

@@ -5,7 +5,8 @@
 --   SameRead, SameWork                     the same but for what its ends know of the rings
 --   RingAt, Fifo                           the ring of a gauge and a worker, and that what was fed was taken or is left
 --   AllRead, AllWorked, AllRings, AllFifo  the same of all readers and workers
-use Rattle.std.specs.Prelude.{◌≡◌, ◌≢◌, ◌<◌, ◌≤◌, [], ℕ, List, ◌++◌, length, slice_index_or, vec_len, Some}
+--   SameSource, SameSources                the source with the same number, and so of all readers
+use Rattle.std.specs.Prelude.{◌≡◌, ◌≢◌, ◌<◌, ◌≤◌, [], ℕ, List, ◌++◌, length, slice_index_or, vec_len, Option, Some, option_map}
 use Rattle.count_workers.specs.declared.gauge_ring.taker.Taker.{Taker}
 use Rattle.count_workers.specs.declared.gauge_ring.feeder.Feeder.{Feeder}
 use Rattle.count_workers.specs.gauge_ring.Ends.{fed, taken, AreOneRing, IsSameFeeder, IsSameTaker}
@@ -100,6 +101,14 @@ pub record SameWork (old new : Worker) : Type 0 where
 abbrev pub AllRead : {C : Type 0} → Type 0 → (C → List ℕ) → (C → ℕ) → List (Reader C) → List (Reader C) → Type 0
 AllRead tells left faults olds news = (g : ℕ) (d : _) → g < length olds
     → ReadJob tells left faults (slice_index_or olds g d) (slice_index_or news g d)
+
+-- what is there has the number of what was there
+abbrev pub SameSource : {C : Type 0} → (C → ℕ) → Option C → Option C → Type 0
+SameSource number before now = option_map number now ≡ option_map number before
+
+abbrev pub SameSources : {C : Type 0} → (C → ℕ) → List (Reader C) → List (Reader C) → Type 0
+SameSources number olds news = (g : ℕ) (d : _) → g < length olds
+    → SameSource number (slice_index_or olds g d).src (slice_index_or news g d).src
 
 abbrev pub AllWorked : List Worker → List Worker → Type 0
 AllWorked olds news = (v : ℕ) (d : _) → v < length olds → WorkJob (slice_index_or olds v d) (slice_index_or news v d)

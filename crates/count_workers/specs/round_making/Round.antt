@@ -4,6 +4,7 @@
 --   FrontDone            what the front of a lane stands for
 --   flow_of              the round of the flow that the law on arrivals speaks of
 --   RoundDone            all that a round does
+--   SourcesBack          each lane has the source that it lent
 use Rattle.std.specs.Prelude.{◌≡◌, ◌≢◌, ◌+◌, ◌-◌, ◌*◌, ◌<◌, ◌≤◌, ◌++◌, ℕ, pos, List, [], length, take, replicate, Some, slice_index_or}
 use Rattle.outside.specs.Fault.{CountRose}
 use Rattle.calibration.specs.declared.limits.TheConstants.{MAX_SAMPLES}
@@ -20,6 +21,7 @@ use Rattle.board.specs.Board.{IsFront}
 use Rattle.board.specs.arrivals.Arrivals.{Round as RoundOfFlow, AreArrivals, IsRound, fed_to, names_of}
 use Rattle.count_workers.specs.declared.block_workers.item.Item.{Item}
 use Rattle.count_workers.specs.block_workers.Dealing.{round_of}
+use Rattle.count_workers.specs.block_workers.Jobs.{SameSource}
 use Rattle.count_workers.specs.declared.lane_loans.lane.Lane.{Lane}
 use Rattle.count_workers.specs.lane_loans.Lent.{at_of}
 use Rattle.count_workers.specs.round_making.Resting.{PreparedValue}
@@ -82,3 +84,8 @@ module _ {C : Type 0} where
     -- each sample that a lane gave is named once, and no other
     pub once : (g i : ℕ) → g < old.gauges →
         hits g i new.board.arrivals ≡ between (at_of lanes_old g) (at_of lanes_new g) i
+
+  -- Each lane has the source that it lent, by its number, however it ended.
+  abbrev pub SourcesBack : (C → ℕ) → List (Lane C) → List (Lane C) → Type 0
+  SourcesBack number lanes_old lanes_new = (g : ℕ) (d : Lane C) → g < length lanes_old
+      → SameSource number (slice_index_or lanes_old g d).src (slice_index_or lanes_new g d).src

@@ -55,6 +55,7 @@ fn read_block<R: Wait, C: Source>(rt: &R, src: &mut C, desk: &mut Desk, number: 
         desk.old desk.new number result }
     ensures cause { desk.new.end ≡ ReadFault → CountRose (C.faults src.old) (C.faults src.new) }
     ensures later { C.faults src.old ≤ C.faults src.new }
+    ensures number { C.number src.new ≡ C.number src.old }
 {
     let Some(mut unit) = desk.blanks.pop() else {
         unreachable!()
@@ -79,6 +80,7 @@ fn read_blocks<R: Wait, C: Source>(rt: &R, src: &mut C, desk: &mut Desk)
         (BLOCKS_PER_WINDOW * desk.old.block) (BlocksOfRound desk.old desk.new) }
     ensures cause { desk.new.end ≡ ReadFault → CountRose (C.faults src.old) (C.faults src.new) }
     ensures later { C.faults src.old ≤ C.faults src.new }
+    ensures number { C.number src.new ≡ C.number src.old }
 {
     for number in 0..BLOCKS_PER_WINDOW as u64 {
         if !read_block(rt, src, desk, number) {
@@ -96,6 +98,7 @@ pub fn read_lane<R: Wait, C: Source>(rt: &R, src: &mut C, desk: &mut Desk)
     ensures read { ReadDone C.tells (C.left src.old) (C.left src.new) desk.old desk.new }
     ensures cause { desk.new.end ≡ ReadFault → CountRose (C.faults src.old) (C.faults src.new) }
     ensures later { C.faults src.old ≤ C.faults src.new }
+    ensures number { C.number src.new ≡ C.number src.old }
 {
     read_blocks(rt, src, desk);
     mark_all(rt, desk.feeders.as_mut_slice());

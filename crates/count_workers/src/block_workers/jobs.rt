@@ -1,6 +1,6 @@
 ghost use Rattle.std.specs.Prelude.{◌≡◌, ◌<◌, ◌≤◌, ℕ, length, vec_len, slice_index_or};
 ghost use Rattle.std.specs.List.{All};
-ghost use Rattle.count_workers.specs.block_workers.Jobs.{CanRead, ReadJob, AllRead, CanWork, WorkJob, AllWorked, SameRead, SameWork, RingAt, AllRings, Fifo, AllFifo};
+ghost use Rattle.count_workers.specs.block_workers.Jobs.{CanRead, ReadJob, AllRead, SameSource, SameSources, CanWork, WorkJob, AllWorked, SameRead, SameWork, RingAt, AllRings, Fifo, AllFifo};
 
 use crate::block_workers::desk::{Desk, mark_lane, read_lane};
 use crate::block_workers::worker::{Worker, work};
@@ -22,7 +22,8 @@ pub struct Reader<C: Source> {
 // The round of one reader. A lane that has ended is not read again.
 fn run_reader<R: Wait, C: Source>(rt: &R, reader: &mut Reader<C>)
     requires { CanRead reader.old }
-    ensures { ReadJob C.tells C.left C.faults reader.old reader.new }
+    ensures job { ReadJob C.tells C.left C.faults reader.old reader.new }
+    ensures source { SameSource C.number reader.old.src reader.new.src }
 {
     let Some(src) = &mut reader.src else {
         unreachable!()
@@ -56,7 +57,8 @@ fn run_readers<R: Threads + Wait + Sync, C: Source + Send>(
 )
     requires ready { All CanRead readers.old }
     requires threads { 0 < threads }
-    ensures { AllRead C.tells C.left C.faults readers.old readers.new }
+    ensures readers { AllRead C.tells C.left C.faults readers.old readers.new }
+    ensures sources { SameSources C.number readers.old readers.new }
 {
     thread::for_each_mut(
         rt,
@@ -97,6 +99,7 @@ pub fn run_all<R: Threads + Wait + Sync, C: Source + Send, G: Gate + Sync>(
     requires read { All CanRead readers.old }
     requires work { All CanWork workers.old }
     ensures readers { AllRead C.tells C.left C.faults readers.old readers.new }
+    ensures sources { SameSources C.number readers.old readers.new }
     ensures workers { AllWorked workers.old workers.new }
 {
     run_readers(rt, readers, workers.len().max(1));

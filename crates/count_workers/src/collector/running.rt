@@ -1,6 +1,6 @@
 ghost use Rattle.std.specs.Prelude.{◌≡◌, ◌<◌};
 ghost use Rattle.std.specs.List.{All};
-ghost use Rattle.count_workers.specs.block_workers.Jobs.{CanRead, AllRead, CanWork, AllWorked};
+ghost use Rattle.count_workers.specs.block_workers.Jobs.{CanRead, AllRead, SameSources, CanWork, AllWorked};
 ghost use Rattle.count_workers.specs.collector.Collecting.{AllAwaited, IsCollected};
 
 use crate::block_workers::{Reader, Worker, run_all};
@@ -28,6 +28,7 @@ pub fn run_round<R: Threads + Wait + Sync, C: Source + Send, G: Gate + Sync>(
     requires work { All CanWork workers.old }
     ensures collected { IsCollected board.old board.new pool.old pool.new returns.old returns.new }
     ensures readers { AllRead C.tells C.left C.faults readers.old readers.new }
+    ensures sources { SameSources C.number readers.old readers.new }
     ensures workers { AllWorked workers.old workers.new }
 {
     run_all(rt, gate, workers, readers);

@@ -1,7 +1,7 @@
 ghost use Rattle.std.specs.Prelude.{◌≡◌, ◌<◌, ℕ, length, slice_index_or};
 ghost use Rattle.count_workers.specs.round_making.Resting.{IsResting, value_of};
 ghost use Rattle.count_workers.specs.lane_loans.Lent.{CanRound};
-ghost use Rattle.count_workers.specs.round_making.Round.{RoundDone};
+ghost use Rattle.count_workers.specs.round_making.Round.{RoundDone, SourcesBack};
 
 use crate::block_workers::{Reader, Worker, settle_all};
 use crate::collector::{Return, run_round, settle_returns};
@@ -31,6 +31,7 @@ pub fn make_round<R: Threads + Wait + Sync, C: Source + Send, G: Gate + Sync>(
     ensures done { RoundDone C.tells C.left C.faults
         (value_of pool.old board.old readers.old workers.old)
         (value_of pool.new board.new readers.new workers.new) lanes.old lanes.new }
+    ensures sources { SourcesBack C.number lanes.old lanes.new }
 {
     begin_windows(board, lanes);
     lend_lanes(readers, lanes, pool);

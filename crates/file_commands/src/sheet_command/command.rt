@@ -59,6 +59,8 @@ pub fn sheet_command<C: Source, T: Site, K: Station, O: Sink>(
     ensures named { result ≢ Usage }
     ensures read { result ≡ ReadFault → CountRose (C.faults config.old) (C.faults config.new) ⊎
         CountRose (T.faults site.old) (T.faults site.new) }
+    // Where a call of the site fails, the answer is a read fault.
+    ensures steady { result ≢ ReadFault → T.faults site.new ≡ T.faults site.old }
     ensures write { result ≡ WriteFault → CountRose (O.faults out.old) (O.faults out.new) }
     // The gauges' files are asked for, gauge by gauge, and no other: none where the
     // configuration is refused, and none behind a recording that is refused.
@@ -96,6 +98,7 @@ fn sheet_by<T: Site, O: Sink>(alloc: Global, bridge: &Config, site: &mut T, out:
     ensures answer { T.tells → MayAnswer (answer_over bridge.now (T.files site.old)) result }
     ensures named { result ≢ Usage }
     ensures read { result ≡ ReadFault → CountRose (T.faults site.old) (T.faults site.new) }
+    ensures steady { result ≢ ReadFault → T.faults site.new ≡ T.faults site.old }
     ensures write { result ≡ WriteFault → CountRose (O.faults out.old) (O.faults out.new) }
     ensures asked { SheetAsks result (T.names_asked site.old) (T.names_asked site.new)
         (file_names bridge.now) }

@@ -1,4 +1,4 @@
-ghost use Rattle.std.specs.Prelude.{◌≡◌, ◌≤◌, ℕ, [], ◌∷◌, Err, IfOk, IfErr, OnOk, MatchResult, drop, length, map};
+ghost use Rattle.std.specs.Prelude.{◌≡◌, ◌≢◌, ◌≤◌, ℕ, [], ◌∷◌, Err, IfOk, IfErr, OnOk, MatchResult, drop, length, map};
 ghost use Rattle.outside.specs.Fault.{CountRose};
 ghost use Rattle.outside.specs.Site.{Asks};
 ghost use Rattle.recording.specs.Samples.{samples};
@@ -46,6 +46,7 @@ pub(crate) fn read_recordings<T: Site>(
         (MayAnswer (answer_over bridge.now (T.files site.old))) }
     ensures kind { IfErr result IsReadStatus }
     ensures cause { result ≡ Err ReadFault → CountRose (T.faults site.old) (T.faults site.new) }
+    ensures steady { result ≢ Err ReadFault → T.faults site.new ≡ T.faults site.old }
     ensures later { T.faults site.old ≤ T.faults site.new }
     // Where a recording is refused no later file is asked for.
     ensures asked { MatchResult result (λ recordings. Asks (T.names_asked site.old)
@@ -85,6 +86,7 @@ fn read_recording<T: Site>(
     ensures kind { IfErr result IsReadStatus }
     ensures own { IfErr result (IsOfGauge number) }
     ensures cause { result ≡ Err ReadFault → CountRose (T.faults site.old) (T.faults site.new) }
+    ensures steady { result ≢ Err ReadFault → T.faults site.new ≡ T.faults site.old }
     ensures later { T.faults site.old ≤ T.faults site.new }
     ensures asked { Asks (T.names_asked site.old) (T.names_asked site.new)
         (gauge.now.file ∷ []) }
@@ -109,6 +111,7 @@ fn read_samples<S: Source>(alloc: Global, src: &mut S) -> Result<Samples, Refusa
     ensures answer { S.tells → (gauge : ℕ) → MayGive gauge result (state_of (S.left src.old)) }
     ensures cause { result ≡ Err refusal.ReadFault →
         CountRose (S.faults src.old) (S.faults src.new) }
+    ensures steady { result ≢ Err refusal.ReadFault → S.faults src.new ≡ S.faults src.old }
     ensures later { S.faults src.old ≤ S.faults src.new }
 {
     read_head(src)?;
@@ -130,11 +133,15 @@ fn read_body<S: Source>(alloc: Global, src: &mut S, piece: &mut [i32]) -> Result
     ensures answer { S.tells → (gauge : ℕ) → MayGive gauge result (body_state (S.left src.old)) }
     ensures cause { result ≡ Err refusal.ReadFault →
         CountRose (S.faults src.old) (S.faults src.new) }
+    ensures steady { result ≢ Err refusal.ReadFault → S.faults src.new ≡ S.faults src.old }
     ensures later { S.faults src.old ≤ S.faults src.new }
 {
     let mut samples = Vec::new(alloc);
     for _ in 0..u64::MAX {
         let filled = fill(src, piece);
+        if filled.end == FillEnd::Failed {
+            return Err(Refusal::ReadFault);
+        }
         samples.extend_from_slice(&piece[..filled.n])?;
         if samples.len() as u64 > MAX_SAMPLES {
             return Err(Refusal::TooLong);
@@ -143,7 +150,7 @@ fn read_body<S: Source>(alloc: Global, src: &mut S, piece: &mut [i32]) -> Result
             FillEnd::More => {}
             FillEnd::Ended => return Ok(samples),
             FillEnd::Torn(bytes) => return Err(Refusal::Torn(bytes)),
-            FillEnd::Failed => return Err(Refusal::ReadFault),
+            FillEnd::Failed => unreachable!(),
         }
     }
     unreachable!()

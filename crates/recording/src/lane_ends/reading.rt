@@ -14,7 +14,9 @@ fn past_limit<S: Source>(src: &mut S) -> End
     ensures end { S.tells → result ≢ ReadFault → result ≡ end_past_limit (S.left src.old) }
     ensures some { result ≢ More }
     ensures cause { result ≡ ReadFault → CountRose (S.faults src.old) (S.faults src.new) }
+    ensures steady { result ≢ ReadFault → S.faults src.new ≡ S.faults src.old }
     ensures later { S.faults src.old ≤ S.faults src.new }
+    ensures number { S.number src.new ≡ S.number src.old }
 {
     match fill(src, &mut [0]).end {
         FillEnd::More => End::TooLong,
@@ -34,7 +36,9 @@ pub fn read_samples<S: Source>(src: &mut S, buf: &mut [i32], most: u64) -> LaneR
     ensures gives { S.tells → IsRead (length buf.old) most (S.left src.old)
         result.n result.end (S.left src.new) }
     ensures cause { result.end ≡ ReadFault → CountRose (S.faults src.old) (S.faults src.new) }
+    ensures steady { result.end ≢ ReadFault → S.faults src.new ≡ S.faults src.old }
     ensures later { S.faults src.old ≤ S.faults src.new }
+    ensures number { S.number src.new ≡ S.number src.old }
 {
     let room = (buf.len() as u64).min(most) as usize;
     let read = fill(src, &mut buf[..room]);

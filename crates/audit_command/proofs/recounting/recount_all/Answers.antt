@@ -44,7 +44,7 @@ loop-gauge-preserved g c =
           (t.names_asked c.recount_gauge.new.site) (omega (arith, ap length c.as_slice-gauge-end.ensures)) c.recount_gauge.ensures.asked;
       back = c.recount_gauge.ensures.back;
       files = λ shows. c.recount_gauge.ensures.files shows ∙ was.files shows;
-      later = omega (arith, was.later, c.recount_gauge.ensures.later);
+      faults = c.recount_gauge.ensures.steady (λ e. absurd cc) ∙ was.faults;
     }
 
 pub returns-clause-answer : goal.returns-clause-answer

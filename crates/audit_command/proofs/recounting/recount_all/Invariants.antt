@@ -21,5 +21,5 @@ invariant-loop-gauge g l =
       asked : Asks (t.names_asked l.fn.site) (t.names_asked l.site) (take l.gauge (file_names l.bridge));
       back : t.out l.site ≡ 0;
       files : t.tells → t.files l.site ≡ t.files l.fn.site;
-      later : t.faults l.fn.site ≤ t.faults l.site;
+      faults : t.faults l.site ≡ t.faults l.fn.site;
     }

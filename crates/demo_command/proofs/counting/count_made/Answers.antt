@@ -11,11 +11,11 @@ loop-init g c =
 
 pub join_fronts-requires-clause-next : goal.join_fronts-requires-clause-next
 join_fronts-requires-clause-next g c =
-    can_join_all c.args.seed c.args.samples c.loop.counter c.requires.samples.1 c.loop.invariant c.round.ensures
+    can_join_all c.args.seed c.args.samples c.loop.counter c.requires.samples.1 c.loop.invariant c.round.ensures.done
 
 pub loop-preserved : goal.loop-preserved
 loop-preserved g c =
-    counted_more c.args.seed c.args.samples c.loop.counter c.requires.samples.1 c.loop.invariant c.round.ensures c.join_fronts.new.totals
+    counted_more c.args.seed c.args.samples c.loop.counter c.requires.samples.1 c.loop.invariant c.round.ensures.done c.join_fronts.new.totals
     c.join_fronts.ensures.long c.join_fronts.ensures.joined
 
 pub returns-clause-all : goal.returns-clause-all

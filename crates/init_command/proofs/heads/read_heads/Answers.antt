@@ -43,7 +43,7 @@ loop-gauge-preserved g c =
           (now.answer tells)));
       many = omega (arith, was.many, ap length c.push_reserved.ensures.items, length-append old (h ∷ []));
       room = omega (arith, was.room, c.push_reserved.ensures.capacity);
-      later = omega (arith, was.later, now.later);
+      steady = now.steady (λ e. absurd cc) ∙ was.steady;
       asked = asks_more c.args.bridge.now c.loop-gauge.gauge (asked c.args.site.now) (asked c.loop-gauge.site) was.asked
           (asked c.read_head_of.new.site) lt (asks_file c.args.bridge.now c.loop-gauge.gauge c.as_slice-gauges.result.now
           c.index-gauges-gauge.result c.as_str.result.now lt c.as_slice-gauges.ensures c.as_str.ensures (asked c.loop-gauge.site)

@@ -10,7 +10,7 @@ invariant-loop-gauge g l = record {
   each : g.T.Site.tells → AreHeadsBelow l.bridge (g.T.Site.files l.fn.site) l.gauge l.heads.items;
   many : length l.heads.items ≡ l.gauge;
   room : length l.bridge.gauges ≤ vec_capacity l.heads;
-  later : g.T.Site.faults l.fn.site ≤ g.T.Site.faults l.site;
+  steady : g.T.Site.faults l.site ≡ g.T.Site.faults l.fn.site;
   asked : Asks (g.T.Site.names_asked l.fn.site) (g.T.Site.names_asked l.site) (take l.gauge (file_names l.bridge));
   back : g.T.Site.out l.site ≡ 0;
   files : g.T.Site.tells → g.T.Site.files l.site ≡ g.T.Site.files l.fn.site;

@@ -22,7 +22,9 @@ returns-in-Ok-eq0 g c =
       full = search rules;
       cause = search rules;
       last = search rules;
+      steady = search rules;
       later = search rules;
+      number = search rules;
     }
 
 pub returns-in-Ok-eq0-2 : goal.returns-in-Ok-eq0-2
@@ -43,7 +45,9 @@ returns-in-Ok-eq0-2 g c =
       full = search rules;
       cause = search rules;
       last = search rules;
+      steady = search rules;
       later = search rules;
+      number = search rules;
     }
 
 pub returns : goal.returns
@@ -57,5 +61,7 @@ returns g c =
       full = search rules;
       cause = search rules;
       last = search rules;
+      steady = search rules;
       later = search rules;
+      number = search rules;
     }

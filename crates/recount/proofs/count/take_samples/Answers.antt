@@ -19,7 +19,7 @@ loop-count-preserved g c =
             read.0 _ (read.2 tells) (fill.samples tells) (fill.taken tells) inside c.in-More.is,
       );
       few = search rules;
-      later = omega (arith, c.loop-count.invariant.later, fill.later);
+      steady = search rules;
       raws = search rules;
       levels = c.take.ensures.length ∙ c.loop-count.invariant.levels;
     }

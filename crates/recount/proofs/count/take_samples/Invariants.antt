@@ -10,7 +10,7 @@ invariant-loop-count g l = record {
   read : (w : List ℤ) × HasCountedPairs l.classifier.grid l.classifier.gain l.count w ×
       (g.S.Source.tells → Splits (g.S.Source.left l.fn.src) w (g.S.Source.left l.src));
   few : l.count.counts.samples ≤ l.samples;
-  later : g.S.Source.faults l.fn.src ≤ g.S.Source.faults l.src;
+  steady : g.S.Source.faults l.src ≡ g.S.Source.faults l.fn.src;
   raws : length l.raws ≡ PIECE;
   levels : length l.levels ≡ PIECE;
 }

@@ -9,7 +9,7 @@ use Rattle.site_config.specs.recorded.Recorded.{recordings}
 use Rattle.site_config.specs.recorded.Asked.{file_names}
 use Rattle.site_config.proofs.on_recorded.Asking.{asks_more}
 use Rattle.site_lanes.specs.Answers.{GaugeAnswers, FaultOf}
-use Rattle.site_lanes.specs.Lanes.{HasSource, IsLane}
+use Rattle.site_lanes.specs.Lanes.{HasSource, HasNoFaults, IsLane}
 use Rattle.site_lanes.proofs.Asking.{up_to, all_asked, refused_asks}
 use Rattle.site_lanes.proofs.Opened.{open_refused, all_more_opened}
 use Rattle.site_lanes.proofs.lanes.open_lanes.Goals as goal
@@ -58,7 +58,9 @@ loop-gauge-preserved g c =
       asked = asks_more c.args.bridge.now c.loop-gauge.gauge (asked c.args.site.now) (asked c.loop-gauge.site) was.asked
           (asked c.open_lane.new.site) (omega (arith, ap length c.as_slice-gauge-end.ensures)) c.open_lane.ensures.asked;
       files = λ shows. c.open_lane.ensures.files shows ∙ was.files shows;
-      later = omega (arith, was.later, c.open_lane.ensures.later);
+      faults = c.open_lane.ensures.steady (λ e. absurd cc) ∙ was.faults;
+      fresh = each_more (λ (k : ℕ) (x : Lane g.row.T-Src.Denot). HasNoFaults g.T.Src.Source.faults x) old more l c.loop-gauge.gauge is
+          long was.fresh now.fresh;
     }
 
 pub returns-clause-answer : goal.returns-clause-answer

@@ -1,11 +1,11 @@
 use Rattle.std.specs.List.{All}
-use Rattle.std.proofs.Common.{◌≡◌, ◌≤◌, ◌<◌, vec_len, vec_capacity}
+use Rattle.std.proofs.Common.{◌≡◌, ◌<◌, vec_len, vec_capacity}
 use Rattle.std.specs.Prelude.{slice_index, take}
 use Rattle.outside.specs.Site.{Asks}
 use Rattle.segment_store.specs.Held.{ends_of}
 use Rattle.site_config.specs.recorded.Recorded.{recordings}
 use Rattle.site_config.specs.recorded.Asked.{file_names}
-use Rattle.site_lanes.specs.Lanes.{AreLanes, AreHeldTo, HasSource, IsNew}
+use Rattle.site_lanes.specs.Lanes.{AreLanes, AreHeldTo, HasSource, HasNoFaults, IsNew}
 use Rattle.site_lanes.specs.Answers.{AllOpened}
 use Rattle.site_lanes.proofs.lanes.open_lanes.Given as goal
 
@@ -25,5 +25,6 @@ invariant-loop-gauge g l =
       sound : t.tells → AllOpened l.bridge l.store.head.heads (slice_index (ends_of l.store.held)) (t.files l.fn.site) l.gauge;
       asked : Asks (t.names_asked l.fn.site) (t.names_asked l.site) (take l.gauge (file_names l.bridge));
       files : t.tells → t.files l.site ≡ t.files l.fn.site;
-      later : t.faults l.fn.site ≤ t.faults l.site;
+      faults : t.faults l.site ≡ t.faults l.fn.site;
+      fresh : All (HasNoFaults g.T.Src.Source.faults) l.lanes.items;
     }

@@ -8,5 +8,5 @@ pub round-requires-clause-lanes : goal.round-requires-clause-lanes
 round-requires-clause-lanes g c κs = each_two CanRound _ _ (search rules) (search rules)
 
 pub round-requires-2-clause-lanes : goal.round-requires-2-clause-lanes
-round-requires-2-clause-lanes g c κs = (can_go_on _ _ _ _ _ _ _ c.round.ensures
+round-requires-2-clause-lanes g c κs = (can_go_on _ _ _ _ _ _ _ c.round.ensures.done
     (search rules, each_two CanRound _ _ (search rules) (search rules))).1

@@ -1,4 +1,5 @@
-use Rattle.std.proofs.Common.{rules, arith, ◌≡◌, ◌<◌, length}
+use Rattle.std.proofs.Common.{rules, arith, ap, ◌∙◌, ◌≡◌, ◌<◌, length}
+use Rattle.std.specs.Prelude.{option_map}
 use Rattle.count_workers.proofs.on_round_making.Settled.{fit_all, room_all, rests, done}
 use Rattle.count_workers.proofs.on_lane_loans.Walking.{some_of}
 use Rattle.count_workers.proofs.on_round_making.Ran.{ring_so_far, feeders_so_far, back_so_far}
@@ -69,3 +70,18 @@ returns-clause-done g c = done g.C.Source.tells g.C.Source.left g.C.Source.fault
     c.settle_returns.new.workers c.args.returns.now c.run_round.new.returns c.settle_returns.new.returns c.args.lanes.now
     c.lend_lanes.new.lanes (search rules) c.return_lanes.new.pool c.return_lanes.new.readers c.return_lanes.new.lanes
     c.return_lanes.ensures.returned c.return_lanes.ensures.long c.return_lanes.ensures.pool
+
+pub returns-clause-sources : goal.returns-clause-sources
+returns-clause-sources g c = λ h d m.
+    let number = g.C.Source.number in
+    let few : h < length c.args.readers.now = omega (arith, m, c.requires.long) in
+    let lent_few : h < length c.lend_lanes.new.readers = omega (arith, few, c.lend_lanes.ensures.long.0) in
+    let readers : length c.run_round.new.readers ≡ length c.args.readers.now = search rules in
+    let settled : length c.settle_all.new.readers ≡ length c.run_round.new.readers = search rules in
+    let back_few : h < length c.settle_all.new.readers = omega (arith, few, readers, settled) in
+    let r = some_of c.args.readers.now c.requires.resting.gauges_few.0 in
+    let lent = (c.lend_lanes.ensures.lent h r d few).src in
+    let ran = c.run_round.ensures.sources h r lent_few in
+    let still = (c.settle_all.ensures.readers h r).src in
+    let back = (c.return_lanes.ensures.returned h r d back_few).src in
+    ap (option_map number) (back ∙ still) ∙ (ran ∙ ap (option_map number) lent)

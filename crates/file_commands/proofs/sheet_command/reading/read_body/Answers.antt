@@ -34,6 +34,6 @@ loop-preserved g c =
         was.piece,
       );
       few = omega (arith, c.len.ensures, c.if-len-gt-MAX_SAMPLES.false);
-      later = omega (arith, was.later, fill.later);
+      steady = fill.steady (λ e. absurd cc) ∙ was.steady;
       piece = fill.length ∙ was.piece;
     }

@@ -10,6 +10,6 @@ invariant-loop g l = record {
   read : g.S.Source.tells → Splits (g.S.Source.left l.fn.src) l.samples.items (g.S.Source.left l.src);
   turns : l.counter ≤ length l.samples.items;
   few : length l.samples.items ≤ MAX_SAMPLES;
-  later : g.S.Source.faults l.fn.src ≤ g.S.Source.faults l.src;
+  steady : g.S.Source.faults l.src ≡ g.S.Source.faults l.fn.src;
   piece : length l.piece ≡ PIECE;
 }

@@ -54,7 +54,7 @@ loop-number-preserved g c =
           (subst (λ (f : Files). file_state (f here.file) ≡ Sound) (was.files tells) (now.sound tells));
       many = omega (arith, was.many, ap length c.push_reserved.ensures.items, length-append old (samples ∷ []));
       room = omega (arith, was.room, c.push_reserved.ensures.capacity);
-      later = omega (arith, was.later, now.later);
+      steady = now.steady (λ e. absurd cc) ∙ was.steady;
       asked = asks_more c.args.bridge.now c.loop-number.number (asked c.args.site.now) (asked c.loop-number.site) was.asked
           (asked c.read_recording.new.site) lt (asks_file c.args.bridge.now c.loop-number.number c.as_slice-gauges.result.now here
           here.file lt c.as_slice-gauges.ensures (ap (λ (x : Gauge). x.file) c.index-gauges-number.is) (asked c.loop-number.site)

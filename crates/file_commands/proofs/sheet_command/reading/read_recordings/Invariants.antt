@@ -16,7 +16,7 @@ invariant-loop-number g l = record {
       (g.T.Site.files l.fn.site);
   many : length l.recordings.items ≡ l.number;
   room : length l.bridge.gauges ≤ vec_capacity l.recordings;
-  later : g.T.Site.faults l.fn.site ≤ g.T.Site.faults l.site;
+  steady : g.T.Site.faults l.site ≡ g.T.Site.faults l.fn.site;
   asked : Asks (g.T.Site.names_asked l.fn.site) (g.T.Site.names_asked l.site) (take l.number (file_names l.bridge));
   back : g.T.Site.out l.site ≡ 0;
   files : g.T.Site.tells → g.T.Site.files l.site ≡ g.T.Site.files l.fn.site;
