@@ -22,7 +22,7 @@ use Rattle.segment_store.specs.Image.{open_bodies, IsNext, Reads, nothing_held}
 use Rattle.store_bytes.specs.store_head.HeadFaults.{gauge_fault, gauge_at, gauges_fault, head_fault, layout_in}
 use Rattle.segment_store.specs.Held.{AreHeld, ends_of}
 use Rattle.segment_store.specs.Moments.{StoreValue, IsAt, IsOn}
-use Rattle.segment_store.specs.Resuming.{Walks, EndsWalkAs}
+use Rattle.segment_store.specs.Resuming.{Walks, StopsWalkAs}
 use Rattle.segment_store.specs.Reading.{IsFound, NoDamage, StartsAt}
 use Rattle.segment_store.specs.Opening.{fault_is, IsHeadAnswer, WalksAs, Resumes, IsUnharmed}
 
@@ -52,14 +52,13 @@ module _ (g : ℕ) (x : GainValue) (gains : List GainValue) (i : ℕ) (image : I
 -- ---- the bodies behind it
 
 module _ {X : Type 0} (lay : Layout) (s : Setup) (limit : ℕ) (image : Image) (see : X → ℕ × List ℕ) where
-  pub walks_err : (index : ℕ) (stop : Stop) (see2 : ℕ × ℕ → ℕ × List ℕ)
-      → EndsWalkAs see2 (Walks lay s limit image 0 (start_of s) (nothing_held s)) (Err (index, stop))
+  pub walks_err : (index : ℕ) (stop : Stop) → StopsWalkAs (Walks lay s limit image 0 (start_of s) (nothing_held s)) index stop
       → WalksAs lay s limit image see (Err (fault_is index stop))
-  walks_err index stops.Memory see2 e = tt
-  walks_err index stops.Disk see2 e = tt
-  walks_err index (stops.Damaged d) see2 e = e
+  walks_err index stops.Memory e = tt
+  walks_err index stops.Disk e = tt
+  walks_err index (stops.Damaged d) e = e
 
-  pub unharmed_err : (index : ℕ) (stop : Stop) → NoDamage {X = ℕ × ℕ} (Err (index, stop)) → IsUnharmed {X = X} (Err (fault_is index stop))
+  pub unharmed_err : (index : ℕ) (stop : Stop) → NoDamage stop → IsUnharmed {X = X} (Err (fault_is index stop))
   unharmed_err index stops.Memory e = tt
   unharmed_err index stops.Disk e = tt
   unharmed_err index (stops.Damaged d) e = e
@@ -149,12 +148,11 @@ module _ (lay : Layout) (s : Setup) (image : Image) (limit limit2 start start2 :
       (subst (λ n. StartsAt lay s limit2 image n ends bodies last gate front rest) (sym a)
       (subst (λ n. StartsAt lay s limit2 image start2 n bodies last gate front rest) (sym e) w))
 
-  pub stops_moved : (see : ℕ × ℕ → ℕ × List ℕ) (index : ℕ) (stop : Stop)
-      → EndsWalkAs see (Walks lay s limit image 0 start ends) (Err (index, stop))
-      → EndsWalkAs see (Walks lay s limit2 image 0 start2 ends2) (Err (index, stop))
-  stops_moved see index stops.Memory w = tt
-  stops_moved see index stops.Disk w = tt
-  stops_moved see index (stops.Damaged d) w = walks_moved (Err (index, d)) w
+  pub stops_moved : (index : ℕ) (stop : Stop) → StopsWalkAs (Walks lay s limit image 0 start ends) index stop
+      → StopsWalkAs (Walks lay s limit2 image 0 start2 ends2) index stop
+  stops_moved index stops.Memory w = tt
+  stops_moved index stops.Disk w = tt
+  stops_moved index (stops.Damaged d) w = walks_moved (Err (index, d)) w
 
 -- a put with Ok, by the parts of the store
 pub put_on : (r : Result (Unit {0}) PutFault) (u w : StoreValue) (bodies : List PartsValue) (p : PartsValue) (seen : Image)

@@ -2,8 +2,8 @@
 --   StartsAt     from that place on, open gates with these bodies, then a gate that is closed
 --   IsFound      up to a closed gate
 --   HasPassed    from one gate up to another, open gates with these bodies
---   NoDamage     no damaged body
-use Rattle.std.specs.Prelude.{◌≡◌, ◌≢◌, ◌≤◌, ℕ, List, ◌∷◌, ◌++◌, length, Result, Ok, Err, ◌+◌, drop}
+--   NoDamage     a walk did not stop at a damaged body
+use Rattle.std.specs.Prelude.{◌≡◌, ◌≢◌, ◌≤◌, ℕ, List, ◌∷◌, ◌++◌, length, ◌+◌, drop}
 use Rattle.outside.specs.station.Station.{Image}
 use Rattle.calibration.specs.declared.setup.Setup.{Setup}
 use Rattle.segment.specs.segment_rules.Parts.{PartsValue}
@@ -39,8 +39,7 @@ pub record HasPassed (l : Layout) (setup : Setup) (image : Image) (start : ℕ) 
   pub tiles : Tiles setup ends bodies last
   pub place_is : at ≡ start + length (open_bodies l bodies)
 
-abbrev pub NoDamage : {X : Type 0} → Result X (ℕ × Stop) → Type 0
-NoDamage (Ok x) = Unit {0}
-NoDamage (Err (index, stops.Memory)) = Unit {0}
-NoDamage (Err (index, stops.Disk)) = Unit {0}
-NoDamage (Err (index, stops.Damaged d)) = ⊥
+abbrev pub NoDamage : Stop → Type 0
+NoDamage stops.Memory = Unit {0}
+NoDamage stops.Disk = Unit {0}
+NoDamage (stops.Damaged d) = ⊥

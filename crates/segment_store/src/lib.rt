@@ -34,5 +34,6 @@ pub use beginning::init;
 pub use compacting::{CompactFault, compact_to};
 pub use damage::Damage;
 pub use fault::{InitFault, PutFault, ResumeFault};
+pub use opening::read_head;
 pub use store::Store;
 pub use visiting::{Visitor, each_body};

@@ -61,8 +61,8 @@ fn fault_of(index: u64, stop: Stop) -> ResumeFault
     }
 }
 
-// Reads the head, and compares it with the setup.
-fn read_head<K: Station>(
+// Reads the head of a store of this size, and compares it with the setup.
+fn check_head<K: Station>(
     alloc: Global,
     station: &mut K,
     setup: &Setup,
@@ -88,6 +88,42 @@ fn read_head<K: Station>(
     let layout = check_front(station, setup, size)?;
     match read_gauges(alloc, station, setup) {
         Ok(head) => Ok((layout, head)),
+        Err(fault) => Err(fault),
+    }
+}
+
+/// Reads the head of a store alone, and no body. It writes and tells nothing, and syncs nothing: it
+/// tells what a read gives, whatever a crash would leave. The setup has at most 32 gauges.
+pub fn read_head<K: Station>(
+    alloc: Global,
+    station: &mut K,
+    setup: &Setup,
+) -> Result<StoreHead, ResumeFault>
+    requires few { length setup.now.gains ≤ MAX_GAUGES }
+    // With Ok nothing is wrong with the head, else the first thing that is, in the order of the file.
+    ensures answer { K.tells → IsHeadAnswer result (head_fault setup.now (K.seen station.old)) }
+    // Its bytes stand at the front.
+    ensures bytes { K.tells → IfOk result (λ h. take (start_of setup.now) (K.seen station.old) ≡
+        head_of (see_head (layout_in (K.seen station.old)) h)) }
+    // As whatever head a read at entry reads, it is that.
+    ensures reads { K.tells → (head : HeadValue) (bodies : List PartsValue) (ends : List ℕ) →
+        head.setup ≡ setup.now → Reads head bodies ends (K.seen station.old) →
+        IfOk result (λ h. see_head head.layout h ≡ head) }
+    ensures unharmed { K.tells → (head : HeadValue) (bodies : List PartsValue)
+        (ends : List ℕ) → head.setup ≡ setup.now →
+        Reads head bodies ends (K.seen station.old) → IsUnharmed result }
+    ensures setup { IfOk result (λ h. h.setup ≡ setup.now) }
+    ensures heads { IfOk result (λ h. length h.heads ≡ length setup.now.gains) }
+    ensures quiet { K.tells → IsQuiet (K.clock station.old) (K.moments station.old)
+        (K.clock station.new) (K.moments station.new) (K.told station.old) (K.told station.new)
+        (K.seen station.old) (K.seen station.new) (K.leaves station.old) (K.leaves station.new) }
+    ensures cause { result ≡ Err DiskFault →
+        CountRose (K.faults station.old) (K.faults station.new) }
+    ensures later { K.faults station.old ≤ K.faults station.new }
+{
+    let size = station.size()?;
+    match check_head(alloc, station, setup, size) {
+        Ok((_layout, head)) => Ok(head),
         Err(fault) => Err(fault),
     }
 }
@@ -152,15 +188,15 @@ fn walk_bodies<K: Station, V: Visitor>(
         visitor,
         &mut buf,
     ) {
-        Ok((place, count)) => Ok(Walked {
+        Ok(ended) => Ok(Walked {
             head,
             layout,
             ends,
-            count,
-            place,
+            count: ended.count,
+            place: ended.place,
             buf,
         }),
-        Err((index, stop)) => Err(fault_of(index, stop)),
+        Err(stopped) => Err(fault_of(stopped.count, stopped.stop)),
     }
 }
 
@@ -204,7 +240,7 @@ pub(crate) fn walk_store<K: Station, V: Visitor>(
 {
     station.sync()?;
     let size = station.size()?;
-    match read_head(alloc, station, setup, size) {
+    match check_head(alloc, station, setup, size) {
         Ok((layout, head)) => walk_bodies(alloc, station, layout, head, size, visitor),
         Err(fault) => Err(fault),
     }

@@ -1,4 +1,4 @@
-ghost use Rattle.std.specs.Prelude.{◌≡◌, ◌<◌, ◌≤◌, ◌+◌, ◌^◌, List, ℕ, length, map, slice_index, Err, IfOk, IfErr};
+ghost use Rattle.std.specs.Prelude.{◌≡◌, ◌<◌, ◌≤◌, ◌+◌, ◌^◌, List, ℕ, length, map, slice_index, take, Err, IfOk, IfErr};
 ghost use Rattle.segment.specs.segment_rules.Parts.{PartsValue};
 ghost use Rattle.segment.specs.Parts.{parts_of};
 ghost use Rattle.outside.specs.Fault.{CountRose};
@@ -7,13 +7,14 @@ ghost use Rattle.segment.specs.Segment.{SegmentValue};
 ghost use Rattle.segment_store.specs.Image.{IsNext, ends_after};
 ghost use Rattle.segment_store.specs.Quiet.{IsQuiet};
 ghost use Rattle.segment_store.specs.Resuming.{Finds, TellsAs, Walks, EndsWalkAs, length_at};
-ghost use Rattle.segment_store.specs.Reading.{StartsAt, NoDamage, IsFound, HasPassed};
+ghost use Rattle.segment_store.specs.Reading.{IsFound, HasPassed};
 ghost use Rattle.segment_store.specs.Visiting.{HasVisited};
 ghost use Rattle.segment_store.specs.Places.{IsStep, IsNear};
 ghost use Rattle.segment_store.specs.declared.damage.Stop.TheVariants.{Disk};
 ghost use Rattle.std.specs.Int.{w32, to_be_bytes, from_be_bytes};
 ghost use Rattle.store_bytes.specs.declared.segment_bytes.layout.TheConstants.{MAX_CLASSES_ONE};
 ghost use Rattle.segment_store.specs.declared.filling.TheConstants.{FRAME_LENGTH};
+ghost use Rattle.segment_store.specs.declared.resuming.TheConstants.{BEHIND};
 
 use crate::checking::{check, digest_of};
 use crate::damage::{Damage, Stop};
@@ -26,6 +27,9 @@ use segment::Segment;
 use std::alloc::Global;
 use store_bytes::segment_bytes::Layout;
 
+// What stands behind a body up to the next one's length: its digest, and a gate.
+const BEHIND: usize = 33;
+
 // The number in a field of length.
 fn length_of(field: &[u8]) -> u32
     requires { length field.now ≡ 4 }
@@ -35,8 +39,26 @@ fn length_of(field: &[u8]) -> u32
     u32::from_be_bytes([field[0], field[1], field[2], field[3]])
 }
 
-// Reads the body whose open gate stands there in a store of this size, and tells the next gate's
-// place too.
+// The segment of a body, and the place and the byte of the next gate.
+#[derive(Drop)]
+struct Stored {
+    segment: Segment,
+    next: u64,
+    gate: u8,
+}
+
+// The digest behind a body.
+fn digest_in(bytes: &[u8]) -> [u8; 32]
+    requires { 32 ≤ length bytes.now }
+    ensures { result ≡ take 32 bytes.now }
+{
+    let mut digest = [0u8; 32];
+    digest.copy_from_slice(&bytes[..32]);
+    digest
+}
+
+// Reads the body whose open gate stands there in a store of this size, and tells the next gate
+// too, which is read with the body: a read of the station costs more than the bytes do.
 fn stored_body<K: Station>(
     alloc: Global,
     station: &mut K,
@@ -47,25 +69,27 @@ fn stored_body<K: Station>(
     ends: &[u64],
     at: u64,
     buf: &mut [u8],
-) -> Result<(Segment, u64), Stop>
+) -> Result<Stored, Stop>
     requires narrow { layout ≡ One → setup.now.grid.classes ≤ MAX_CLASSES_ONE }
     requires gauges { length ends.now ≡ length setup.now.gains }
     requires size { K.tells → size ≡ length (K.seen station.old) }
     requires at { at ≤ size }
     requires few { limit < 2 ^ 32 }
-    requires room { limit ≤ length buf.old }
-    ensures finds { K.tells → TellsAs (λ x. parts_of x.0)
+    requires room { limit + BEHIND ≤ length buf.old }
+    ensures finds { K.tells → TellsAs (λ x. parts_of x.segment)
         (Finds layout setup.now limit (K.seen station.old) ends.now at) result }
     ensures gate { K.tells → IfOk result (λ x.
-        x.1 ≡ at + length_at (K.seen station.old) at + FRAME_LENGTH) }
-    ensures ahead { IfOk result (λ x. (at < x.1) × (x.1 < size)) }
-    ensures over { IfOk result (λ x. x.0.grid ≡ setup.now.grid) }
-    ensures gauge { IfOk result (λ x. x.0.gauge < length ends.now) }
-    ensures joins { IfOk result (λ x. x.0.from ≡ slice_index ends.now x.0.gauge) }
+        x.next ≡ at + length_at (K.seen station.old) at + FRAME_LENGTH) }
+    ensures gate_byte { K.tells → IfOk result (λ x.
+        x.gate ≡ slice_index (K.seen station.old) x.next) }
+    ensures ahead { IfOk result (λ x. (at < x.next) × (x.next < size)) }
+    ensures over { IfOk result (λ x. x.segment.grid ≡ setup.now.grid) }
+    ensures gauge { IfOk result (λ x. x.segment.gauge < length ends.now) }
+    ensures joins { IfOk result (λ x. x.segment.from ≡ slice_index ends.now x.segment.gauge) }
     ensures cause { result ≡ Err Disk →
         CountRose (K.faults station.old) (K.faults station.new) }
-    ensures next { IfOk result (λ x. IsNext setup.now ends.now (parts_of x.0)) }
-    ensures step { IfOk result (λ x. IsStep ends.now at (parts_of x.0) x.1) }
+    ensures next { IfOk result (λ x. IsNext setup.now ends.now (parts_of x.segment)) }
+    ensures step { IfOk result (λ x. IsStep ends.now at (parts_of x.segment) x.next) }
     ensures quiet { K.tells → IsQuiet (K.clock station.old) (K.moments station.old)
         (K.clock station.new) (K.moments station.new) (K.told station.old) (K.told station.new)
         (K.seen station.old) (K.seen station.new) (K.leaves station.old) (K.leaves station.new) }
@@ -83,13 +107,18 @@ fn stored_body<K: Station>(
     if size - at < len as u64 + (FRAME_LENGTH + 1) as u64 {
         return Err(Stop::Damaged(Damage::Cut { size }));
     }
-    let (body, _) = buf.split_at_mut(len as usize);
-    station.read_at(at + 5, body)?;
-    let mut kept = [0u8; 32];
-    station.read_at(at + 5 + len as u64, &mut kept)?;
+    let (bytes, _) = buf.split_at_mut(len as usize + BEHIND);
+    station.read_at(at + 5, bytes)?;
+    let (body, rest) = bytes.split_at(len as usize);
+    let kept = digest_in(rest);
+    let gate = rest[32];
     let found = digest_of(&field, body);
     match check(alloc, layout, setup, ends, body, kept, found) {
-        Ok(segment) => Ok((segment, at + FRAME_LENGTH as u64 + len as u64)),
+        Ok(segment) => Ok(Stored {
+            segment,
+            next: at + FRAME_LENGTH as u64 + len as u64,
+            gate,
+        }),
         Err(stop) => Err(stop),
     }
 }
@@ -107,25 +136,27 @@ fn next_body<K: Station>(
     ends: &[u64],
     at: u64,
     buf: &mut [u8],
-) -> Result<(Segment, u64), Stop>
+) -> Result<Stored, Stop>
     requires narrow { layout ≡ One → setup.now.grid.classes ≤ MAX_CLASSES_ONE }
     requires gauges { length ends.now ≡ length setup.now.gains }
     requires size { K.tells → size ≡ length (K.seen station.old) }
     requires few { limit < 2 ^ 32 }
-    requires room { limit ≤ length buf.old }
-    ensures finds { K.tells → TellsAs (λ x. parts_of x.0)
+    requires room { limit + BEHIND ≤ length buf.old }
+    ensures finds { K.tells → TellsAs (λ x. parts_of x.segment)
         (Finds layout setup.now limit (K.seen station.old) ends.now at) result }
     ensures gate { K.tells → IfOk result (λ x.
-        x.1 ≡ at + length_at (K.seen station.old) at + FRAME_LENGTH) }
-    ensures ahead { IfOk result (λ x. at < x.1) }
-    ensures within { K.tells → IfOk result (λ x. x.1 < size) }
-    ensures over { IfOk result (λ x. x.0.grid ≡ setup.now.grid) }
-    ensures gauge { IfOk result (λ x. x.0.gauge < length ends.now) }
-    ensures joins { IfOk result (λ x. x.0.from ≡ slice_index ends.now x.0.gauge) }
+        x.next ≡ at + length_at (K.seen station.old) at + FRAME_LENGTH) }
+    ensures gate_byte { K.tells → IfOk result (λ x.
+        x.gate ≡ slice_index (K.seen station.old) x.next) }
+    ensures ahead { IfOk result (λ x. at < x.next) }
+    ensures within { K.tells → IfOk result (λ x. x.next < size) }
+    ensures over { IfOk result (λ x. x.segment.grid ≡ setup.now.grid) }
+    ensures gauge { IfOk result (λ x. x.segment.gauge < length ends.now) }
+    ensures joins { IfOk result (λ x. x.segment.from ≡ slice_index ends.now x.segment.gauge) }
     ensures cause { result ≡ Err Disk →
         CountRose (K.faults station.old) (K.faults station.new) }
-    ensures next { IfOk result (λ x. IsNext setup.now ends.now (parts_of x.0)) }
-    ensures step { IfOk result (λ x. IsStep ends.now at (parts_of x.0) x.1) }
+    ensures next { IfOk result (λ x. IsNext setup.now ends.now (parts_of x.segment)) }
+    ensures step { IfOk result (λ x. IsStep ends.now at (parts_of x.segment) x.next) }
     ensures quiet { K.tells → IsQuiet (K.clock station.old) (K.moments station.old)
         (K.clock station.new) (K.moments station.new) (K.told station.old) (K.told station.new)
         (K.seen station.old) (K.seen station.new) (K.leaves station.old) (K.leaves station.new) }
@@ -155,6 +186,20 @@ fn pass(ends: &mut [u64], segment: &Segment)
     ends[usize::from(name.gauge)] = name.to;
 }
 
+// Where a walk came to a closed gate, behind so many bodies.
+#[derive(Clone, Copy)]
+pub(crate) struct Ended {
+    pub(crate) place: u64,
+    pub(crate) count: u64,
+}
+
+// Behind how many bodies a walk stopped, and why.
+#[derive(Clone, Copy)]
+pub(crate) struct Stopped {
+    pub(crate) count: u64,
+    pub(crate) stop: Stop,
+}
+
 // Where the first gate of a walk stands, and the size that the store had when the walk began.
 #[derive(Clone, Copy)]
 pub(crate) struct Stretch {
@@ -174,96 +219,47 @@ pub(crate) fn walk<K: Station, V: Visitor>(
     ends: &mut [u64],
     visitor: &mut V,
     buf: &mut [u8],
-) -> Result<(u64, u64), (u64, Stop)>
+) -> Result<Ended, Stopped>
     requires narrow { layout ≡ One → setup.now.grid.classes ≤ MAX_CLASSES_ONE }
     requires gauges { length ends.old ≡ length setup.now.gains }
     requires size { K.tells → stretch.size ≡ length (K.seen station.old) }
     requires start { stretch.start < stretch.size }
     requires near { IsNear stretch.start ends.old }
     requires few { limit < 2 ^ 32 }
-    requires room { limit ≤ length buf.old }
+    requires room { limit + BEHIND ≤ length buf.old }
     // It ends as the image says, unless memory runs out or the disk fails.
-    ensures walks { K.tells → EndsWalkAs (λ x. (x.0, ends.new))
+    ensures walks { K.tells → EndsWalkAs (λ x. (x.place, ends.new))
         (Walks layout setup.now limit (K.seen station.old) 0 stretch.start
         ends.old) result }
-    // Where the image reads as bodies, nothing is damaged.
-    ensures reads { K.tells → (bodies : List PartsValue) (last : List ℕ) (gate : ℕ)
-        (front rest : List ℕ) → StartsAt layout setup.now limit (K.seen station.old)
-        stretch.start ends.old bodies last gate front rest → NoDamage result }
     // With Ok the visitor was handed the bodies up to a closed gate.
     ensures found { IfOk result (λ x. (segments : List SegmentValue) ×
         HasVisited V.step visitor.old visitor.new setup.now ends.old segments ends.new ×
-        (x.1 ≡ length segments) × (K.tells → IsFound layout setup.now (K.seen station.old)
-        stretch.start ends.old x.0 ends.new (map parts_of segments))) }
+        (x.count ≡ length segments) × (K.tells → IsFound layout setup.now (K.seen station.old)
+        stretch.start ends.old x.place ends.new (map parts_of segments))) }
     // Else those in front of another gate.
     ensures passed { IfErr result (λ _. (segments : List SegmentValue) × (last : List ℕ) ×
         (at : ℕ) × HasVisited V.step visitor.old visitor.new setup.now ends.old segments last ×
         (K.tells → HasPassed layout setup.now (K.seen station.old) stretch.start
         ends.old at last
         (map parts_of segments))) }
-    ensures near { IfOk result (λ x. IsNear x.0 ends.new) }
-    ensures count { IfOk result (λ x. x.1 ≤ x.0) }
-    ensures cause { IfErr result (λ e. e.1 ≡ Disk →
+    ensures near { IfOk result (λ x. IsNear x.place ends.new) }
+    ensures count { IfOk result (λ x. x.count ≤ x.place) }
+    ensures cause { IfErr result (λ e. e.stop ≡ Disk →
         CountRose (K.faults station.old) (K.faults station.new)) }
     ensures later { K.faults station.old ≤ K.faults station.new }
     ensures quiet { K.tells → IsQuiet (K.clock station.old) (K.moments station.old)
         (K.clock station.new) (K.moments station.new) (K.told station.old) (K.told station.new)
         (K.seen station.old) (K.seen station.new) (K.leaves station.old) (K.leaves station.new) }
 {
-    walk_from(
-        alloc, station, layout, setup, stretch, limit, ends, visitor, buf,
-    )
-}
-
-fn walk_from<K: Station, V: Visitor>(
-    alloc: Global,
-    station: &mut K,
-    layout: Layout,
-    setup: &Setup,
-    stretch: Stretch,
-    limit: usize,
-    ends: &mut [u64],
-    visitor: &mut V,
-    buf: &mut [u8],
-) -> Result<(u64, u64), (u64, Stop)>
-    requires narrow { layout ≡ One → setup.now.grid.classes ≤ MAX_CLASSES_ONE }
-    requires gauges { length ends.old ≡ length setup.now.gains }
-    requires size { K.tells → stretch.size ≡ length (K.seen station.old) }
-    requires start { stretch.start < stretch.size }
-    requires near { IsNear stretch.start ends.old }
-    requires few { limit < 2 ^ 32 }
-    requires room { limit ≤ length buf.old }
-    ensures walks { K.tells → EndsWalkAs (λ x. (x.0, ends.new))
-        (Walks layout setup.now limit (K.seen station.old) 0 stretch.start
-        ends.old) result }
-    ensures found { IfOk result (λ x. (segments : List SegmentValue) ×
-        HasVisited V.step visitor.old visitor.new setup.now ends.old segments ends.new ×
-        (x.1 ≡ length segments) × (K.tells → IsFound layout setup.now (K.seen station.old)
-        stretch.start ends.old x.0 ends.new (map parts_of segments))) }
-    ensures passed { IfErr result (λ _. (segments : List SegmentValue) × (last : List ℕ) ×
-        (at : ℕ) × HasVisited V.step visitor.old visitor.new setup.now ends.old segments last ×
-        (K.tells → HasPassed layout setup.now (K.seen station.old) stretch.start
-        ends.old at last
-        (map parts_of segments))) }
-    ensures near { IfOk result (λ x. IsNear x.0 ends.new) }
-    ensures count { IfOk result (λ x. x.1 ≤ x.0) }
-    ensures cause { IfErr result (λ e. e.1 ≡ Disk →
-        CountRose (K.faults station.old) (K.faults station.new)) }
-    ensures later { K.faults station.old ≤ K.faults station.new }
-    ensures quiet { K.tells → IsQuiet (K.clock station.old) (K.moments station.old)
-        (K.clock station.new) (K.moments station.new) (K.told station.old) (K.told station.new)
-        (K.seen station.old) (K.seen station.new) (K.leaves station.old) (K.leaves station.new) }
-{
-    let mut at = stretch.start;
-    let mut index = 0u64;
-    'bodies: loop {
-        let mut gate = [0u8; 1];
-        if station.read_at(at, &mut gate).is_err() {
-            return Err((index, Stop::Disk));
-        }
-        if gate[0] != 1 {
-            return Ok((at, index));
-        }
+    let mut place = stretch.start;
+    let mut count = 0u64;
+    let mut first = [0u8; 1];
+    if station.read_at(place, &mut first).is_err() {
+        let stop = Stop::Disk;
+        return Err(Stopped { count, stop });
+    }
+    let mut gate = first[0];
+    'bodies: while gate == 1 {
         match next_body(
             alloc,
             station,
@@ -272,18 +268,21 @@ fn walk_from<K: Station, V: Visitor>(
             stretch.size,
             limit,
             ends,
-            at,
+            place,
             buf,
         ) {
-            Ok((segment, next)) => {
-                if visitor.body(alloc, &segment).is_err() {
-                    return Err((index, Stop::Memory));
+            Ok(found) => {
+                if visitor.body(alloc, &found.segment).is_err() {
+                    let stop = Stop::Memory;
+                    return Err(Stopped { count, stop });
                 }
-                pass(ends, &segment);
-                at = next;
-                index += 1;
+                pass(ends, &found.segment);
+                place = found.next;
+                gate = found.gate;
+                count += 1;
             }
-            Err(stop) => return Err((index, stop)),
+            Err(stop) => return Err(Stopped { count, stop }),
         }
     }
+    Ok(Ended { place, count })
 }

@@ -60,7 +60,3 @@ pub record WalksOver {K : Type 0} (v : station.Ghosts K) (setup : Setup) (statio
       (v.told station) (v.told station2) (v.seen station) (v.seen station2) (v.leaves station) (v.leaves station2)
   pub cause : result ≡ Err DiskFault → CountRose (v.faults station) (v.faults station2)
   pub later : v.faults station ≤ v.faults station2
-
--- a step that does nothing
-abbrev pub StepsOver : {V : Type 0} → V → SegmentValue → V → Type 0
-StepsOver u s w = Unit {0}

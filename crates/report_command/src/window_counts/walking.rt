@@ -10,26 +10,11 @@ use crate::window_counts::counting::{Times, Windows};
 use calibration::Setup;
 use outside::station::Station;
 use recording::Head;
-use segment::Segment;
-use segment_store::{ResumeFault, Visitor, each_body};
-use std::alloc::{AllocError, Global};
+use segment_store::{ResumeFault, each_body, read_head};
+use std::alloc::Global;
 
-// The head is told behind the bodies, so a first walk is nobody's.
-#[derive(Drop)]
-struct Nobody;
-
-impl Visitor for Nobody {
-    ghost use Rattle.report_command.specs.window_counts.Counted.{StepsOver};
-
-    ghost step = { StepsOver };
-
-    fn body(&mut self, _alloc: Global, _seg: &Segment) -> Result<(), AllocError> {
-        Ok(())
-    }
-}
-
-/// Counts a window of each gauge over the bodies of a store, which it walks over twice: the periods
-/// of the recordings stand in the head. It writes and tells nothing.
+/// Counts a window of each gauge over the bodies of a store. It reads the head first, where the
+/// periods of the recordings stand, and then walks over the bodies. It writes and tells nothing.
 pub fn count_windows<K: Station>(
     alloc: Global,
     station: &mut K,
@@ -47,7 +32,7 @@ pub fn count_windows<K: Station>(
     ensures grid { IfOk result (λ w. w.grid ≡ setup.now.grid) }
     ensures walk { WalksOver ⟦<K as Station>⟧ setup.now station.old station.new result }
 {
-    match each_body(alloc, station, setup, &mut Nobody) {
+    match read_head(alloc, station, setup) {
         Ok(head) => count_by(alloc, station, setup, head.heads.as_slice(), times),
         Err(fault) => Err(fault),
     }

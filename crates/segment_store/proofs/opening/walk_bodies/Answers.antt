@@ -8,6 +8,9 @@ use Rattle.segment_store.specs.Image.{nothing_held}
 use Rattle.segment_store.specs.Opening.{WalksAs, IsUnharmed}
 use Rattle.segment_store.specs.Resuming.{Walks}
 use Rattle.segment_store.proofs.Answering.{if_err_any, walks_err, unharmed_err, walks_moved, starts_moved, stops_moved}
+use Rattle.segment_store.proofs.Nearness.{max_small}
+use Rattle.segment_store.proofs.Reading.{walks_only}
+use Rattle.segment_store.proofs.Walking.{no_damage}
 use Rattle.segment_store.proofs.Begins.{not_begun, begun_moved, found_moved}
 use Rattle.segment_store.proofs.opening.walk_bodies.Goals as goal
 
@@ -34,7 +37,7 @@ returns-in-Ok-clause-walks g c tells =
     let image = g.K.Station.seen c.args.station.now in
     let last = whole c.walk.new.ends c.in_ok-ends.ends.items c.in_ok-ends.ends.len (length c.deref_mut.result.now) c.walk.auto.ends
     (omega (arith, ap length ends, c.in_ok-ends.ensures.len, length-replicate {A = ℕ} (length c.as_slice-gauges.result.now) 0)) in
-    subst (λ l. Walks c.args.layout s (max_body c.args.layout s.grid.classes) image 0 (start_of s) (nothing_held s) (Ok (c.in-Ok.place, l)))
+    subst (λ l. Walks c.args.layout s (max_body c.args.layout s.grid.classes) image 0 (start_of s) (nothing_held s) (Ok (c.in-Ok.ended.place, l)))
     (sym last)
     (walks_moved c.args.layout s image _ (max_body c.args.layout s.grid.classes) _ (start_of s) _
     (nothing_held s) limit
@@ -48,7 +51,7 @@ returns-in-Ok-clause-found g c =
     let last = whole c.walk.new.ends c.in_ok-ends.ends.items c.in_ok-ends.ends.len (length c.deref_mut.result.now) c.walk.auto.ends
     (omega (arith, ap length ends, c.in_ok-ends.ensures.len, length-replicate {A = ℕ} (length c.as_slice-gauges.result.now) 0)) in
     found_moved g.V.Visitor.step c.args.visitor.now c.walk.new.visitor g.K.Station.tells c.args.layout s
-    (g.K.Station.seen c.args.station.now) _ (start_of s) _ (nothing_held s) c.walk.new.ends _ c.in-Ok.place c.in-Ok.count
+    (g.K.Station.seen c.args.station.now) _ (start_of s) _ (nothing_held s) c.walk.new.ends _ c.in-Ok.ended.place c.in-Ok.ended.count
     (ap gauge_place count) (ends ∙ ap (λ n. replicate n 0) count) (sym last) c.in-Ok.ensures.found
 
 pub returns-in-Err-clause-passed : goal.returns-in-Err-clause-passed
@@ -69,11 +72,10 @@ returns-in-Err-clause-walks g c tells =
     let ends = c.deref_mut.ensures.value ∙ c.in_ok-ends.ensures.items_if_clones_equal (λ y h. h) in
     let image = g.K.Station.seen c.args.station.now in
     let see : Walked → ℕ × List ℕ = λ x. (x.place, x.ends.items) in
-    let see2 : ℕ × ℕ → ℕ × List ℕ = λ x. (x.0, c.walk.new.ends) in
     let moved = stops_moved c.args.layout s image _ k _ (start_of s) _ (nothing_held s) limit (ap gauge_place count)
-    (ends ∙ ap (λ n. replicate n 0) count) see2 c.in-Err.index c.in-Err.stop (c.in-Err.ensures.walks tells) in
+    (ends ∙ ap (λ n. replicate n 0) count) c.in-Err.stopped.count c.in-Err.stopped.stop (c.in-Err.ensures.walks tells) in
     subst (λ f. WalksAs {X = Walked} c.args.layout s k image see (Err f)) (sym c.fault_of.ensures.fault)
-    (walks_err {X = Walked} c.args.layout s k image see c.in-Err.index c.in-Err.stop see2 moved)
+    (walks_err {X = Walked} c.args.layout s k image see c.in-Err.stopped.count c.in-Err.stopped.stop moved)
 
 pub returns-in-Err-clause-reads : goal.returns-in-Err-clause-reads
 returns-in-Err-clause-reads g c tells bodies last gate front rest starts =
@@ -85,6 +87,9 @@ returns-in-Err-clause-reads g c tells bodies last gate front rest starts =
     let image = g.K.Station.seen c.args.station.now in
     let moved = starts_moved c.args.layout s image _ k _ (start_of s) _ (nothing_held s) limit (ap gauge_place count)
     (ends ∙ ap (λ n. replicate n 0) count) bodies last gate front rest starts in
+    let few = max_small c.args.layout s.grid.classes (omega (arith, starts.is_setup.grid.classes_to)) in
+    let stop = no_damage last (Walks c.args.layout s _ image 0 _ _) c.in-Err.stopped.count c.in-Err.stopped.stop (c.in-Err.ensures.walks tells)
+    (λ q w. walks_only c.args.layout s moved.is_setup _ (omega (arith, limit, few)) image gate rest moved.closed moved.within front 0 _
+    _ last bodies q moved.here moved.whole moved.tiles w) in
     subst (λ f. IsUnharmed {X = Walked} (Err f)) (sym c.fault_of.ensures.fault)
-    (unharmed_err {X = Walked} c.args.layout s k image (λ (x : Walked). (x.place, x.ends.items)) c.in-Err.index c.in-Err.stop
-    (c.in-Err.ensures.reads tells bodies last gate front rest moved))
+    (unharmed_err {X = Walked} c.args.layout s k image (λ (x : Walked). (x.place, x.ends.items)) c.in-Err.stopped.count c.in-Err.stopped.stop stop)

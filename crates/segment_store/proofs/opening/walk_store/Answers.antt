@@ -38,7 +38,7 @@ returns-in-Ok-clause-quiet g c tells =
     let q1 = quiet_on q0 (c.sync.ensures.time tells) (c.sync.ensures.told tells) (c.sync.ensures.seen tells) (c.sync.ensures.crash tells) in
     let q2 = quiet_on q1 (c.size.ensures.time tells) (c.size.ensures.told tells) (c.size.ensures.seen tells)
     (c.size.ensures.crash tells).none_new in
-    quiet_then (quiet_then q2 (c.read_head.ensures.quiet tells)) (c.walk_bodies.ensures.quiet tells)
+    quiet_then (quiet_then q2 (c.check_head.ensures.quiet tells)) (c.walk_bodies.ensures.quiet tells)
 
 pub returns-in-Err-clause-quiet : goal.returns-in-Err-clause-quiet
 returns-in-Err-clause-quiet g c tells =
@@ -48,7 +48,7 @@ returns-in-Err-clause-quiet g c tells =
     let q1 = quiet_on q0 (c.sync.ensures.time tells) (c.sync.ensures.told tells) (c.sync.ensures.seen tells) (c.sync.ensures.crash tells) in
     let q2 = quiet_on q1 (c.size.ensures.time tells) (c.size.ensures.told tells) (c.size.ensures.seen tells)
     (c.size.ensures.crash tells).none_new in
-    quiet_then q2 (c.read_head.ensures.quiet tells)
+    quiet_then q2 (c.check_head.ensures.quiet tells)
 
 pub returns-in-Ok-clause-unharmed : goal.returns-in-Ok-clause-unharmed
 returns-in-Ok-clause-unharmed g c tells head bodies ends same reads =
@@ -58,7 +58,7 @@ returns-in-Ok-clause-unharmed g c tells head bodies ends same reads =
     let v = c.in-Ok.head.setup in
     let eq : head.setup ≡ v = same ∙ sym c.in-Ok.ensures.setup in
     let seen2 = c.size.ensures.seen tells ∙ c.sync.ensures.seen tells in
-    let seen3 = (c.read_head.ensures.quiet tells).seen_same ∙ seen2 in
+    let seen3 = (c.check_head.ensures.quiet tells).seen_same ∙ seen2 in
     let lay : head.layout ≡ l = sym (layout_is head bodies ends old reads) ∙ ap layout_in (sym seen2)
     ∙ sym (c.in-Ok.ensures.layout tells) in
     let at = starts head bodies ends old reads in
@@ -90,7 +90,7 @@ returns-in-Ok-clause-visited g c =
       λ tells.
           let image = k.seen c.walk_bodies.new.station in
           let seen2 = c.size.ensures.seen tells in
-          let seen3 = (c.read_head.ensures.quiet tells).seen_same in
+          let seen3 = (c.check_head.ensures.quiet tells).seen_same in
           let seen4 = (c.walk_bodies.ensures.quiet tells).seen_same in
           let count = ap (λ (u : Setup). length u.gains) of_setup in
           let lt : start_of h.setup < length image =
@@ -114,10 +114,10 @@ returns-in-Ok-clause-durable g c tells =
     let leaves = k.leaves c.walk_bodies.new.station in
     let seen1 = c.sync.ensures.seen tells in
     let seen2 = c.size.ensures.seen tells in
-    let seen3 = (c.read_head.ensures.quiet tells).seen_same in
+    let seen3 = (c.check_head.ensures.quiet tells).seen_same in
     let seen4 = (c.walk_bodies.ensures.quiet tells).seen_same in
     let only : Only image leaves = λ i has. c.in_ok-sync.ensures.durable tells i ((c.size.ensures.crash tells).none_new i
-    ((c.read_head.ensures.quiet tells).none_new i ((c.walk_bodies.ensures.quiet tells).none_new i has)))
+    ((c.check_head.ensures.quiet tells).none_new i ((c.walk_bodies.ensures.quiet tells).none_new i has)))
     ∙ sym (seen4 ∙ seen3 ∙ seen2 ∙ seen1) in
     if_ok_any (Only image leaves) c.walk_bodies.result only
 
@@ -130,7 +130,7 @@ returns-in-Ok-clause-begun g c =
     let before = c.args.visitor.now in
     let after = c.walk_bodies.new.visitor in
     let step = g.V.Visitor.step in
-    if_err_more (HasBegun step before after k.tells c.in-Ok.layout c.in-Ok.head.setup (k.seen c.read_head.new.station))
+    if_err_more (HasBegun step before after k.tells c.in-Ok.layout c.in-Ok.head.setup (k.seen c.check_head.new.station))
     (HasBegun step before after k.tells (layout_in old) setup old) c.walk_bodies.result
     (λ b.
     let v = subst (λ (s : Setup). HasVisited step before after s (nothing_held s) b.0 b.1) c.in-Ok.ensures.setup b.3 in (
@@ -140,7 +140,7 @@ returns-in-Ok-clause-begun g c =
       v,
       λ tells.
           let seen2 = c.size.ensures.seen tells ∙ c.sync.ensures.seen tells in
-          let seen3 = (c.read_head.ensures.quiet tells).seen_same ∙ seen2 in
+          let seen3 = (c.check_head.ensures.quiet tells).seen_same ∙ seen2 in
           let lay = c.in-Ok.ensures.layout tells ∙ ap layout_in seen2 in
           subst (λ l. HasPassed l setup old (start_of setup) (nothing_held setup) b.2 b.1 (map parts_of b.0)) lay
           (subst (λ (s : Setup). HasPassed c.in-Ok.layout s old (start_of s) (nothing_held s) b.2 b.1 (map parts_of b.0))

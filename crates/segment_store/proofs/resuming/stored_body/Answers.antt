@@ -1,5 +1,6 @@
-use Rattle.std.proofs.Common.{◌≡◌, ◌+◌, ◌++◌, ℕ, List, slice_range, sym, subst, ap, ◌∙◌, arith}
-use Rattle.std.specs.Prelude.{Ok, Err}
+use Rattle.std.proofs.Common.{◌≡◌, ◌+◌, ◌-◌, ◌++◌, ℕ, List, take, drop, get_or, slice_range, sym, subst, ap, ◌∙◌, arith}
+use Rattle.std.proofs.lemmas.List.{take-take, drop-take, drop-drop, get_or-take, get_or-drop}
+use Rattle.std.specs.Prelude.{Result, Ok, Err}
 use Rattle.std.specs.Int.{w32, from_be_bytes, to_be_bytes}
 use Rattle.sha2.specs.Sha256.{sha256}
 use Rattle.outside.specs.station.Station.{Image}
@@ -11,6 +12,9 @@ use Rattle.segment_store.specs.declared.damage.Stop.{Stop}
 use Rattle.segment_store.specs.declared.damage.Stop.TheVariants as stops
 use Rattle.calibration.specs.declared.setup.Setup.{Setup}
 use Rattle.segment_store.specs.Resuming.{field_at, length_at, bytes_at, kept_at, found_at, Checks, Finds, TellsAs, IsWhole, no_length, too_long, no_gate, whole}
+use Rattle.segment_store.specs.declared.resuming.Stored.{Stored}
+use Rattle.segment_store.specs.declared.resuming.TheConstants.{BEHIND}
+use Rattle.segment_store.specs.declared.filling.TheConstants.{FRAME_LENGTH}
 use Rattle.segment_store.proofs.Nearness.{step_is}
 use Rattle.segment_store.proofs.Quiet.{quiet_starts, quiet_on}
 use Rattle.segment_store.proofs.resuming.stored_body.Goals as goal
@@ -22,21 +26,53 @@ length_is : (image : Image) (at : ℕ) (field : List ℕ) (n : ℕ) → field �
     → n ≡ from_be_bytes w32 field → n ≡ length_at image at
 length_is image at field n is made = made ∙ ap (from_be_bytes w32) (field_is image at field is)
 
-range_is : (image image2 : Image) (buf : List ℕ) (from len from2 len2 : ℕ) → image2 ≡ image → from ≡ from2 → len ≡ len2
-    → buf ≡ slice_range image2 from (from + len) → buf ≡ slice_range image from2 (from2 + len2)
-range_is image image2 buf from len from2 len2 same a b is = is ∙ ap (λ i. slice_range i from (from + len)) same
-    ∙ ap (λ n. slice_range image from (from + n)) b ∙ ap (λ n. slice_range image n (n + len2)) a
-
 module _ (lay : Layout) (setup : Setup) (limit : ℕ) (image : Image) (ends : List ℕ) (at next : ℕ) (w : IsWhole limit image at) where
   told_ok : (p : SegmentValue) → TellsAs parts_of (Checks lay setup ends (bytes_at image at) (kept_at image at) (found_at image at)) (Ok p)
       → Finds lay setup limit image ends at (Ok (parts_of p))
   told_ok p t = whole w t
 
   told_err : (e : Stop) → TellsAs parts_of (Checks lay setup ends (bytes_at image at) (kept_at image at) (found_at image at)) (Err e)
-      → TellsAs (λ (x : SegmentValue × ℕ). parts_of x.0) (Finds lay setup limit image ends at) (Err e)
+      → TellsAs (λ (x : Stored). parts_of x.segment) (Finds lay setup limit image ends at) (Err e)
   told_err stops.Memory t = tt
   told_err stops.Disk t = tt
   told_err (stops.Damaged d) t = whole w t
+
+-- one read of a body, its digest and a gate
+module _ (image read body rest : List ℕ) (at len : ℕ) (is : read ≡ take (len + BEHIND) (drop (at + 5) image)) (front : body ≡ take len read)
+    (back : rest ≡ drop len read) where
+  body_read : body ≡ slice_range image (at + 5) (at + 5 + len)
+  body_read =
+      let n : len ≡ at + 5 + len - (at + 5) = omega arith in
+      front ∙ ap (take len) is ∙ take-take len (len + BEHIND) (drop (at + 5) image) (omega arith) ∙ ap (λ m. take m (drop (at + 5) image)) n
+
+  rest_read : rest ≡ take BEHIND (drop (at + 5 + len) image)
+  rest_read = back ∙ ap (drop len) is ∙ drop-take len BEHIND (drop (at + 5) image) ∙ ap (take BEHIND) (drop-drop len (at + 5) image)
+
+  kept_read : take 32 rest ≡ slice_range image (at + 5 + len) (at + 5 + len + 32)
+  kept_read =
+      let n : 32 ≡ at + 5 + len + 32 - (at + 5 + len) = omega arith in
+      ap (take 32) rest_read ∙ take-take 32 BEHIND (drop (at + 5 + len) image) (omega arith)
+      ∙ ap (λ m. take m (drop (at + 5 + len) image)) n
+
+  gate_read : get_or rest 32 0 ≡ get_or image (at + 5 + len + 32) 0
+  gate_read = ap (λ (l : List ℕ). get_or l 32 0) rest_read ∙ get_or-take BEHIND (drop (at + 5 + len) image) 32 0 (omega arith)
+      ∙ get_or-drop (at + 5 + len) image 32 0
+
+-- a read of so many bytes
+part_is : (image image2 : Image) (buf : List ℕ) (from len len2 : ℕ) → image2 ≡ image → len ≡ len2
+    → buf ≡ slice_range image2 from (from + len) → buf ≡ take len2 (drop from image)
+part_is image image2 buf from len len2 same a is =
+    let n : from + len - from ≡ len2 = omega (arith, a) in
+    is ∙ ap (λ i. slice_range i from (from + len)) same ∙ ap (λ m. take m (drop from image)) n
+
+module _ (lay : Layout) (setup : Setup) (ends : List ℕ) (image : Image) (at : ℕ) (r : Result SegmentValue Stop) where
+  checked : (body kept found : List ℕ) → body ≡ bytes_at image at → kept ≡ kept_at image at → found ≡ found_at image at
+      → TellsAs parts_of (Checks lay setup ends body kept found) r
+      → TellsAs parts_of (Checks lay setup ends (bytes_at image at) (kept_at image at) (found_at image at)) r
+  checked body kept found a b c t =
+      subst (λ f. TellsAs parts_of (Checks lay setup ends (bytes_at image at) (kept_at image at) f) r) c
+      (subst (λ k. TellsAs parts_of (Checks lay setup ends (bytes_at image at) k found) r) b
+      (subst (λ b. TellsAs parts_of (Checks lay setup ends b kept found) r) a t))
 
 pub returns-then-size-at-lt5-clause-finds : goal.returns-then-size-at-lt5-clause-finds
 returns-then-size-at-lt5-clause-finds g c tells =
@@ -63,30 +99,22 @@ returns-then-size-at-clause-finds g c tells =
 
 pub returns-in-Ok-clause-finds : goal.returns-in-Ok-clause-finds
 returns-in-Ok-clause-finds g c tells =
-    let k = g.K.Station in
-    let image = k.seen c.args.station.now in
+    let image = g.K.Station.seen c.args.station.now in
     let at = c.args.at in
+    let len = length_at image at in
     let size = c.requires.size tells in
     let field = c.in_ok-read_at.ensures.bytes tells in
     let n = length_is image at _ c.length_of-len.result field c.length_of-len.ensures.value in
-    let seen2 = c.read_at.ensures.seen tells in
-    let seen3 = c.read_at-2.ensures.seen tells ∙ seen2 in
-    let body : c.read_at-2.new.buf ≡ bytes_at image at = range_is image _ _ _ _ (at + 5) (length_at image at) seen2 (omega arith)
-    (omega (arith, n, c.split_at_mut-body.ensures.front_len)) (c.in_ok-read_at-2.ensures.bytes tells) in
-    let kept : c.read_at-3.new.buf ≡ kept_at image at = range_is image _ _ _ _ (at + 5 + length_at image at) 32 seen3 (omega (arith, n))
-    (omega arith) (c.in_ok-read_at-3.ensures.bytes tells) in
+    let read = part_is image _ c.read_at-2.new.buf (at + 5) _ (len + BEHIND) (c.read_at.ensures.seen tells)
+    (omega (arith, n, c.split_at_mut-bytes.ensures.front_len)) (c.in_ok-read_at-2.ensures.bytes tells) in
+    let front = c.split_at.ensures.front ∙ ap (λ m. take m c.read_at-2.new.buf) n in
+    let back = c.split_at.ensures.back ∙ ap (λ m. drop m c.read_at-2.new.buf) n in
+    let body : c.split_at.result.0.now ≡ bytes_at image at = body_read image _ _ c.split_at.result.1.now at len read front back in
+    let kept : c.digest_in-kept.result ≡ kept_at image at = c.digest_in-kept.ensures
+    ∙ kept_read image _ c.split_at.result.0.now _ at len read front back in
     let found : c.digest_of-found.result ≡ found_at image at = c.digest_of-found.ensures
-    ∙ ap (λ (l : List ℕ). sha256 (l ++ c.read_at-2.new.buf)) (field_is image at _ field)
+    ∙ ap (λ (l : List ℕ). sha256 (l ++ c.split_at.result.0.now)) (field_is image at _ field)
     ∙ ap (λ (l : List ℕ). sha256 (field_at image at ++ l)) body in
-    let setup : Setup = c.args.setup.now in
-    let checked : TellsAs parts_of (Checks c.args.layout setup c.args.ends.now (bytes_at image at) (kept_at image at)
-    (found_at image at)) (Ok c.in-Ok.segment) =
-    subst (λ f. TellsAs parts_of (Checks c.args.layout setup c.args.ends.now (bytes_at image at) (kept_at image at) f)
-    (Ok c.in-Ok.segment)) found
-    (subst (λ k. TellsAs parts_of (Checks c.args.layout setup c.args.ends.now (bytes_at image at) k c.digest_of-found.result)
-    (Ok c.in-Ok.segment)) kept
-    (subst (λ b. TellsAs parts_of (Checks c.args.layout setup c.args.ends.now b c.read_at-3.new.buf c.digest_of-found.result)
-    (Ok c.in-Ok.segment)) body c.in-Ok.ensures.checks)) in
     let is_whole : IsWhole c.args.limit image at = record {
       field = omega (arith, size);
       spelled = ap (to_be_bytes w32) (sym n)
@@ -94,34 +122,27 @@ returns-in-Ok-clause-finds g c tells =
       within = omega (arith, n);
       reaches = omega (arith, n, size);
     } in
-    told_ok c.args.layout setup c.args.limit image c.args.ends.now at 0 is_whole c.in-Ok.segment checked
+    told_ok c.args.layout c.args.setup.now c.args.limit image c.args.ends.now at 0 is_whole c.in-Ok.segment
+    (checked c.args.layout c.args.setup.now c.args.ends.now image at (Ok c.in-Ok.segment) _ _ _ body kept found c.in-Ok.ensures.checks)
 
 pub returns-in-Err-clause-finds : goal.returns-in-Err-clause-finds
 returns-in-Err-clause-finds g c tells =
-    let k = g.K.Station in
-    let image = k.seen c.args.station.now in
+    let image = g.K.Station.seen c.args.station.now in
     let at = c.args.at in
+    let len = length_at image at in
     let size = c.requires.size tells in
     let field = c.in_ok-read_at.ensures.bytes tells in
     let n = length_is image at _ c.length_of-len.result field c.length_of-len.ensures.value in
-    let seen2 = c.read_at.ensures.seen tells in
-    let seen3 = c.read_at-2.ensures.seen tells ∙ seen2 in
-    let body : c.read_at-2.new.buf ≡ bytes_at image at = range_is image _ _ _ _ (at + 5) (length_at image at) seen2 (omega arith)
-    (omega (arith, n, c.split_at_mut-body.ensures.front_len)) (c.in_ok-read_at-2.ensures.bytes tells) in
-    let kept : c.read_at-3.new.buf ≡ kept_at image at = range_is image _ _ _ _ (at + 5 + length_at image at) 32 seen3 (omega (arith, n))
-    (omega arith) (c.in_ok-read_at-3.ensures.bytes tells) in
+    let read = part_is image _ c.read_at-2.new.buf (at + 5) _ (len + BEHIND) (c.read_at.ensures.seen tells)
+    (omega (arith, n, c.split_at_mut-bytes.ensures.front_len)) (c.in_ok-read_at-2.ensures.bytes tells) in
+    let front = c.split_at.ensures.front ∙ ap (λ m. take m c.read_at-2.new.buf) n in
+    let back = c.split_at.ensures.back ∙ ap (λ m. drop m c.read_at-2.new.buf) n in
+    let body : c.split_at.result.0.now ≡ bytes_at image at = body_read image _ _ c.split_at.result.1.now at len read front back in
+    let kept : c.digest_in-kept.result ≡ kept_at image at = c.digest_in-kept.ensures
+    ∙ kept_read image _ c.split_at.result.0.now _ at len read front back in
     let found : c.digest_of-found.result ≡ found_at image at = c.digest_of-found.ensures
-    ∙ ap (λ (l : List ℕ). sha256 (l ++ c.read_at-2.new.buf)) (field_is image at _ field)
+    ∙ ap (λ (l : List ℕ). sha256 (l ++ c.split_at.result.0.now)) (field_is image at _ field)
     ∙ ap (λ (l : List ℕ). sha256 (field_at image at ++ l)) body in
-    let setup : Setup = c.args.setup.now in
-    let checked : TellsAs parts_of (Checks c.args.layout setup c.args.ends.now (bytes_at image at) (kept_at image at)
-    (found_at image at)) (Err c.in-Err.stop) =
-    subst (λ f. TellsAs parts_of (Checks c.args.layout setup c.args.ends.now (bytes_at image at) (kept_at image at) f)
-    (Err c.in-Err.stop)) found
-    (subst (λ k. TellsAs parts_of (Checks c.args.layout setup c.args.ends.now (bytes_at image at) k c.digest_of-found.result)
-    (Err c.in-Err.stop)) kept
-    (subst (λ b. TellsAs parts_of (Checks c.args.layout setup c.args.ends.now b c.read_at-3.new.buf c.digest_of-found.result)
-    (Err c.in-Err.stop)) body c.in-Err.ensures.checks)) in
     let is_whole : IsWhole c.args.limit image at = record {
       field = omega (arith, size);
       spelled = ap (to_be_bytes w32) (sym n)
@@ -129,7 +150,22 @@ returns-in-Err-clause-finds g c tells =
       within = omega (arith, n);
       reaches = omega (arith, n, size);
     } in
-    told_err c.args.layout setup c.args.limit image c.args.ends.now at 0 is_whole c.in-Err.stop checked
+    told_err c.args.layout c.args.setup.now c.args.limit image c.args.ends.now at 0 is_whole c.in-Err.stop
+    (checked c.args.layout c.args.setup.now c.args.ends.now image at (Err c.in-Err.stop) _ _ _ body kept found c.in-Err.ensures.checks)
+
+pub returns-in-Ok-clause-gate_byte : goal.returns-in-Ok-clause-gate_byte
+returns-in-Ok-clause-gate_byte g c tells =
+    let image = g.K.Station.seen c.args.station.now in
+    let at = c.args.at in
+    let len = length_at image at in
+    let n = length_is image at _ c.length_of-len.result (c.in_ok-read_at.ensures.bytes tells) c.length_of-len.ensures.value in
+    let read = part_is image _ c.read_at-2.new.buf (at + 5) _ (len + BEHIND) (c.read_at.ensures.seen tells)
+    (omega (arith, n, c.split_at_mut-bytes.ensures.front_len)) (c.in_ok-read_at-2.ensures.bytes tells) in
+    let front = c.split_at.ensures.front ∙ ap (λ m. take m c.read_at-2.new.buf) n in
+    let back = c.split_at.ensures.back ∙ ap (λ m. drop m c.read_at-2.new.buf) n in
+    let place : at + 5 + len + 32 ≡ at + FRAME_LENGTH + c.length_of-len.result = omega (arith, n) in
+    gate_read image _ c.split_at.result.0.now c.split_at.result.1.now at len read front back
+    ∙ ap (λ m. get_or image m 0) place
 
 pub returns-in-Ok-clause-quiet : goal.returns-in-Ok-clause-quiet
 returns-in-Ok-clause-quiet g c tells =
@@ -138,10 +174,8 @@ returns-in-Ok-clause-quiet g c tells =
     (k.seen c.args.station.now) (k.leaves c.args.station.now) (g.met.K.Station.only_now tells c.args.station.now) in
     let one = quiet_on first (c.read_at.ensures.time tells) (c.read_at.ensures.told tells) (c.read_at.ensures.seen tells)
     (c.read_at.ensures.crash tells).none_new in
-    let two = quiet_on one (c.read_at-2.ensures.time tells) (c.read_at-2.ensures.told tells) (c.read_at-2.ensures.seen tells)
-    (c.read_at-2.ensures.crash tells).none_new in
-    quiet_on two (c.read_at-3.ensures.time tells) (c.read_at-3.ensures.told tells) (c.read_at-3.ensures.seen tells)
-    (c.read_at-3.ensures.crash tells).none_new
+    quiet_on one (c.read_at-2.ensures.time tells) (c.read_at-2.ensures.told tells) (c.read_at-2.ensures.seen tells)
+    (c.read_at-2.ensures.crash tells).none_new
 
 pub returns-in-Err-clause-quiet : goal.returns-in-Err-clause-quiet
 returns-in-Err-clause-quiet g c tells =
@@ -150,28 +184,14 @@ returns-in-Err-clause-quiet g c tells =
     (k.seen c.args.station.now) (k.leaves c.args.station.now) (g.met.K.Station.only_now tells c.args.station.now) in
     let one = quiet_on first (c.read_at.ensures.time tells) (c.read_at.ensures.told tells) (c.read_at.ensures.seen tells)
     (c.read_at.ensures.crash tells).none_new in
-    let two = quiet_on one (c.read_at-2.ensures.time tells) (c.read_at-2.ensures.told tells) (c.read_at-2.ensures.seen tells)
-    (c.read_at-2.ensures.crash tells).none_new in
-    quiet_on two (c.read_at-3.ensures.time tells) (c.read_at-3.ensures.told tells) (c.read_at-3.ensures.seen tells)
-    (c.read_at-3.ensures.crash tells).none_new
+    quiet_on one (c.read_at-2.ensures.time tells) (c.read_at-2.ensures.told tells) (c.read_at-2.ensures.seen tells)
+    (c.read_at-2.ensures.crash tells).none_new
 
 pub returns-in-Ok-clause-gate : goal.returns-in-Ok-clause-gate
 returns-in-Ok-clause-gate g c tells =
     let n = length_is (g.K.Station.seen c.args.station.now) c.args.at _ c.length_of-len.result
     (c.in_ok-read_at.ensures.bytes tells) c.length_of-len.ensures.value in
     omega (arith, n)
-
-pub returns-in_err-read_at-3-clause-quiet : goal.returns-in_err-read_at-3-clause-quiet
-returns-in_err-read_at-3-clause-quiet g c tells =
-    let k = g.K.Station in
-    let first = quiet_starts (k.clock c.args.station.now) (k.moments c.args.station.now) (k.told c.args.station.now)
-    (k.seen c.args.station.now) (k.leaves c.args.station.now) (g.met.K.Station.only_now tells c.args.station.now) in
-    let one = quiet_on first (c.read_at.ensures.time tells) (c.read_at.ensures.told tells) (c.read_at.ensures.seen tells)
-    (c.read_at.ensures.crash tells).none_new in
-    let two = quiet_on one (c.read_at-2.ensures.time tells) (c.read_at-2.ensures.told tells) (c.read_at-2.ensures.seen tells)
-    (c.read_at-2.ensures.crash tells).none_new in
-    quiet_on two (c.read_at-3.ensures.time tells) (c.read_at-3.ensures.told tells) (c.read_at-3.ensures.seen tells)
-    (c.read_at-3.ensures.crash tells).none_new
 
 pub returns-in-Ok-clause-step : goal.returns-in-Ok-clause-step
 returns-in-Ok-clause-step g c = step_is c.args.layout c.args.setup.now.grid c.args.ends.now _ c.args.at _
