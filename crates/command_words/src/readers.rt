@@ -1,6 +1,6 @@
 ghost use Rattle.std.specs.Prelude.{◌≡◌, ◌≤◌, IfOk, IfSome, map, option_map, string_bytes};
-ghost use Rattle.command_words.specs.Line.{Init, Report, Audit, Repeat, Sheet, Compact, init_app, report_app, audit_app, repeat_app, sheet_app, compact_app, command_of, table_line, line_without_arguments, count_line, demo_line, column_line, window_line, number_at, id_at, instant_at, count_with, demo_with, column_with, window_with};
-ghost use Rattle.command_words.specs.Commands.{IsWithinRanges, IsInstant, meaning_of};
+ghost use Rattle.command_words.specs.Line.{Init, Report, Audit, Repeat, Sheet, Compact, init_app, report_app, audit_app, repeat_app, sheet_app, compact_app, command_of, table_line, line_without_arguments, count_line, watch_line, demo_line, column_line, window_line, workers_at, number_at, id_at, instant_at, demo_with, column_with, window_with};
+ghost use Rattle.command_words.specs.Commands.{AreWorkers, IsWithinRanges, IsInstant, meaning_of};
 
 use crate::command::{MAX_DEMO_SAMPLES, MAX_PERIOD_US, MAX_SEED, MAX_WORKERS};
 use crate::id::id_in;
@@ -51,6 +51,9 @@ pub fn read_words<'a>(alloc: Global, words: &'a [String]) -> Result<Option<Comma
     }
     if first.as_str() == "compact" {
         return read_compact(alloc, words);
+    }
+    if first.as_str() == "watch" {
+        return read_watch(alloc, words);
     }
     Ok(None)
 }
@@ -143,23 +146,38 @@ fn read_count<'a>(alloc: Global, words: &'a [String]) -> Result<Option<Command<'
     let Some(matches) = read_by(options::count_app(alloc)?, words)? else {
         return Ok(None);
     };
-    Ok(count_with(matches.get_str("workers")))
+    match workers_of(matches.get_str("workers")) {
+        None => Ok(None),
+        Some(workers) => Ok(Some(Command::Count { workers })),
+    }
 }
 
-// `count` with the workers' number, where it is given.
-fn count_with<'a>(workers: Option<&str>) -> Option<Command<'a>>
-    ensures line { meaning_of result ≡ count_with (option_map (λ s. s.now) workers.entry) }
-    ensures ranges { IfSome result IsWithinRanges }
+fn read_watch<'a>(alloc: Global, words: &'a [String]) -> Result<Option<Command<'a>>, AllocError>
+    ensures line { IfOk result (λ read. meaning_of read ≡
+        watch_line (map string_bytes words.entry.now)) }
+    ensures ranges { IfOk result (λ read. IfSome read IsWithinRanges) }
 {
-    let Some(text) = workers else {
-        return Some(Command::Count { workers: None });
+    let Some(matches) = read_by(options::watch_app(alloc)?, words)? else {
+        return Ok(None);
     };
-    let Some(n) = number_in(1, MAX_WORKERS as u64, text) else {
-        return None;
-    };
-    Some(Command::Count {
-        workers: Some(n as u8),
-    })
+    match workers_of(matches.get_str("workers")) {
+        None => Ok(None),
+        Some(workers) => Ok(Some(Command::Watch { workers })),
+    }
+}
+
+// The workers' number, where it is given.
+fn workers_of(text: Option<&str>) -> Option<Option<u8>>
+    ensures value { result ≡ workers_at (option_map (λ s. s.now) text.entry) }
+    ensures ranges { IfSome result AreWorkers }
+{
+    match text {
+        None => Some(None),
+        Some(text) => match number_in(1, MAX_WORKERS as u64, text) {
+            None => None,
+            Some(n) => Some(Some(n as u8)),
+        },
+    }
 }
 
 fn read_demo<'a>(alloc: Global, words: &'a [String]) -> Result<Option<Command<'a>>, AllocError>

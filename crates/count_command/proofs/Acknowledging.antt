@@ -1,18 +1,13 @@
 -- Which lines were told, by the answer.
---   where_both      a fact for these answers, by another one
---   where_opening   the answers of opening are none of them; where_resume: nor those of resuming
+--   where_both       a fact for these answers, by another one
 --   acknowledged_by  and then the line of the answer
 use Rattle.std.proofs.Common.{◌≡◌, ◌⊎◌, ⊎_elim, inl, inr, ℕ, List, [], ◌∷◌, ◌++◌, refl, sym, subst}
 use Rattle.outside.specs.station.Station.{Lines}
-use Rattle.segment_store.specs.declared.fault.ResumeFault.{ResumeFault}
 use Rattle.site_config.specs.recorded.Recorded.{Recorded}
-use Rattle.site_lanes.specs.Answers.{IsOpening}
-use Rattle.status.specs.Refused.{store_status}
 use Rattle.status.specs.declared.status.Status.{Status}
 use Rattle.status.specs.declared.status.Status.TheVariants.{Done, Usage, Config as BadConfig, Store as BadStore, Recording, Torn, ReadFault, WriteFault, DiskFault, OutOfMemory, TooLong, Differs}
-use Rattle.status.proofs.AnswerCases.{by_store_status}
-use Rattle.count_command.specs.held_samples.Told.{Acknowledges}
-use Rattle.count_command.specs.Acknowledging.{WhereCounted, AcknowledgesBy}
+use Rattle.count_command.specs.declared.course.Course.{Course}
+use Rattle.count_command.specs.Acknowledging.{WhereCounted, TellsAll, AcknowledgesBy}
 
 pub where_both : {U V P Q : Type 0} → (V → U) → (P → Q) → (s : Status) → WhereCounted s U P → WhereCounted s V Q
 where_both f h Done p = h p
@@ -28,35 +23,17 @@ where_both f h OutOfMemory p = tt
 where_both f h (TooLong g) p = tt
 where_both f h (Differs g x y z) p = tt
 
-pub where_opening : (U P : Type 0) (s : Status) → IsOpening s → WhereCounted s U P
-where_opening U P (Recording g f) is = tt
-where_opening U P ReadFault is = tt
-where_opening U P Done is = absurd is
-where_opening U P Usage is = absurd is
-where_opening U P (BadConfig f) is = absurd is
-where_opening U P (BadStore f) is = absurd is
-where_opening U P (Torn g bytes) is = absurd is
-where_opening U P WriteFault is = absurd is
-where_opening U P DiskFault is = absurd is
-where_opening U P OutOfMemory is = absurd is
-where_opening U P (TooLong g) is = absurd is
-where_opening U P (Differs g what held found) is = absurd is
-
-pub where_resume : (U P : Type 0) (f : ResumeFault) → WhereCounted (store_status f) U P
-where_resume U P = by_store_status (λ (s : Status). WhereCounted s U P) (λ f. tt) tt tt
-
 -- what was told is this, and behind it at most the line of the answer, which has none with `Done`
-module _ (U : Type 0) (block : ℕ) (r : Recorded) (n : List ℕ) (told : Lines) (line : List ℕ) (told2 told3 : Lines)
+module _ (course : Course) (U : Type 0) (block : ℕ) (r : Recorded) (n : List ℕ) (told : Lines) (line : List ℕ) (told2 told3 : Lines)
     (at_most : (told3 ≡ told2) ⊎ (told3 ≡ told2 ++ line ∷ [])) where
-  up_to : Acknowledges block r n told told2 →
-      Acknowledges block r n told told3 ⊎ ((before : Lines) × (told3 ≡ before ++ line ∷ []) × Acknowledges block r n told before)
-  up_to a = ⊎_elim (λ same. inl (subst (Acknowledges block r n told) (sym same) a)) (λ next. inr (told2, next, a)) at_most
+  up_to : (P : Lines → Type 0) → P told2 → P told3 ⊎ ((before : Lines) × (told3 ≡ before ++ line ∷ []) × P before)
+  up_to P a = ⊎_elim (λ same. inl (subst P (sym same) a)) (λ next. inr (told2, next, a)) at_most
 
-  pub acknowledged_by : (s : Status) → (s ≡ Done → told3 ≡ told2) → WhereCounted s U (Acknowledges block r n told told2) →
-      AcknowledgesBy s U block r n told line told3
-  acknowledged_by Done none a = subst (Acknowledges block r n told) (sym (none refl)) a
-  acknowledged_by WriteFault none a = up_to a
-  acknowledged_by (Torn g b) none a = λ u. up_to (a u)
+  pub acknowledged_by : (s : Status) → (s ≡ Done → told3 ≡ told2) → WhereCounted s U (TellsAll course s block r n told told2) →
+      AcknowledgesBy course s U block r n told line told3
+  acknowledged_by Done none a = subst (TellsAll course Done block r n told) (sym (none refl)) a
+  acknowledged_by WriteFault none a = up_to (TellsAll course WriteFault block r n told) a
+  acknowledged_by (Torn g b) none a = λ u. up_to (TellsAll course (Torn g b) block r n told) (a u)
   acknowledged_by Usage none a = tt
   acknowledged_by (BadConfig x) none a = tt
   acknowledged_by (BadStore x) none a = tt

@@ -1,23 +1,21 @@
 -- Which files were asked for, by what an answer comes of.
---   unread_asks, refused_asks    the configuration or the store is refused
---   opening_asks                 a recording is refused
---   ending_asks                  all were opened
---   asks_then_none               the same when the sources were given back
+--   refused_asks       the store is refused
+--   opening_asks       a recording is refused
+--   ending_asks        all were opened
+--   asks_then_none     the same when the sources were given back
 use Rattle.std.proofs.Common.{◌≡◌, ◌+◌, ℕ, List, inl, inr, ⊎_elim, length, take, sym, subst, arith}
 use Rattle.std.proofs.lemmas.List.{take_all}
 use Rattle.std.specs.Prelude.{Err}
 use Rattle.outside.specs.Site.{Asked, Asks, AsksNothing}
 use Rattle.outside.proofs.Asked.{asks_no_more}
 use Rattle.segment_store.specs.declared.fault.ResumeFault.{ResumeFault}
-use Rattle.site_config.proofs.on_recorded.Asking.{none_is_first, first_then_none}
+use Rattle.site_config.proofs.on_recorded.Asking.{first_then_none}
 use Rattle.site_lanes.specs.Answers.{IsOpening}
 use Rattle.site_lanes.specs.Asked.{OpeningAsks}
 use Rattle.status.specs.Refused.{store_status}
-use Rattle.status.specs.config_reading.Reading.{IsRefusal}
 use Rattle.status.specs.declared.status.Status.{Status}
 use Rattle.status.specs.declared.status.Status.TheVariants.{Done, Usage, Config as BadConfig, Store as BadStore, Recording, Torn, ReadFault, WriteFault, DiskFault, OutOfMemory, TooLong, Differs}
 use Rattle.status.proofs.AnswerCases.{by_store_status}
-use Rattle.status.proofs.on_config_reading.Refusing.{by_refusal}
 use Rattle.count_command.specs.Answer.{IsEnding}
 use Rattle.count_command.specs.Asked.{CountAsks}
 
@@ -25,9 +23,6 @@ use Rattle.count_command.specs.Asked.{CountAsks}
 module _ (a : Asked) (names : List (List ℕ)) where
   nothing : AsksNothing a a
   nothing = λ before has. has
-
-  pub unread_asks : (s : Status) → IsRefusal s → CountAsks s a a names
-  unread_asks = by_refusal (λ (x : Status). CountAsks x a a names) (λ f. nothing) (none_is_first a a names nothing) (inl nothing)
 
   pub refused_asks : (s : Status) (f : ResumeFault) → s ≡ store_status f → CountAsks s a a names
   refused_asks s f is = subst (λ (x : Status). CountAsks x a a names) (sym is)

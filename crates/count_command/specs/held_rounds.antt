@@ -1,2 +1,4 @@
 pub mod Telling
 pub mod Beside
+pub mod Ready
+pub mod Made

@@ -3,3 +3,5 @@ pub mod Kept
 pub mod Going
 pub mod Fronts
 pub mod Pace
+pub mod Hook
+pub mod Stored

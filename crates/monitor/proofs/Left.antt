@@ -7,11 +7,13 @@ use Rattle.outside.specs.station.Station.{Image, Lines}
 use Rattle.file_commands.specs.file_tasks.Run.{Outside}
 use Rattle.status.specs.declared.status.Status.TheVariants.{OutOfMemory}
 use Rattle.status.specs.fault_lines.FaultLine.{fault_line}
-use Rattle.monitor.specs.Shown.{Shown, outside_in, Tells, Ends}
+use Rattle.status.specs.Shown.{Shown, Tells, Ends}
+use Rattle.monitor.specs.Outside.{outside_in}
 
 pub record Untouched (before after : Outside) : Type 0 where
   pub written : after.written ≡ before.written
   pub asked : AsksNothing before.names_asked after.names_asked
+  pub faults : after.site_faults ≡ before.site_faults
   pub back : after.out ≡ 0
   pub files : before.site_tells → after.files ≡ before.files
 

@@ -2,7 +2,6 @@ pub mod TableRun
 pub mod RecordingRead
 pub mod Left
 pub mod NoMemory
-pub mod CountLeft
 pub mod AuditLeft
 pub mod RepeatLeft
 pub mod SheetLeft

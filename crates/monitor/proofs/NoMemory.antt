@@ -8,9 +8,12 @@ use Rattle.status.specs.declared.status.Status.TheVariants.{OutOfMemory}
 use Rattle.status.specs.fault_lines.FaultLine.{fault_line}
 use Rattle.status.specs.fault_lines.Telling.{EndsIn}
 use Rattle.init_command.proofs.MakingMoments.{last_alone}
+use Rattle.count_command.specs.declared.course.Course.{Course}
+use Rattle.count_command.specs.CountRun.{CountRuns}
+use Rattle.count_command.proofs.CountRun.{left_unread}
 use Rattle.report_command.specs.Printing.{PrintsKept}
 use Rattle.report_command.proofs.HeldFigures.{kept_unprinted}
-use Rattle.monitor.specs.Shown.{Shown, TellsAnswer}
+use Rattle.status.specs.Shown.{Shown, TellsAnswer}
 use Rattle.monitor.specs.InitRun.{InitRuns}
 use Rattle.monitor.specs.ReportRun.{ReportRuns}
 use Rattle.monitor.specs.DemoRun.{DemoRuns}
@@ -37,10 +40,16 @@ init_without_memory before after left = record {
   complete = λ k t c bridge is2 sound none r w f. inr refl;
   kind = tt;
   read = λ no. absurd (cc);
+  steady = λ other. left.same.faults;
   disk = λ no. absurd (cc);
   asked = λ c. inl left.same.asked;
   nothing = λ o. left.same.written;
 }
+
+pub count_without_memory : (course : Course) (before after : Shown) → LeftEarly before after → CountRuns course before after OutOfMemory
+count_without_memory course before after left =
+    left_unread course before after OutOfMemory tt left.only refl left.tells left.ends left.same.written left.same.asked (λ c. tt)
+    (λ no. absurd cc) left.same.faults
 
 pub report_without_memory : (before after : Shown) → LeftEarly before after → ReportRuns before after OutOfMemory
 report_without_memory before after left = record {

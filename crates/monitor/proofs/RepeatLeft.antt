@@ -1,7 +1,7 @@
 -- `repeat`, where memory ran out before its configuration was read.
 use Rattle.std.proofs.Common.{[], inr, refl}
 use Rattle.status.specs.declared.status.Status.TheVariants.{OutOfMemory}
-use Rattle.monitor.specs.Shown.{Shown}
+use Rattle.status.specs.Shown.{Shown}
 use Rattle.monitor.specs.RepeatRun.{RepeatRuns}
 use Rattle.monitor.proofs.Left.{LeftEarly}
 use Rattle.monitor.proofs.NoMemory.{answer_without_memory}

@@ -8,18 +8,19 @@ use Rattle.std.proofs.Common.{◌≡◌, ◌≢◌, ◌⊎◌, inl, inr, ℕ, Li
 use Rattle.std.specs.Prelude.{Option, Some, None, String}
 use Rattle.std.specs.declared.alloc.Global.{Global}
 use Rattle.command_words.specs.Commands.{command_in, meaning_of}
-use Rattle.command_words.specs.Line.{Command, Table, Init, Count, Report, Audit, Demo, Repeat, Column, Sheet, Window, Compact, command_of}
+use Rattle.command_words.specs.Line.{Command, Table, Init, Count, Report, Audit, Demo, Repeat, Column, Sheet, Window, Compact, Watch, command_of}
 use Rattle.command_words.specs.declared.command.Command.{Command as Named}
 use Rattle.file_commands.specs.column_command.Task.{column_task}
 use Rattle.file_commands.specs.file_tasks.Run.{Outside, Task, Runs, usage_task, no_memory_task}
 use Rattle.status.specs.declared.status.Status.{Status}
 use Rattle.status.specs.declared.status.Status.TheVariants.{Done, Usage, ReadFault, WriteFault, OutOfMemory}
+use Rattle.count_command.specs.declared.course.Course.TheVariants as course
 use Rattle.monitor.specs.Task.{table_task}
-use Rattle.monitor.specs.Shown.{Shown, outside_in}
+use Rattle.status.specs.Shown.{Shown}
+use Rattle.monitor.specs.Outside.{outside_in}
 use Rattle.monitor.specs.Run.{TaskRuns, CommandRuns, AnswersWords, IsRun}
 use Rattle.monitor.proofs.Left.{Untouched, LeftEarly}
-use Rattle.monitor.proofs.NoMemory.{answer_without_memory, init_without_memory, report_without_memory, demo_without_memory}
-use Rattle.monitor.proofs.CountLeft.{count_without_memory}
+use Rattle.monitor.proofs.NoMemory.{answer_without_memory, init_without_memory, count_without_memory, report_without_memory, demo_without_memory}
 use Rattle.monitor.proofs.AuditLeft.{audit_without_memory}
 use Rattle.monitor.proofs.RepeatLeft.{repeat_without_memory}
 use Rattle.monitor.proofs.SheetLeft.{sheet_without_memory}
@@ -96,7 +97,7 @@ left_command None same_config before after unread left = left_task usage_task []
 left_command (Some (Table file)) same_config before after unread left =
     left_task (table_task file before.files) file same_config before after unread left
 left_command (Some Init) same_config before after unread left = init_without_memory before after left
-left_command (Some (Count workers)) same_config before after unread left = count_without_memory before after left
+left_command (Some (Count workers)) same_config before after unread left = count_without_memory course.Count before after left
 left_command (Some Report) same_config before after unread left = report_without_memory before after left
 left_command (Some Audit) same_config before after unread left = audit_without_memory before after left
 left_command (Some (Demo seed samples workers)) same_config before after unread left =
@@ -109,6 +110,7 @@ left_command (Some Sheet) same_config before after unread left = sheet_without_m
 left_command (Some (Window start from to)) same_config before after unread left =
     window_without_memory (record { start = start; from = from; to = to }) before after left
 left_command (Some Compact) same_config before after unread left = compact_without_memory before after left
+left_command (Some (Watch workers)) same_config before after unread left = count_without_memory course.Watch before after left
 
 left_usage : (meant : Option Command) (s : Status) → s ≡ OutOfMemory → AnswersWords meant s
 left_usage None s is = inr is

@@ -4,7 +4,7 @@ use Rattle.site_config.specs.Configuration.{config_of_bytes}
 use Rattle.site_config.specs.recorded.Asked.{names_in}
 use Rattle.site_config.proofs.on_recorded.Asking.{none_is_first}
 use Rattle.status.specs.declared.status.Status.TheVariants.{OutOfMemory}
-use Rattle.monitor.specs.Shown.{Shown}
+use Rattle.status.specs.Shown.{Shown}
 use Rattle.monitor.specs.SheetRun.{SheetRuns}
 use Rattle.monitor.proofs.Left.{LeftEarly}
 
@@ -18,6 +18,7 @@ sheet_without_memory before after left = record {
   answer_is = λ t c. tt;
   complete = λ t c r f w. inr refl;
   read = λ no. absurd (cc);
+  steady = λ other. left.same.faults;
   write = λ no. absurd (cc);
   asked = λ c. none_is_first before.names_asked after.names_asked (names_in (config_of_bytes before.config)) left.same.asked;
 }

@@ -1,6 +1,6 @@
 -- A run of a command over the store that writes a window or a copy, and what is left where memory ran out before its
 -- configuration was read.
-use Rattle.std.proofs.Common.{◌≡◌, inr, ℕ, List, [], refl, sym, subst}
+use Rattle.std.proofs.Common.{inr, ℕ, List, [], refl, sym, subst}
 use Rattle.outside.specs.declared.source.Source as source
 use Rattle.outside.specs.declared.site.Site as site
 use Rattle.outside.specs.declared.sink.Sink as sink
@@ -11,7 +11,7 @@ use Rattle.report_command.specs.OverStore.{IsOverStore}
 use Rattle.report_command.specs.declared.window_counts.counting.Times.{Times}
 use Rattle.report_command.specs.window_command.Printing.{PrintsWindow, PrintsKept}
 use Rattle.report_command.proofs.on_window_command.Counted.{unprinted, kept_unprinted}
-use Rattle.monitor.specs.Shown.{shown_by, Shown}
+use Rattle.status.specs.Shown.{shown_by, Shown}
 use Rattle.monitor.specs.StoreRun.{StoreRuns}
 use Rattle.monitor.specs.WindowRun.{WindowRuns}
 use Rattle.monitor.specs.CompactRun.{CompactRuns}

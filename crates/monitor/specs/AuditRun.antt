@@ -13,8 +13,7 @@ use Rattle.audit_command.specs.Answers.{AuditAnswers, IsSound}
 use Rattle.audit_command.specs.Asked.{AuditAsks}
 use Rattle.audit_command.specs.Audited.{FindsDifference, IsStanding}
 use Rattle.audit_command.specs.Printing.{Prints}
-use Rattle.monitor.specs.InitRun.{line_for}
-use Rattle.monitor.specs.Shown.{Shown, Tells, Ends}
+use Rattle.status.specs.Shown.{Shown, Tells, Ends, line_for}
 
 pub record AuditRuns (before after : Shown) (answer : Status) : Type 0 where
   -- Which answer it is, by what the bodies of each gauge keep and what its recording begins with.
@@ -44,6 +43,8 @@ pub record AuditRuns (before after : Shown) (answer : Status) : Type 0 where
   -- A read fault is answered only where the configuration's or the site's count of faults rose.
   pub read : answer ≡ ReadFault → CountRose before.config_faults after.config_faults ⊎
       CountRose before.site_faults after.site_faults
+  -- Where a call of the site fails, or a source of it, the answer is a read fault.
+  pub steady : answer ≢ ReadFault → after.site_faults ≡ before.site_faults
   -- A write fault is answered only where the output's count rose.
   pub write : answer ≡ WriteFault → CountRose before.output_faults after.output_faults
   -- A station fault is answered only where the station's count rose.

@@ -10,7 +10,7 @@ use Rattle.site_config.specs.declared.config.Config.{Config}
 use Rattle.status.specs.declared.status.Status.{Status}
 use Rattle.status.specs.declared.status.Status.TheVariants.{Done}
 use Rattle.report_command.specs.compact_command.Copying.{Copies}
-use Rattle.monitor.specs.Shown.{Shown}
+use Rattle.status.specs.Shown.{Shown}
 use Rattle.monitor.specs.StoreRun.{StoreRuns}
 
 pub record CompactRuns (before after : Shown) (answer : Status) : Type 0 where

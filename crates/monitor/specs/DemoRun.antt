@@ -8,7 +8,7 @@ use Rattle.status.specs.declared.status.Status.TheVariants.{Done, WriteFault}
 use Rattle.status.specs.Printing.{IsPrinting}
 use Rattle.demo_command.specs.Answer.{IsDemoAnswer}
 use Rattle.demo_command.specs.Summary.{IsSummary}
-use Rattle.monitor.specs.Shown.{Shown, TellsAnswer}
+use Rattle.status.specs.Shown.{Shown, TellsAnswer}
 
 -- With this seed and so many samples.
 pub record DemoRuns (seed samples : ℕ) (same_config : Type 0) (before after : Shown) (answer : Status) : Type 0 where

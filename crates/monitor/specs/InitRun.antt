@@ -1,7 +1,5 @@
 -- What a run of `init` did.
---   line_for   the line of an answer, by the configuration before the run
---   InitRuns   that a run did it
-use Rattle.std.specs.Prelude.{◌≡◌, ◌≢◌, ◌<◌, ◌⊎◌, ℕ, List, [], ◌∷◌, ◌++◌, length, Ok}
+use Rattle.std.specs.Prelude.{◌≡◌, ◌≢◌, ◌<◌, ◌⊎◌, [], ◌∷◌, ◌++◌, length, Ok}
 use Rattle.outside.specs.Fault.{CountRose}
 use Rattle.outside.specs.station.Station.{Image, Since}
 use Rattle.site_config.specs.Configuration.{config_of_bytes}
@@ -9,14 +7,10 @@ use Rattle.site_config.specs.declared.config.Config.{Config}
 use Rattle.site_config.specs.recorded.Asked.{names_in}
 use Rattle.status.specs.declared.status.Status.{Status}
 use Rattle.status.specs.declared.status.Status.TheVariants.{Done, ReadFault, DiskFault, OutOfMemory}
-use Rattle.status.specs.fault_lines.FaultLine.{fault_line, name_by}
 use Rattle.init_command.specs.Asked.{InitAsks}
 use Rattle.init_command.specs.Heads.{AreSound}
 use Rattle.init_command.specs.Init.{init_line, InMaking, IsMade, InitAnswers, IsInit, IsUnmade}
-use Rattle.monitor.specs.Shown.{Shown, Tells, Ends}
-
-abbrev pub line_for : Shown → Status → List ℕ
-line_for before answer = fault_line answer (name_by (config_of_bytes before.config) answer)
+use Rattle.status.specs.Shown.{Shown, Tells, Ends, line_for}
 
 pub record InitRuns (before after : Shown) (answer : Status) : Type 0 where
   -- With `Done` a crash leaves the new store and nothing else.
@@ -58,6 +52,8 @@ pub record InitRuns (before after : Shown) (answer : Status) : Type 0 where
   -- A read fault is answered only where the configuration's or the site's count of faults rose.
   pub read : answer ≡ ReadFault → CountRose before.config_faults after.config_faults ⊎
       CountRose before.site_faults after.site_faults
+  -- Where a call of the site fails, or a source of it, the answer is a read fault.
+  pub steady : answer ≢ ReadFault → after.site_faults ≡ before.site_faults
   -- A station fault is answered only where the station's count rose.
   pub disk : answer ≡ DiskFault → CountRose before.station_faults after.station_faults
   -- The gauges' files are asked for, gauge by gauge, and no other: none where the configuration is refused, and none

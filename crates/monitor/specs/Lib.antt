@@ -2,12 +2,11 @@ pub mod Figures
 pub mod Printed
 pub mod Numbers
 pub mod Task
-pub mod Shown
+pub mod Outside
 pub mod InitRun
 pub mod ReportRun
 pub mod RepeatRun
 pub mod SheetRun
-pub mod CountRun
 pub mod AuditRun
 pub mod DemoRun
 pub mod StoreRun

@@ -10,7 +10,7 @@ use Rattle.status.specs.declared.status.Status.TheVariants.{Done, ReadFault, Wri
 use Rattle.status.specs.Printing.{IsPrinting, IsReporting}
 use Rattle.report_command.specs.Answers.{IsSound, ReportAnswers}
 use Rattle.report_command.specs.repeat_command.Printing.{Prints}
-use Rattle.monitor.specs.Shown.{Shown, TellsAnswer}
+use Rattle.status.specs.Shown.{Shown, TellsAnswer}
 
 pub record RepeatRuns (before after : Shown) (answer : Status) : Type 0 where
   -- Of the samples of which a read of the store holds the first so many, the cycles of each gauge's level history, as

@@ -14,7 +14,7 @@ use Rattle.status.specs.Printing.{IsPrinting, IsReporting}
 use Rattle.report_command.specs.site_report.Report.{figures_by}
 use Rattle.report_command.specs.Printing.{Prints, PrintsKept}
 use Rattle.report_command.specs.Answers.{IsSound, ReportAnswers}
-use Rattle.monitor.specs.Shown.{Shown, TellsAnswer}
+use Rattle.status.specs.Shown.{Shown, TellsAnswer}
 
 pub record ReportRuns (before after : Shown) (answer : Status) : Type 0 where
   -- The report of the samples of which a read of the store holds the first so many, or a front of it, is printed.

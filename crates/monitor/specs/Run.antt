@@ -5,15 +5,17 @@
 --   IsRun         a run, by its words
 use Rattle.std.specs.Prelude.{◌≡◌, ◌≢◌, ◌⊎◌, ℕ, List, [], map, Option, Some, None, String, string_bytes}
 use Rattle.std.specs.declared.alloc.Global.{Global}
-use Rattle.command_words.specs.Line.{Command, Table, Init, Count, Report, Audit, Demo, Repeat, Column, Sheet, Window, Compact, command_of}
+use Rattle.command_words.specs.Line.{Command, Table, Init, Count, Report, Audit, Demo, Repeat, Column, Sheet, Window, Compact, Watch, command_of}
 use Rattle.status.specs.declared.status.Status.{Status}
 use Rattle.status.specs.declared.status.Status.TheVariants.{Usage, OutOfMemory}
 use Rattle.file_commands.specs.file_tasks.Run.{Task, Runs, usage_task, no_memory_task}
 use Rattle.file_commands.specs.column_command.Task.{column_task}
+use Rattle.count_command.specs.declared.course.Course.TheVariants as course
+use Rattle.count_command.specs.CountRun.{CountRuns}
 use Rattle.monitor.specs.Task.{table_task}
-use Rattle.monitor.specs.Shown.{Shown, outside_in, TellsAnswer}
+use Rattle.status.specs.Shown.{Shown, TellsAnswer}
+use Rattle.monitor.specs.Outside.{outside_in}
 use Rattle.monitor.specs.InitRun.{InitRuns}
-use Rattle.monitor.specs.CountRun.{CountRuns}
 use Rattle.monitor.specs.ReportRun.{ReportRuns}
 use Rattle.monitor.specs.AuditRun.{AuditRuns}
 use Rattle.monitor.specs.DemoRun.{DemoRuns}
@@ -38,7 +40,7 @@ abbrev pub CommandRuns : Option Command → Type 0 → Shown → Shown → Statu
 CommandRuns (Some (Table file)) same_config before after answer =
     TaskRuns (table_task file before.files) file same_config before after answer
 CommandRuns (Some Init) same_config before after answer = InitRuns before after answer
-CommandRuns (Some (Count workers)) same_config before after answer = CountRuns before after answer
+CommandRuns (Some (Count workers)) same_config before after answer = CountRuns course.Count before after answer
 CommandRuns (Some Report) same_config before after answer = ReportRuns before after answer
 CommandRuns (Some Audit) same_config before after answer = AuditRuns before after answer
 CommandRuns (Some (Demo seed samples workers)) same_config before after answer =
@@ -51,6 +53,7 @@ CommandRuns (Some Sheet) same_config before after answer = SheetRuns before afte
 CommandRuns (Some (Window start from to)) same_config before after answer =
     WindowRuns (record { start = start; from = from; to = to }) before after answer
 CommandRuns (Some Compact) same_config before after answer = CompactRuns before after answer
+CommandRuns (Some (Watch workers)) same_config before after answer = CountRuns course.Watch before after answer
 CommandRuns None same_config before after answer = TaskRuns usage_task [] same_config before after answer
 
 -- Words that are no command are answered with `Usage`, or memory runs out; a command never is.

@@ -7,8 +7,7 @@ use Rattle.site_config.specs.recorded.Asked.{names_in}
 use Rattle.status.specs.declared.status.Status.{Status}
 use Rattle.status.specs.declared.status.Status.TheVariants.{Done, ReadFault, WriteFault, OutOfMemory}
 use Rattle.file_commands.specs.sheet_command.Sheet.{sheet_of, sheet_answer, MayAnswer, Prints, SheetAsks}
-use Rattle.monitor.specs.InitRun.{line_for}
-use Rattle.monitor.specs.Shown.{Shown, Tells, Ends}
+use Rattle.status.specs.Shown.{Shown, Tells, Ends, line_for}
 
 pub record SheetRuns (before after : Shown) (answer : Status) : Type 0 where
   -- The samples of the recordings under the names of their gauges are printed, a front of that text, or nothing.
@@ -32,6 +31,8 @@ pub record SheetRuns (before after : Shown) (answer : Status) : Type 0 where
   -- A read fault is answered only where the configuration's or the site's count of faults rose.
   pub read : answer ≡ ReadFault → CountRose before.config_faults after.config_faults ⊎
       CountRose before.site_faults after.site_faults
+  -- Where a call of the site fails, or a source of it, the answer is a read fault.
+  pub steady : answer ≢ ReadFault → after.site_faults ≡ before.site_faults
   -- A write fault is answered only where the output's count rose.
   pub write : answer ≡ WriteFault → CountRose before.output_faults after.output_faults
   -- The gauges' files are asked for, gauge by gauge, and no other: none where the configuration is refused, and none

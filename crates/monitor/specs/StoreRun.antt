@@ -7,7 +7,7 @@ use Rattle.status.specs.declared.status.Status.{Status}
 use Rattle.status.specs.declared.status.Status.TheVariants.{Done, ReadFault, WriteFault, DiskFault, OutOfMemory}
 use Rattle.status.specs.Printing.{IsPrinting, IsReporting}
 use Rattle.report_command.specs.Answers.{IsSound, ReportAnswers}
-use Rattle.monitor.specs.Shown.{Shown, TellsAnswer}
+use Rattle.status.specs.Shown.{Shown, TellsAnswer}
 
 pub record StoreRuns (before after : Shown) (answer : Status) : Type 0 where
   -- With any answer but `Done` and `WriteFault` nothing is written.

@@ -9,7 +9,7 @@ use Rattle.site_config.specs.declared.config.Config.{Config}
 use Rattle.status.specs.declared.status.Status.{Status}
 use Rattle.report_command.specs.declared.window_counts.counting.Times.{Times}
 use Rattle.report_command.specs.window_command.Printing.{PrintsWindow, PrintsKept}
-use Rattle.monitor.specs.Shown.{Shown}
+use Rattle.status.specs.Shown.{Shown}
 use Rattle.monitor.specs.StoreRun.{StoreRuns}
 
 -- The instants are nanoseconds.

@@ -2,9 +2,10 @@
 //!
 //! `monitor` reads the words of the command line, and calls the command that they name. Its
 //! contract is the theorem of the program, one clause: `IsRun` of `specs/Run.antt` says what a run
-//! did, by what is shown before it and after it (`specs/Shown.antt`). It has a record for each
-//! command, as `specs/CountRun.antt`, and what holds of every run. `table` and `column` are tasks
-//! over one file, of which `crates/file_commands/specs/file_tasks/Run.antt` speaks.
+//! did, by what is shown before it and after it (`crates/status/specs/Shown.antt`). It has a record
+//! for each command, as `crates/count_command/specs/CountRun.antt`, and what holds of every run.
+//! `table` and `column` are tasks over one file, of which
+//! `crates/file_commands/specs/file_tasks/Run.antt` speaks.
 //!
 //! What `table` prints of a file is `specs/Printed.antt`: the text of the three-point count of ASTM
 //! E1049-85, 5.4.4, over its whole level history. Each answer has its cause in what the file is

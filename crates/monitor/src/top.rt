@@ -1,6 +1,6 @@
 ghost use Rattle.std.specs.Prelude.{◌≡◌};
 ghost use Rattle.monitor.specs.Run.{IsRun};
-ghost use Rattle.monitor.specs.Shown.{shown_by};
+ghost use Rattle.status.specs.Shown.{shown_by};
 
 use crate::column::told_column;
 use crate::demo::told_demo;
@@ -8,7 +8,7 @@ use crate::refused::{no_memory, usage};
 use crate::table::told_table;
 use audit_command::audit_command;
 use command_words::{Command, read_words};
-use count_command::count_command;
+use count_command::{count_command, watch_command};
 use file_commands::sheet_command::sheet_command;
 use init_command::init_command;
 use outside::station::Station;
@@ -32,10 +32,11 @@ use std::thread::Threads;
 /// `repeat` prints what is held of each gauge as a history that repeats (5.4.5). `column` writes a
 /// column of a CSV file as a recording, and `sheet` the recordings of a site as a CSV text.
 /// `window` prints the report of the bodies that lie inside a window of time, and `compact` writes
-/// a copy of the store with one body for each gauge. `count` and `demo` wait for the workers that
-/// they start; a worker passes the gate before each block. Each answer but `Done` is told to the
-/// station, by its line. Where memory runs out while the words are read, nothing is asked for and
-/// nothing printed.
+/// a copy of the store with one body for each gauge. `watch` does what `count` does, beside a
+/// watcher that sees what is held, and tells how far it saw each gauge. `count`, `watch` and `demo`
+/// wait for the threads that they start; a worker passes the gate before each block. Each answer
+/// but `Done` is told to the station, by its line. Where memory runs out while the words are read,
+/// nothing is asked for and nothing printed.
 pub fn monitor<
     R: AllocGlobal + Threads + Wait + Sync,
     C: Source,
@@ -97,6 +98,9 @@ pub fn monitor<
             window_command(rt.alloc(), times, config, station, out)
         }
         Ok(Some(Command::Compact)) => compact_command(rt.alloc(), config, station, out),
+        Ok(Some(Command::Watch { workers })) => {
+            watch_command(rt, workers, config, site, station, out, gate)
+        }
         Ok(None) => usage(rt.alloc(), station),
         Err(_) => no_memory(station),
     }

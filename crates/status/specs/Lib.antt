@@ -6,3 +6,4 @@ pub mod FaultText
 pub mod line_room
 pub mod config_reading
 pub mod fault_lines
+pub mod Shown

@@ -7,11 +7,15 @@
 --   line_going                    a line that acknowledges no more than is held
 --   safe_quiet, safe_going        a run that only read; a run over a resumed store
 --   runs_quiet, runs_then         the same of any property of moments
+--   cause_since, cause_of         the cause of a failure, from an earlier count on
 use Rattle.std.proofs.Common.{◌≡◌, ◌⊎◌, inl, inr, ⊎_elim, ◌≤◌, ◌<◌, ℕ, zero, suc, ◌+◌, List, [], ◌∷◌, ◌++◌, length, get_or, set, append_assoc, refl, sym, ◌∙◌, ap, subst, arith}
 use Rattle.std.specs.Prelude.{Result, Ok, Err, OnOk}
+use Rattle.std.proofs.lemmas.Result.{on_err_weaker}
+use Rattle.lemmas.proofs.Outcomes.{on_err}
 use Rattle.std.specs.List.{AllByRecursion}
 use Rattle.std.proofs.lemmas.Bool.{cases_eq, cases_lt}
 use Rattle.std.proofs.lemmas.List.{append-nil, get_or-set_same, get_or-set_other, get_or_past, length-map}
+use Rattle.outside.specs.Fault.{CountRose, HasCause}
 use Rattle.outside.specs.station.Station.{Image, Lines, IsMoment, MomentsSince, Elapses, Since, SameImages, NoNew, Tells}
 use Rattle.outside.proofs.on_station.Moments.{started, goes_on, continues, entails}
 use Rattle.segment.specs.segment_rules.Parts.{PartsValue}
@@ -33,7 +37,7 @@ pub all_more : {A : Type 0} (P : A → Type 0) (xs : List A) (x : A) → AllByRe
 all_more P [] x all here = (here, tt)
 all_more P (y ∷ ys) x all here = (all.0, all_more P ys x all.1 here)
 
-all_both : {A : Type 0} (P : A → Type 0) (xs ys : List A) → AllByRecursion P xs → AllByRecursion P ys → AllByRecursion P (xs ++ ys)
+pub all_both : {A : Type 0} (P : A → Type 0) (xs ys : List A) → AllByRecursion P xs → AllByRecursion P ys → AllByRecursion P (xs ++ ys)
 all_both P [] ys all more = more
 all_both P (x ∷ xs) ys all more = (all.0, all_both P xs ys all.1 more)
 
@@ -289,6 +293,17 @@ on_any (Err e) p = tt
 pub on_both : {A E : Type 0} {P Q R : Type 0} (r : Result A E) → (P → Q → R) → OnOk r P → OnOk r Q → OnOk r R
 on_both (Ok x) f p q = f p q
 on_both (Err e) f p q = tt
+
+-- the count that rose had not fallen before
+pub rose_since : (a b c : ℕ) → a ≤ b → CountRose b c → CountRose a c
+rose_since a b c le rose = omega (arith, le, rose)
+
+pub cause_since : {T E : Type 0} {a b c : ℕ} (r : Result T E) → a ≤ b → HasCause b c r → HasCause a c r
+cause_since {a = a} {b = b} {c = c} r le is =
+    record { later = omega (arith, le, is.later); failed = on_err_weaker r (rose_since a b c le) is.failed }
+
+pub cause_of : {T E : Type 0} {a b c : ℕ} (r : Result T E) → a ≤ b → b ≤ c → CountRose b c → HasCause a c r
+cause_of {a = a} {b = b} {c = c} r le later rose = record { later = omega (arith, le, later); failed = on_err r (rose_since a b c le rose) }
 
 pub told_either : {E : Type 0} (r : Result (Unit {0}) E) (old new : Lines) (line : List ℕ) → Tells old line new r →
     (new ≡ old ++ line ∷ []) ⊎ (new ≡ old)

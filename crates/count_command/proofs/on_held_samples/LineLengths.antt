@@ -16,14 +16,14 @@ more room long l m text was is = record {
 }
 
 -- up to the number
-pub front-long : (room : ℕ) (old a b c d : RoomValue) (name : List ℕ) → old.room ≡ room → a ≡ record old { bytes = [] } →
-    b ≡ with_text a (codes "held ")
+pub front-long : (room : ℕ) (old a b c d : RoomValue) (word name : List ℕ) → old.room ≡ room → a ≡ record old { bytes = [] } →
+    b ≡ with_text a word → length word ≡ 5
     → c ≡ with_text b name → d ≡ with_text c (codes " ") → IsLong room (6 + length name) d
-front-long room old a b c d name is first second third fourth =
+front-long room old a b c d word name is first second five third fourth =
     let start : IsLong room 0 a = record {
       room_is = ap (λ (v : RoomValue). v.room) first ∙ is;
       long_is = ap (λ (v : RoomValue). length v.bytes) first;
     } in
-    let all = more room (0 + 5 + length name) c d (codes " ") (more room (0 + 5) b c name (more room 0 a b (codes "held ") start second)
-    third) fourth in
-    record { room_is = all.room_is; long_is = omega (arith, all.long_is) }
+    let all = more room (0 + length word + length name) c d (codes " ")
+    (more room (0 + length word) b c name (more room 0 a b word start second) third) fourth in
+    record { room_is = all.room_is; long_is = omega (arith, all.long_is, five) }

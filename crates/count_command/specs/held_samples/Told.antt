@@ -1,5 +1,7 @@
 -- The lines that acknowledge.
+--   line_of       a word with a space, a name, and a number
 --   held_line     the first n samples of a gauge are held
+--   seen_line     a watcher saw so much of it; it acknowledges nothing
 --   IsBelow       no number that the line acknowledges is above what is held
 --   round_lines   the lines of one round, in order of gauge
 --   held_lines    the lines of so many rounds
@@ -12,8 +14,14 @@ use Rattle.outside.specs.station.Station.{Lines}
 use Rattle.site_config.specs.recorded.Recorded.{Recorded}
 use Rattle.board.specs.declared.flow.TheConstants.{BLOCKS_PER_WINDOW}
 
+abbrev pub line_of : List ℕ → List ℕ → ℕ → List ℕ
+line_of word name n = word ++ (name ++ (codes " " ++ (decimal n ++ codes "\n")))
+
 abbrev pub held_line : List ℕ → ℕ → List ℕ
-held_line name n = codes "held " ++ (name ++ (codes " " ++ (decimal n ++ codes "\n")))
+held_line name n = line_of (codes "held ") name n
+
+abbrev pub seen_line : List ℕ → ℕ → List ℕ
+seen_line name n = line_of (codes "seen ") name n
 
 -- a number that can be told has 64 bits
 abbrev pub IsBelow : Recorded → List ℕ → List ℕ → Type 0

@@ -1,6 +1,6 @@
 ghost use Rattle.std.specs.Prelude.{◌≡◌, ◌≤◌, [], length, IfOk};
 ghost use Rattle.site_config.specs.declared.limits.TheConstants.{MAX_NAME_BYTES};
-ghost use Rattle.count_command.specs.held_samples.Told.{held_line};
+ghost use Rattle.count_command.specs.held_samples.Told.{held_line, line_of, seen_line};
 
 use crate::held_samples::OutOfMemory;
 use status::line_room::LineRoom;
@@ -10,7 +10,7 @@ use std::marker::Model;
 // The most bytes of a line: two words, the longest name, and a number of 20 digits.
 const MAX_LINE_BYTES: usize = 59;
 
-/// Room for one line that acknowledges, 59 bytes. Its value is the bytes that stand in it.
+/// Room for one line that says how far a gauge is, 59 bytes. Its value is the bytes that stand in it.
 #[derive(Debug, Drop)]
 pub struct HeldLine {
     line: LineRoom,
@@ -42,8 +42,26 @@ impl HeldLine {
         requires short { length name.now ≤ MAX_NAME_BYTES }
         ensures { result.now ≡ held_line name.now n }
     {
+        self.write(b"held ", name, n)
+    }
+
+    /// The line that says that a watcher saw the first `n` samples of a gauge. It acknowledges
+    /// nothing, and takes no memory.
+    pub fn seen(&mut self, name: &str, n: u64) -> &[u8]
+        requires short { length name.now ≤ MAX_NAME_BYTES }
+        ensures { result.now ≡ seen_line name.now n }
+    {
+        self.write(b"seen ", name, n)
+    }
+
+    // A word with a space, the name, and the number.
+    fn write(&mut self, word: &[u8], name: &str, n: u64) -> &[u8]
+        requires word { length word.now ≡ 5 }
+        requires short { length name.now ≤ MAX_NAME_BYTES }
+        ensures { result.now ≡ line_of word.now name.now n }
+    {
         self.line.clear();
-        self.line.push(b"held ");
+        self.line.push(word);
         self.line.push(name.as_bytes());
         self.line.push(b" ");
         self.line.push_number(n);

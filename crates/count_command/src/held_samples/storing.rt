@@ -15,22 +15,22 @@ ghost use Rattle.std.specs.Prelude.{
   OnOk,
 };
 ghost use Rattle.outside.specs.Fault.{HasCause};
-ghost use Rattle.outside.specs.Site.{Files};
 ghost use Rattle.segment.specs.Parts.{parts_of};
 ghost use Rattle.segment_store.specs.Held.{ends_of};
 ghost use Rattle.segment_store.specs.Image.{ends_after};
 ghost use Rattle.segment.specs.segment_rules.Parts.{PartsValue};
 ghost use Rattle.segment_store.specs.Moments.{IsOn, IsThere};
 ghost use Rattle.site_config.specs.declared.limits.TheConstants.{MAX_NAME_BYTES};
-ghost use Rattle.site_config.specs.Valid.{IsConfig, name_of};
-ghost use Rattle.site_config.specs.recorded.Recorded.{Recorded, recordings};
-ghost use Rattle.count_command.specs.held_samples.Told.{held_line, gauge_lines, round_lines};
+ghost use Rattle.site_config.specs.Valid.{IsConfig};
+ghost use Rattle.site_config.specs.recorded.Recorded.{Recorded};
+ghost use Rattle.count_command.specs.held_samples.Told.{held_line, gauge_lines};
 ghost use Rattle.count_command.specs.held_samples.Kept.{Kept, MayFollow};
 ghost use Rattle.count_command.specs.held_samples.Going.{HoldsSince, IsStoredAs, AreNames};
-ghost use Rattle.count_command.specs.held_samples.Fronts.{IsHeldTo, AreFronts, FrontsEnd, FrontsFollow};
-ghost use Rattle.count_command.specs.held_samples.Pace.{Paced, window_of};
+ghost use Rattle.count_command.specs.held_samples.Fronts.{IsHeldTo, AreFronts};
+ghost use Rattle.count_command.specs.held_samples.Pace.{Paced};
+ghost use Rattle.count_command.specs.held_samples.Stored.{Stores};
 
-use crate::held_samples::line::HeldLine;
+use crate::held_samples::hook::{Behind, PutHook};
 use board::Board;
 use outside::Failed;
 use outside::station::Station;
@@ -39,14 +39,16 @@ use segment_store::Store;
 use site_config::Config;
 
 /// Stores the front of a gauge, and acknowledges it.
-pub fn store_front<K: Station>(
+pub fn store_front<K: Station, H: PutHook>(
     store: &mut Store,
     station: &mut K,
     front: &Segment,
     name: &str,
-    line: &mut HeldLine,
+    behind: &mut Behind<H>,
 ) -> Result<(), Failed>
     requires usable { store.old.shut ≡ false }
+    requires follows { H.follows behind.old.hook store.old.head.setup.grid
+        (ends_of store.old.held) }
     requires grid { front.now.grid ≡ store.old.head.setup.grid }
     requires gauge { (front.now.gauge < length store.old.held)
         × (length store.old.held ≡ length store.old.head.setup.gains) }
@@ -86,23 +88,32 @@ pub fn store_front<K: Station>(
     ensures head { store.new.head ≡ store.old.head }
     ensures gauges { length store.new.held ≡ length store.old.held }
     ensures cause { HasCause (K.faults station.old) (K.faults station.new) result }
+    ensures follows { H.follows behind.new.hook store.new.head.setup.grid
+        (ends_of store.new.held) }
 {
     let to = front.name().to;
+    let gauge = front.name().gauge;
     match store.put(station, front) {
-        Ok(()) => station.tell(line.held(name, to)),
+        Ok(()) => {
+            let stored = store.held(gauge);
+            behind.hook.stored(stored);
+            station.tell(behind.line.held(name, to))
+        }
         Err(_) => Err(Failed),
     }
 }
 
 // Stores and acknowledges the front of a gauge, unless it is empty.
-fn store_gauge<K: Station>(
+fn store_gauge<K: Station, H: PutHook>(
     store: &mut Store,
     station: &mut K,
     front: &Segment,
     name: &str,
-    line: &mut HeldLine,
+    behind: &mut Behind<H>,
 ) -> Result<(), Failed>
     requires usable { store.old.shut ≡ false }
+    requires follows { H.follows behind.old.hook store.old.head.setup.grid
+        (ends_of store.old.held) }
     requires grid { front.now.grid ≡ store.old.head.setup.grid }
     requires gauge { (front.now.gauge < length store.old.held)
         × (length store.old.held ≡ length store.old.head.setup.gains) }
@@ -140,24 +151,28 @@ fn store_gauge<K: Station>(
     ensures head { store.new.head ≡ store.old.head }
     ensures gauges { length store.new.held ≡ length store.old.held }
     ensures cause { HasCause (K.faults station.old) (K.faults station.new) result }
+    ensures follows { H.follows behind.new.hook store.new.head.setup.grid
+        (ends_of store.new.held) }
 {
     let span = front.name();
     if span.from == span.to {
         return Ok(());
     }
-    store_front(store, station, front, name, line)
+    store_front(store, station, front, name, behind)
 }
 
 /// Stores and acknowledges what a round gave, in order of gauge. After a failure the store is shut,
 /// or a line was not told; the gauges below keep what was stored of them.
-pub fn store_fronts<K: Station>(
+pub fn store_fronts<K: Station, H: PutHook>(
     board: &Board,
     bridge: &Config,
     store: &mut Store,
     station: &mut K,
-    line: &mut HeldLine,
+    behind: &mut Behind<H>,
 ) -> Result<(), Failed>
     requires usable { store.old.shut ≡ false }
+    requires follows { H.follows behind.old.hook store.old.head.setup.grid
+        (ends_of store.old.held) }
     requires bridge { IsConfig bridge.now }
     requires gauges { (length store.old.held ≡ length bridge.now.gauges)
         × (length board.now.rows ≡ length bridge.now.gauges) }
@@ -165,41 +180,14 @@ pub fn store_fronts<K: Station>(
     requires fronts { AreFronts store.old.head.setup (ends_of store.old.held) board.now
         (length bridge.now.gauges) }
     requires on { K.tells → IsThere store.old (K.seen station.old) (K.leaves station.old) }
-    // Every moment is kept, whatever it answers.
-    ensures going { K.tells → (files : Files) (kept : Kept) →
-        IsStoredAs kept store.old (K.seen station.old) (K.leaves station.old) →
-        FrontsFollow kept (length bridge.now.gauges) board.now →
-        HoldsSince kept (recordings bridge.now files) (ends_of store.old.held)
-        (K.clock station.old) (K.moments station.old) (K.told station.old)
-        (K.clock station.new) (K.moments station.new) (K.told station.new)
-        (K.leaves station.new) (ends_of store.new.held) }
-    ensures stored { K.tells → (kept : Kept) →
-        IsStoredAs kept store.old (K.seen station.old) (K.leaves station.old) →
-        FrontsFollow kept (length bridge.now.gauges) board.now → OnOk result
-        (IsStoredAs kept store.new (K.seen station.new) (K.leaves station.new)) }
-    // Each body is told before the next one is stored.
-    ensures paced { K.tells → board.now.block ≡ bridge.now.block → (bodies : List PartsValue) →
-        IsOn store.old bodies (K.seen station.old) (K.leaves station.old) →
-        Paced (name_of bridge.now) (window_of bridge.now) store.old.head bodies
-        (K.clock station.old) (K.moments station.old) (K.told station.old)
-        (K.clock station.new) (K.moments station.new) (K.told station.new)
-        (K.seen station.new) (K.leaves station.new) store.new (IsOk result) }
-    ensures told { K.tells → OnOk result (K.told station.new ≡ K.told station.old
-        ++ round_lines (name_of bridge.now) (slice_index (ends_of store.old.held))
-        (slice_index (ends_of store.new.held)) (length bridge.now.gauges)) }
-    ensures held { (to : ℕ → ℕ) → FrontsEnd to board.now (length bridge.now.gauges) →
-        OnOk result ((g : ℕ) → g < length bridge.now.gauges →
-        slice_index (ends_of store.new.held) g ≡ to g) }
-    ensures there { K.tells →
-        OnOk result (IsThere store.new (K.seen station.new) (K.leaves station.new)) }
-    ensures usable { OnOk result (store.new.shut ≡ false) }
-    ensures head { store.new.head ≡ store.old.head }
-    ensures gauges { length store.new.held ≡ length store.old.held }
-    ensures cause { HasCause (K.faults station.old) (K.faults station.new) result }
+    ensures stores { Stores ⟦<K as Station>⟧ bridge.now board.now store.old store.new
+        station.old station.new result }
+    ensures follows { H.follows behind.new.hook store.new.head.setup.grid
+        (ends_of store.new.held) }
 {
     for gauge in 0..bridge.gauges.as_slice().len() {
         let name = bridge.gauges.as_slice()[gauge].name.as_str();
-        store_gauge(store, station, board.front(gauge as u16), name, line)?;
+        store_gauge(store, station, board.front(gauge as u16), name, behind)?;
     }
     Ok(())
 }

@@ -79,7 +79,7 @@ differs_text what held found = what_text what ++ codes " held " ++ decimal held 
 abbrev pub fault_line : Status → List ℕ → List ℕ
 fault_line Done name = []
 fault_line Usage name = codes
-    "usage: monitor table FILE | init | count [--workers N] | report | audit | demo [--seed N] [--samples N] [--workers N] | repeat | column FILE NAME ID PERIOD | sheet | window START FROM TO | compact\n"
+    "usage: monitor table FILE | init | count [--workers N] | report | audit | demo [--seed N] [--samples N] [--workers N] | repeat | column FILE NAME ID PERIOD | sheet | window START FROM TO | compact | watch [--workers N]\n"
 fault_line (Config fault) name = codes "config: " ++ config_fault_text fault ++ codes "\n"
 fault_line (Store fault) name = codes "store: " ++ store_text fault ++ codes "\n"
 fault_line (Recording gauge fault) name = recording_line name (recording_text fault)

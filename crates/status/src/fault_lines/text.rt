@@ -21,7 +21,7 @@ use recount::What;
 use site_config::{ConfigFault, Key, KeyName};
 
 const USAGE: &[u8] =
-    b"usage: monitor table FILE | init | count [--workers N] | report | audit | demo [--seed N] [--samples N] [--workers N] | repeat | column FILE NAME ID PERIOD | sheet | window START FROM TO | compact\n";
+    b"usage: monitor table FILE | init | count [--workers N] | report | audit | demo [--seed N] [--samples N] [--workers N] | repeat | column FILE NAME ID PERIOD | sheet | window START FROM TO | compact | watch [--workers N]\n";
 
 /// Writes the line of a status.
 pub(crate) fn push_status(line: &mut LineRoom, status: Status, name: &[u8])

@@ -1,4 +1,4 @@
-use Rattle.std.proofs.Common.{◌≡◌, ◌<◌, ◌∙◌, ℕ, List, ap, sym, subst}
+use Rattle.std.proofs.Common.{◌∙◌, List, ap, sym, subst}
 use Rattle.calibration.specs.declared.setup.Setup.{Setup}
 use Rattle.segment.specs.Segment.{SegmentValue}
 use Rattle.report_command.specs.site_report.Report.{Agrees, AreOver, figures_by}

@@ -9,7 +9,7 @@ use Rattle.status.specs.declared.status.Status.{Status}
 use Rattle.monitor.proofs.NoMemory.{ends_in}
 use Rattle.report_command.specs.declared.window_counts.counting.Times.{Times}
 use Rattle.report_command.proofs.on_window_counts.Adding.{times_passed}
-use Rattle.monitor.specs.Shown.{shown_by}
+use Rattle.status.specs.Shown.{shown_by}
 use Rattle.monitor.specs.WindowRun.{WindowRuns}
 use Rattle.monitor.proofs.StoreLeft.{store_run}
 use Rattle.monitor.proofs.Runs.{of_words, is_run, back_of, files_of, refused, not_done, left_run}
@@ -52,6 +52,7 @@ returns-in-Ok-Some-Init g c =
             complete = run.complete;
             kind = run.kind;
             read = run.read;
+            steady = run.steady;
             disk = run.disk;
             asked = run.asked;
             nothing = λ shows. refl;
@@ -63,29 +64,13 @@ pub returns-in-Ok-Some-Count : goal.returns-in-Ok-Some-Count
 returns-in-Ok-Some-Count g c =
     let here = c.in-Ok-Some-Count in
     let run = c.count_command.ensures in
-    record {
-      run = is_run (of_words here.ensures.line here.field-0-is here.field-0-0-is)
-          (record {
-            every_moment = run.every_moment;
-            appends = run.appends;
-            truly = run.truly;
-            paced = run.paced;
-            ended = run.ended;
-            cut = run.cut;
-            prints = run.prints;
-            nothing = run.nothing;
-            acknowledged = run.acknowledged;
-            answer_is = run.answer;
-            complete = run.complete;
-            quiet = run.quiet;
-            read = run.read;
-            write = run.write;
-            disk = run.disk;
-            asked = run.asked;
-            last = run.last;
-          })
-          run.named run.back run.files;
-    }
+    record { run = is_run (of_words here.ensures.line here.field-0-is here.field-0-0-is) run.run run.run.named run.back run.files }
+
+pub returns-in-Ok-Some-Watch : goal.returns-in-Ok-Some-Watch
+returns-in-Ok-Some-Watch g c =
+    let here = c.in-Ok-Some-Watch in
+    let run = c.watch_command.ensures in
+    record { run = is_run (of_words here.ensures.line here.field-0-is here.field-0-0-is) run.run run.run.named run.back run.files }
 
 pub returns-in-Ok-Some-Report : goal.returns-in-Ok-Some-Report
 returns-in-Ok-Some-Report g c =
@@ -129,6 +114,7 @@ returns-in-Ok-Some-Audit g c =
             silent = run.silent;
             last = λ tells reads some. ends_in (g.K.Station.told c.args.station.now) _ (run.last tells reads some);
             read = run.read;
+            steady = run.steady;
             write = run.write;
             disk = run.disk;
             asked = run.asked;
@@ -210,6 +196,7 @@ returns-in-Ok-Some-Sheet g c =
             answer_is = run.answer;
             complete = run.complete;
             read = run.read;
+            steady = run.steady;
             write = run.write;
             asked = run.asked;
           })
@@ -259,7 +246,7 @@ returns-in-Ok-None g c =
     let run = c.usage.ensures in
     record {
       run = is_run (sym here.ensures.line ∙ ap meaning_of here.field-0-is) (record {
-        run = refused run.status (record { written = refl; asked = λ names has. has; back = c.requires.home; files = λ tells. refl });
+        run = refused run.status (record { written = refl; asked = λ names has. has; faults = refl; back = c.requires.home; files = λ tells. refl });
         tells = record {
           told = run.told;
           silent = λ tells done. absurd (not_done run.status done);
@@ -279,6 +266,6 @@ returns-in-Err g c =
         only = λ tells. g.met.K.Station.only_now tells c.args.station.now;
         tells = run.told;
         ends = run.last;
-        same = record { written = refl; asked = λ names has. has; back = c.requires.home; files = λ tells. refl };
+        same = record { written = refl; asked = λ names has. has; faults = refl; back = c.requires.home; files = λ tells. refl };
       });
     }

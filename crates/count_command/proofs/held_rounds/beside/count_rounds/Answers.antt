@@ -1,4 +1,5 @@
 use Rattle.std.proofs.Common.{ℕ, ◌++◌, length, refl, sym, ◌∙◌, ap, subst, arith}
+use Rattle.std.proofs.lemmas.Result.{IfOk-from_err}
 use Rattle.calibration.specs.declared.setup.Setup.{Setup}
 use Rattle.board.specs.Board.{BoardValue}
 use Rattle.segment_store.specs.Held.{ends_of}
@@ -6,7 +7,7 @@ use Rattle.site_config.specs.Valid.{name_of}
 use Rattle.site_config.specs.recorded.Recorded.{recordings}
 use Rattle.count_command.specs.held_samples.Fronts.{AreFronts, FrontsStand}
 use Rattle.count_command.specs.held_samples.Kept.{recorded, beginning}
-use Rattle.count_command.proofs.on_held_samples.Going.{going_starts, going_then, stored_beginning, on_both, on_any}
+use Rattle.count_command.proofs.on_held_samples.Going.{going_starts, going_then, stored_beginning, on_both, on_any, cause_since, cause_of}
 use Rattle.count_command.specs.held_samples.Pace.{window_of}
 use Rattle.count_command.proofs.on_held_samples.Pace.{paced_starts, paced_then, paced_where, no_done}
 use Rattle.count_command.specs.held_rounds.Beside.{Leads}
@@ -19,28 +20,28 @@ use Rattle.count_command.proofs.held_rounds.beside.count_rounds.Goals as goal
 
 pub loop-init : goal.loop-init
 loop-init g c =
-    let done = c.round.ensures in
+    let done = c.round.ensures.done in
     let out = c.exchange-board.ensures.out in
     let same = c.exchange-board.ensures.same in
-    let count = c.requires.gauges.2 ∙ sym c.requires.gauges.1 in
+    let count = c.requires.opened.count ∙ sym c.requires.rounds.gauges in
     let ends = ends_of c.args.store.now.held in
-    let can = can_first ends c.args.lanes.now c.requires.lanes in
+    let can = can_first ends c.args.lanes.now c.requires.opened.held in
     record {
-      usable = c.requires.usable;
+      usable = c.requires.opened.usable;
       head = refl;
-      gauges = (refl, same.gauges ∙ done.gauges ∙ c.requires.gauges.1, done.long);
-      grid = same.grid ∙ done.grid ∙ c.requires.grid;
-      block = same.block ∙ done.block ∙ c.requires.block;
+      gauges = (refl, same.gauges ∙ done.gauges ∙ c.requires.rounds.gauges, done.long);
+      grid = same.grid ∙ done.grid ∙ c.requires.rounds.grid;
+      block = same.block ∙ done.block ∙ c.requires.rounds.block;
       board = board_for c.args.prepared.now _ _ _ _ done.board done.grid done.block done.gauges same out;
       leads = subst (λ (b : BoardValue). Leads c.args.store.now.head.setup ends b c.round.new.lanes) (sym out)
-          (leads_first done count ends c.requires.lanes c.args.store.now.head.setup
-          (c.requires.grid ∙ ap (λ (s : Setup). s.grid) (sym c.requires.setup)));
+          (leads_first done count ends c.requires.opened.held c.args.store.now.head.setup
+          (c.requires.rounds.grid ∙ ap (λ (s : Setup). s.grid) (sym c.requires.opened.setup)));
       can = ready_after done count can;
       sources = sources_after done count can;
-      faulty = all_faulty_after done count can c.requires.faulty;
-      there = c.requires.on;
+      faulty = all_faulty_after done count can c.requires.opened.faulty;
+      there = c.requires.opened.there;
       read = λ reads files lanes.
-          let both = stands_first done count ends c.requires.lanes (recordings c.args.bridge.now files) (sym c.requires.gauges.2) reads
+          let both = stands_first done count ends c.requires.opened.held (recordings c.args.bridge.now files) (sym c.requires.opened.count) reads
           lanes in
           (both.0, subst (λ (b : BoardValue). FrontsStand (recordings c.args.bridge.now files) b) (sym out) both.1);
       going = λ tells reads files lanes stored. (
@@ -59,87 +60,90 @@ loop-init g c =
       told = λ tells reads files lanes n told was whole.
           let r = recordings c.args.bridge.now files in
           let first = g.K.Station.told c.args.station.now in
-          subst (λ (b : ℕ). IsAhead b r n told first ends c.round.new.lanes) c.requires.block
-          (ahead_first done count r (sym c.requires.gauges.2) reads lanes n told first ends c.requires.lanes whole
-          (subst (λ (b : ℕ). HasTold b r n told first c.args.lanes.now) (sym c.requires.block) was));
+          subst (λ (b : ℕ). IsAhead b r n told first ends c.round.new.lanes) c.requires.rounds.block
+          (ahead_first done count r (sym c.requires.opened.count) reads lanes n told first ends c.requires.opened.held whole
+          (subst (λ (b : ℕ). HasTold b r n told first c.args.lanes.now) (sym c.requires.rounds.block) was));
       later = omega arith;
+      follows = c.requires.follows;
     }
 
-pub store_board-requires-clause-fronts : goal.store_board-requires-clause-fronts
-store_board-requires-clause-fronts g c =
+pub store_fronts-requires-clause-fronts : goal.store_fronts-requires-clause-fronts
+store_fronts-requires-clause-fronts g c =
     let was = c.loop.invariant in
-    subst (λ (n : ℕ). AreFronts c.loop.store.head.setup (ends_of c.loop.store.held) c.loop.board n) (was.gauges.2 ∙ c.requires.gauges.2)
+    subst (λ (n : ℕ). AreFronts c.loop.store.head.setup (ends_of c.loop.store.held) c.loop.board n) (was.gauges.2 ∙ c.requires.opened.count)
     was.leads.fronts
 
-pub returns-then-have_ended-clause-going : goal.returns-then-have_ended-clause-going
-returns-then-have_ended-clause-going g c = λ tells reads files lanes stored.
-    let was = c.loop.invariant.going tells reads files lanes stored in
-    going_then was.0 (c.store_board.ensures.going tells files (recorded (recordings c.args.bridge.now files)) was.1
-    (c.loop.invariant.read reads files lanes).1)
-
-pub returns-then-have_ended-clause-appends : goal.returns-then-have_ended-clause-appends
-returns-then-have_ended-clause-appends g c = λ tells files front on.
-    let was = c.loop.invariant.appends tells files front on in
-    going_then was.0 (c.store_board.ensures.going tells files (beginning c.args.store.now.head front) was.1 (λ h d lt is some. tt))
-
-pub returns-then-have_ended-clause-stored : goal.returns-then-have_ended-clause-stored
-returns-then-have_ended-clause-stored g c = λ tells reads files lanes stored.
-    let was = c.loop.invariant.going tells reads files lanes stored in
-    c.store_board.ensures.stored tells (recorded (recordings c.args.bridge.now files)) was.1 (c.loop.invariant.read reads files lanes).1
-
-pub returns-then-have_ended-clause-read : goal.returns-then-have_ended-clause-read
-returns-then-have_ended-clause-read g c = λ reads files lanes. on_any c.store_board.result (c.loop.invariant.read reads files lanes).0
-
-pub returns-then-have_ended-clause-held : goal.returns-then-have_ended-clause-held
-returns-then-have_ended-clause-held g c =
+pub returns-then-have_ended-clause-made : goal.returns-then-have_ended-clause-made
+returns-then-have_ended-clause-made g c =
     let was = c.loop.invariant in
-    held_last (length c.args.bridge.now.gauges) c.loop.lanes (was.gauges.2 ∙ c.requires.gauges.2) was.can c.loop.store.head.setup
-    (ends_of c.loop.store.held) c.loop.board was.leads c.store_board.result _ c.store_board.ensures.ends
+    let stores = c.store_fronts.ensures.stores in
+    let result = c.store_fronts.result in
+    let held = held_last (length c.args.bridge.now.gauges) c.loop.lanes (was.gauges.2 ∙ c.requires.opened.count) was.can c.loop.store.head.setup
+    (ends_of c.loop.store.held) c.loop.board was.leads result _ stores.ends in
+    record {
+      going = λ tells reads files lanes stored.
+          let so_far = was.going tells reads files lanes stored in
+          going_then so_far.0 (stores.going tells files (recorded (recordings c.args.bridge.now files)) so_far.1
+          (was.read reads files lanes).1);
+      appends = λ tells files front on.
+          let so_far = was.appends tells files front on in
+          going_then so_far.0 (stores.going tells files (beginning c.args.store.now.head front) so_far.1 (λ h d lt is some. tt));
+      paced = λ tells bodies on.
+          let so_far = was.paced tells bodies on in
+          paced_then so_far tt
+          (stores.paced tells (was.board.1 ∙ was.block) (bodies ++ (so_far.level tt).more) (so_far.level tt).on);
+      stored = λ tells reads files lanes stored.
+          let so_far = was.going tells reads files lanes stored in
+          stores.stored tells (recorded (recordings c.args.bridge.now files)) so_far.1 (was.read reads files lanes).1;
+      read = λ reads files lanes. on_any result (was.read reads files lanes).0;
+      lines = λ tells reads files lanes n told had.
+          let r = recordings c.args.bridge.now files in
+          on_both result (λ to lines whole. ahead_last c.args.bridge.now.block r n told (g.K.Station.told c.loop.station)
+          (g.K.Station.told c.store_fronts.new.station) (ends_of c.loop.store.held) (ends_of c.store_fronts.new.store.held) c.loop.lanes
+          (sym (was.gauges.2 ∙ c.requires.opened.count)) to lines (was.told tells reads files lanes n told had whole)) held
+          (stores.lines tells);
+      ended = on_any result (c.have_ended.ensures.0 c.if-have_ended.true);
+      there = stores.there;
+      held = held;
+      sources = was.sources;
+      faulty = was.faulty;
+      head = stores.head ∙ was.head;
+      gauges = (stores.gauges ∙ was.gauges.0, was.gauges.2);
+      cause = cause_since result was.later stores.cause;
+    }
 
-pub returns-then-have_ended-clause-told : goal.returns-then-have_ended-clause-told
-returns-then-have_ended-clause-told g c = λ tells reads files lanes n told had.
+pub returns-in_err-round_beside-clause-made : goal.returns-in_err-round_beside-clause-made
+returns-in_err-round_beside-clause-made g c =
     let was = c.loop.invariant in
-    let r = recordings c.args.bridge.now files in
-    let held = held_last (length c.args.bridge.now.gauges) c.loop.lanes (was.gauges.2 ∙ c.requires.gauges.2) was.can c.loop.store.head.setup
-    (ends_of c.loop.store.held) c.loop.board was.leads c.store_board.result _ c.store_board.ensures.ends in
-    on_both c.store_board.result (λ to lines whole. ahead_last c.args.bridge.now.block r n told (g.K.Station.told c.loop.station)
-    (g.K.Station.told c.store_board.new.station) (ends_of c.loop.store.held) (ends_of c.store_board.new.store.held) c.loop.lanes
-    (sym (was.gauges.2 ∙ c.requires.gauges.2)) to lines (was.told tells reads files lanes n told had whole)) held
-    (c.store_board.ensures.lines tells)
-
-pub returns-in_err-round_beside-clause-going : goal.returns-in_err-round_beside-clause-going
-returns-in_err-round_beside-clause-going g c = λ tells reads files lanes stored.
-    let was = c.loop.invariant.going tells reads files lanes stored in
-    going_then was.0 (c.round_beside.ensures.stores.going tells files (recorded (recordings c.args.bridge.now files)) was.1
-    (c.loop.invariant.read reads files lanes).1)
-
-pub returns-in_err-round_beside-clause-appends : goal.returns-in_err-round_beside-clause-appends
-returns-in_err-round_beside-clause-appends g c = λ tells files front on.
-    let was = c.loop.invariant.appends tells files front on in
-    going_then was.0 (c.round_beside.ensures.stores.going tells files (beginning c.args.store.now.head front) was.1 (λ h d lt is some. tt))
-
-pub returns-then-have_ended-clause-paced : goal.returns-then-have_ended-clause-paced
-returns-then-have_ended-clause-paced g c = λ tells bodies on.
-    let was = c.loop.invariant in
-    let so_far = was.paced tells bodies on in
-    paced_then so_far tt (c.store_board.ensures.paced tells (was.board.1 ∙ was.block) (bodies ++ (so_far.level tt).more)
-    (so_far.level tt).on)
-
-pub returns-in_err-round_beside-clause-paced : goal.returns-in_err-round_beside-clause-paced
-returns-in_err-round_beside-clause-paced g c = λ tells bodies on.
-    let was = c.loop.invariant in
-    let so_far = was.paced tells bodies on in
-    paced_where (λ done. absurd (no_done c.from_residual.result c.from_residual.ensures.0 done)) (paced_then so_far tt
-    (c.round_beside.ensures.stores.paced tells (was.board.1 ∙ was.block) (bodies ++ (so_far.level tt).more) (so_far.level tt).on))
-
-pub returns-in_err-round_beside-clause-sources : goal.returns-in_err-round_beside-clause-sources
-returns-in_err-round_beside-clause-sources g c =
-    let was = c.loop.invariant in sources_after c.round_beside.ensures.round (was.gauges.2 ∙ c.requires.gauges.2 ∙ sym was.gauges.1) was.can
-
-pub returns-in_err-round_beside-clause-faulty : goal.returns-in_err-round_beside-clause-faulty
-returns-in_err-round_beside-clause-faulty g c =
-    let was = c.loop.invariant in all_faulty_after c.round_beside.ensures.round (was.gauges.2 ∙ c.requires.gauges.2 ∙ sym was.gauges.1)
-    was.can was.faulty
+    let stores = c.round_beside.ensures.stores in
+    let result = c.from_residual.result in
+    let failed = c.from_residual.ensures.0 in
+    let done = c.round_beside.ensures.round in
+    let count = was.gauges.2 ∙ c.requires.opened.count ∙ sym was.gauges.1 in
+    record {
+      going = λ tells reads files lanes stored.
+          let so_far = was.going tells reads files lanes stored in
+          going_then so_far.0 (stores.going tells files (recorded (recordings c.args.bridge.now files)) so_far.1
+          (was.read reads files lanes).1);
+      appends = λ tells files front on.
+          let so_far = was.appends tells files front on in
+          going_then so_far.0 (stores.going tells files (beginning c.args.store.now.head front) so_far.1 (λ h d lt is some. tt));
+      paced = λ tells bodies on.
+          let so_far = was.paced tells bodies on in
+          paced_where (λ done. absurd (no_done result failed done)) (paced_then so_far tt
+          (stores.paced tells (was.board.1 ∙ was.block) (bodies ++ (so_far.level tt).more) (so_far.level tt).on));
+      stored = λ tells reads files lanes stored. IfOk-from_err result _ failed;
+      read = λ reads files lanes. IfOk-from_err result _ failed;
+      lines = λ tells reads files lanes n told had. IfOk-from_err result _ failed;
+      ended = IfOk-from_err result _ failed;
+      there = λ tells. IfOk-from_err result _ failed;
+      held = IfOk-from_err result _ failed;
+      sources = sources_after done count was.can;
+      faulty = all_faulty_after done count was.can was.faulty;
+      head = stores.head ∙ was.head;
+      gauges = (stores.gauges ∙ was.gauges.0, done.long ∙ was.gauges.2);
+      cause = cause_of result was.later stores.cause.later c.in_err-round_beside.ensures.stores.cause.failed;
+    }
 
 pub loop-preserved : goal.loop-preserved
 loop-preserved g c =
@@ -148,7 +152,7 @@ loop-preserved g c =
     let done = c.round_beside.ensures.round in
     let out = c.exchange-board-in-loop.ensures.out in
     let same = c.exchange-board-in-loop.ensures.same in
-    let count = was.gauges.2 ∙ c.requires.gauges.2 ∙ sym was.gauges.1 in
+    let count = was.gauges.2 ∙ c.requires.opened.count ∙ sym was.gauges.1 in
     let ends = ends_of c.loop.store.held in
     let ends2 = ends_of c.round_beside.new.store.held in
     record {
@@ -187,10 +191,11 @@ loop-preserved g c =
           let r = recordings c.args.bridge.now files in
           let before = g.K.Station.told c.loop.station in
           let after = g.K.Station.told c.round_beside.new.station in
-          let many = sym (was.gauges.2 ∙ c.requires.gauges.2) in
+          let many = sym (was.gauges.2 ∙ c.requires.opened.count) in
           let so_far = was.told tells reads files lanes n told had (whole_before done count was.can whole) in
           subst (λ (b : ℕ). IsAhead b r n told after ends2 c.round_beside.new.lanes) was.block
           (ahead_on done count r many reads (was.read reads files lanes).0 n told before after ends ends2 now.held whole
           (now.stores.lines tells) (subst (λ (b : ℕ). IsAhead b r n told before ends c.loop.lanes) (sym was.block) so_far));
       later = omega (arith, was.later, c.round_beside.ensures.stores.cause.later);
+      follows = c.round_beside.ensures.follows;
     }

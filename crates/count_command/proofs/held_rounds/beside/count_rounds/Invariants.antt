@@ -57,4 +57,5 @@ invariant-loop g l =
           (n : List ℕ) (told : Lines) → HasTold l.bridge.block (recordings l.bridge files) n told (k.told l.fn.station) l.fn.lanes →
           All IsWhole l.lanes → IsAhead l.bridge.block (recordings l.bridge files) n told (k.told l.station) (ends_of l.store.held) l.lanes;
       later : k.faults l.fn.station ≤ k.faults l.station;
+      follows : g.H.PutHook.follows l.behind.hook l.store.head.setup.grid (ends_of l.store.held);
     }

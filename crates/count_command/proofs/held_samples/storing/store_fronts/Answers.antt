@@ -1,4 +1,5 @@
 use Rattle.std.proofs.Common.{◌≡◌, ◌≤◌, ◌<◌, ◌+◌, ◌*◌, ◌++◌, ℕ, List, length, slice_index, refl, sym, ◌∙◌, ap, subst, arith}
+use Rattle.std.proofs.lemmas.Result.{IfOk-from_err}
 use Rattle.board.specs.declared.flow.TheConstants.{BLOCKS_PER_WINDOW}
 use Rattle.calibration.specs.declared.setup.Setup.{Setup}
 use Rattle.store_bytes.specs.store_head.Head.{HeadValue}
@@ -7,7 +8,8 @@ use Rattle.site_config.specs.declared.limits.TheConstants.{MAX_NAME_BYTES}
 use Rattle.site_config.specs.Valid.{name_of}
 use Rattle.site_config.proofs.Named.{name_is, short_name}
 use Rattle.site_config.specs.recorded.Recorded.{recordings}
-use Rattle.count_command.proofs.on_held_samples.Going.{going_starts, going_then, same_lines, round_more}
+use Rattle.count_command.specs.held_samples.Told.{round_lines}
+use Rattle.count_command.proofs.on_held_samples.Going.{going_starts, going_then, same_lines, round_more, cause_of}
 use Rattle.count_command.specs.held_samples.Pace.{window_of}
 use Rattle.count_command.proofs.on_held_samples.Pace.{paced_starts, paced_then, paced_where, no_done}
 use Rattle.count_command.proofs.on_held_samples.Fronts.{are_names, held_before, told_named, not_same, not_same_after}
@@ -28,6 +30,7 @@ loop-gauge-init g c = record {
   before = λ to ends h lt. absurd (omega (arith, lt));
   after = λ h le. refl;
   later = omega arith;
+  follows = c.requires.follows;
 }
 
 pub store_gauge-requires-clause-next : goal.store_gauge-requires-clause-next
@@ -54,30 +57,35 @@ store_gauge-requires-clause-short g c =
     subst (λ (l : List ℕ). length l ≤ MAX_NAME_BYTES) name (short_name (name_of c.args.bridge.now c.loop-gauge.gauge)
     (c.requires.bridge.names c.loop-gauge.gauge known))
 
-pub returns-in_err-store_gauge-clause-going : goal.returns-in_err-store_gauge-clause-going
-returns-in_err-store_gauge-clause-going g c = λ tells files kept stored stand.
+pub returns-in_err-store_gauge-clause-stores : goal.returns-in_err-store_gauge-clause-stores
+returns-in_err-store_gauge-clause-stores g c =
     let was = c.loop-gauge.invariant in
-    let front = c.requires.fronts c.loop-gauge.gauge c.front.result.now (omega (arith, ap length c.as_slice-gauge-end.ensures))
-    c.front.ensures in
-    let known : c.loop-gauge.gauge < length c.args.bridge.now.gauges = omega (arith, ap length c.as_slice-gauge-end.ensures) in
-    let name = ap (name_of c.args.bridge.now) front.gauge ∙ name_is c.args.bridge.now c.loop-gauge.gauge _ _ _ known c.as_slice.ensures
-    c.as_str-name.ensures in
-    going_then (was.going tells files kept stored stand) (c.store_gauge.ensures.going tells (recordings c.args.bridge.now files)
-    (are_names c.args.bridge.now c.requires.bridge)
-    (subst (λ (n : ℕ). n < length c.args.bridge.now.gauges) (sym front.gauge) known) name kept
-    (was.stored tells kept stored stand) (stand c.loop-gauge.gauge c.front.result.now known c.front.ensures))
-
-pub returns-in_err-store_gauge-clause-paced : goal.returns-in_err-store_gauge-clause-paced
-returns-in_err-store_gauge-clause-paced g c = λ tells same bodies on.
-    let was = c.loop-gauge.invariant.paced tells same bodies on in
     let known : c.loop-gauge.gauge < length c.args.bridge.now.gauges = omega (arith, ap length c.as_slice-gauge-end.ensures) in
     let front = c.requires.fronts c.loop-gauge.gauge c.front.result.now known c.front.ensures in
     let name = ap (name_of c.args.bridge.now) front.gauge ∙ name_is c.args.bridge.now c.loop-gauge.gauge _ _ _ known c.as_slice.ensures
     c.as_str-name.ensures in
-    let short = subst (λ (b : ℕ). c.front.result.now.to ≤ c.front.result.now.from + BLOCKS_PER_WINDOW * b) same front.short in
-    paced_where (λ done. absurd (no_done c.from_residual.result c.from_residual.ensures.0 done)) (paced_then was tt
-    (c.store_gauge.ensures.paced tells (name_of c.args.bridge.now) name (window_of c.args.bridge.now) short
-    (bodies ++ (was.level tt).more) (was.level tt).on))
+    let failed = c.from_residual.ensures.0 in
+    record {
+      going = λ tells files kept stored stand.
+          going_then (was.going tells files kept stored stand) (c.store_gauge.ensures.going tells (recordings c.args.bridge.now files)
+          (are_names c.args.bridge.now c.requires.bridge)
+          (subst (λ (n : ℕ). n < length c.args.bridge.now.gauges) (sym front.gauge) known) name kept
+          (was.stored tells kept stored stand) (stand c.loop-gauge.gauge c.front.result.now known c.front.ensures));
+      stored = λ tells kept stored stand. IfOk-from_err c.from_residual.result _ failed;
+      paced = λ tells same bodies on.
+          let so_far = was.paced tells same bodies on in
+          let short = subst (λ (b : ℕ). c.front.result.now.to ≤ c.front.result.now.from + BLOCKS_PER_WINDOW * b) same front.short in
+          paced_where (λ done. absurd (no_done c.from_residual.result failed done)) (paced_then so_far tt
+          (c.store_gauge.ensures.paced tells (name_of c.args.bridge.now) name (window_of c.args.bridge.now) short
+          (bodies ++ (so_far.level tt).more) (so_far.level tt).on));
+      lines = λ tells. IfOk-from_err c.from_residual.result _ failed;
+      ends = λ to ends. IfOk-from_err c.from_residual.result _ failed;
+      there = λ tells. IfOk-from_err c.from_residual.result _ failed;
+      usable = IfOk-from_err c.from_residual.result _ failed;
+      head = c.store_gauge.ensures.head ∙ was.head;
+      gauges = c.store_gauge.ensures.gauges ∙ was.gauges;
+      cause = cause_of c.from_residual.result was.later c.store_gauge.ensures.cause.later c.in_err-store_gauge.ensures.cause.failed;
+    }
 
 pub loop-gauge-preserved : goal.loop-gauge-preserved
 loop-gauge-preserved g c =
@@ -118,14 +126,27 @@ loop-gauge-preserved g c =
       after = λ h le. held.others h (not_same_after h c.loop-gauge.gauge _ le front.gauge) ∙ c.loop-gauge.invariant.after h
           (omega (arith, le));
       later = omega (arith, c.store_gauge.ensures.cause.later, c.loop-gauge.invariant.later);
+      follows = c.store_gauge.ensures.follows;
     }
 
-pub returns-clause-going : goal.returns-clause-going
-returns-clause-going g c = λ tells files kept stored stand. c.loop-gauge.invariant.going tells files kept stored stand
-
-pub returns-clause-held : goal.returns-clause-held
-returns-clause-held g c = λ to ends h lt. c.loop-gauge.invariant.before to ends h
-    (omega (arith, lt, c.loop-gauge-test.false, ap length c.as_slice-gauge-end.ensures))
-
-pub returns-clause-paced : goal.returns-clause-paced
-returns-clause-paced g c = λ tells same bodies on. paced_where (λ done. tt) (c.loop-gauge.invariant.paced tells same bodies on)
+pub returns-clause-stores : goal.returns-clause-stores
+returns-clause-stores g c =
+    let was = c.loop-gauge.invariant in
+    let all : c.loop-gauge.gauge ≡ length c.args.bridge.now.gauges = omega
+    (arith, c.loop-gauge-test.false, ap length c.as_slice-gauge-end.ensures) in
+    let told = g.K.Station.told in
+    record {
+      going = was.going;
+      stored = was.stored;
+      paced = λ tells same bodies on. paced_where (λ done. tt) (was.paced tells same bodies on);
+      lines = λ tells.
+          subst (λ (k : ℕ). told c.loop-gauge.station ≡ told c.args.station.now ++
+          round_lines (name_of c.args.bridge.now) (slice_index (ends_of c.args.store.now.held))
+          (slice_index (ends_of c.loop-gauge.store.held)) k) all (was.told tells);
+      ends = λ to ends h lt. was.before to ends h (omega (arith, lt, all));
+      there = was.there;
+      usable = was.usable;
+      head = was.head;
+      gauges = was.gauges;
+      cause = record { later = was.later; failed = tt };
+    }

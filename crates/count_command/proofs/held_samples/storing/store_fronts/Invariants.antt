@@ -40,4 +40,5 @@ invariant-loop-gauge g l =
           slice_index (ends_of l.store.held) h ≡ to h;
       after : (h : ℕ) → l.gauge ≤ h → slice_index (ends_of l.store.held) h ≡ slice_index (ends_of l.fn.store.held) h;
       later : k.faults l.fn.station ≤ k.faults l.station;
+      follows : g.H.PutHook.follows l.behind.hook l.store.head.setup.grid (ends_of l.store.held);
     }

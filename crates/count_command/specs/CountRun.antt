@@ -1,4 +1,4 @@
--- What a run of `count` did.
+-- What a run of `count` or of `watch` did.
 use Rattle.std.specs.Prelude.{◌≡◌, ◌≢◌, ◌⊎◌, ℕ, List, length, Ok}
 use Rattle.outside.specs.Fault.{CountRose}
 use Rattle.outside.specs.Site.{Files}
@@ -14,20 +14,22 @@ use Rattle.site_config.specs.recorded.Asked.{names_in}
 use Rattle.count_command.specs.held_samples.Going.{AllHold, KeepsTold}
 use Rattle.site_lanes.specs.Answers.{HeadsFit, AllSound}
 use Rattle.status.specs.declared.status.Status.{Status}
-use Rattle.status.specs.declared.status.Status.TheVariants.{Done, ReadFault, WriteFault, DiskFault, OutOfMemory}
+use Rattle.status.specs.declared.status.RecordingFault.{RecordingFault}
+use Rattle.status.specs.declared.status.Status.TheVariants.{Done, Usage, Recording, ReadFault, WriteFault, DiskFault, OutOfMemory}
 use Rattle.status.specs.Printing.{IsPrinting}
+use Rattle.count_command.specs.declared.course.Course.{Course}
 use Rattle.count_command.specs.Acknowledging.{AreShort, AcknowledgesBy}
 use Rattle.count_command.specs.Appending.{HasGrown, TellsTruly}
 use Rattle.count_command.specs.Pacing.{TellsInPace}
-use Rattle.count_command.specs.Holding.{HeldAt, HeldCut, LeavesStore}
+use Rattle.count_command.specs.Holding.{HeldAt, HeldCut, HeldWithoutMemory, LeavesStore}
 use Rattle.count_command.specs.Answer.{CountAnswers}
 use Rattle.count_command.specs.Asked.{CountAsks}
 use Rattle.count_command.specs.Printed.{Prints}
 use Rattle.status.specs.fault_lines.FaultLine.{fault_line}
-use Rattle.monitor.specs.Shown.{Shown, Tells, Ends}
-use Rattle.monitor.specs.InitRun.{line_for}
+use Rattle.status.specs.Shown.{Shown, Tells, Ends, line_for}
 
-pub record CountRuns (before after : Shown) (answer : Status) : Type 0 where
+-- By its course, from what is shown before it to what is shown after it.
+pub record CountRuns (course : Course) (before after : Shown) (answer : Status) : Type 0 where
   -- Every moment of the run holds at least what was acknowledged before, and what was told in it up to that moment.
   pub every_moment : before.station_tells → before.site_tells → before.config_tells → (c : Config) →
       config_of_bytes before.config ≡ Ok c → (a : List ℕ) → AllHold (recordings c before.files) a before.leaves →
@@ -43,10 +45,10 @@ pub record CountRuns (before after : Shown) (answer : Status) : Type 0 where
       Reads first front ends before.seen → Since before.clock before.moments after.clock after.moments
       (TellsTruly (recordings c files) first front before.told before.leaves)
   -- A line is told for each body that is stored, before the next one is, and by the end for all of them, unless the
-  -- disk fails. Behind these comes at most the answer's line.
+  -- disk fails. Behind these come, in `watch`, lines of what was seen, and then at most the answer's line.
   pub paced : before.station_tells → before.config_tells → (c : Config) → config_of_bytes before.config ≡ Ok c →
       (first : HeadValue) (front : List PartsValue) (ends : List ℕ) → Reads first front ends before.seen →
-      TellsInPace c first front (line_for before answer) before.clock before.moments before.told before.leaves
+      TellsInPace course c first front (line_for before answer) before.clock before.moments before.told before.leaves
       after.clock after.moments after.told after.leaves (answer ≢ DiskFault)
   -- At a good end all samples are held.
   pub ended : before.station_tells → before.site_tells → before.config_tells → (c : Config) →
@@ -56,18 +58,26 @@ pub record CountRuns (before after : Shown) (answer : Status) : Type 0 where
   pub cut : before.station_tells → before.site_tells → before.config_tells → (c : Config) →
       config_of_bytes before.config ≡ Ok c → (a : List ℕ) → AllHold (recordings c before.files) a before.leaves →
       ¬ CountRose before.site_faults after.site_faults → HeldCut answer (recordings c before.files) after.leaves
+  -- Where memory ran out in `watch` and no source failed, nothing was stored, or so many are held: a segment that can't
+  -- be shown doesn't stop the storing.
+  pub memory : before.station_tells → before.site_tells → before.config_tells → (c : Config) →
+      config_of_bytes before.config ≡ Ok c → (a : List ℕ) → AllHold (recordings c before.files) a before.leaves →
+      ¬ CountRose before.site_faults after.site_faults →
+      HeldWithoutMemory course answer ((name : List ℕ) × Tells (fault_line answer name) before after)
+      (recordings c before.files) after.leaves
   -- With `Done` the report of all samples is printed, with `WriteFault` a front of it.
   pub prints : before.output_tells → before.station_tells → before.site_tells → before.config_tells → (c : Config) →
       config_of_bytes before.config ≡ Ok c → (a : List ℕ) → AllHold (recordings c before.files) a before.leaves →
       Prints answer c (recordings c before.files).samples before.written after.written
   -- With any other answer nothing is printed.
   pub nothing : before.output_tells → ¬ IsPrinting answer → after.written ≡ before.written
-  -- Where each recording was read to its end, the lines of all rounds were told: with `Done` no other, else behind them at
-  -- most the answer's line.
+  -- Where each recording was read to its end, the lines of all rounds were told, and in `watch`, where no recording is
+  -- torn, then those of what was seen: with `Done` no other, else behind them at most the answer's line.
   pub acknowledged : before.station_tells → before.site_tells → before.config_tells → (c : Config) →
       config_of_bytes before.config ≡ Ok c → (n : List ℕ) →
       Holds c.setup (recordings c before.files).samples n before.seen →
-      AcknowledgesBy answer (¬ CountRose before.site_faults after.site_faults × AreShort (recordings c before.files))
+      AcknowledgesBy course answer
+      (¬ CountRose before.site_faults after.site_faults × AreShort (recordings c before.files))
       c.block (recordings c before.files) n before.told (line_for before answer) after.told
   -- The answer is the first thing that is wrong; a fault of the outside and want of memory have no place in this order.
   pub answer_is : before.station_tells → before.site_tells → before.config_tells →
@@ -80,8 +90,14 @@ pub record CountRuns (before after : Shown) (answer : Status) : Type 0 where
       ¬ CountRose before.config_faults after.config_faults → ¬ CountRose before.site_faults after.site_faults →
       ¬ CountRose before.station_faults after.station_faults → ¬ CountRose before.output_faults after.output_faults →
       (answer ≡ Done) ⊎ (answer ≡ OutOfMemory)
-  -- Where it is refused or memory ran out, at most the line of the answer is told, and nothing else changes.
-  pub quiet : before.station_tells → LeavesStore answer → (name : List ℕ) × Tells (fault_line answer name) before after
+  -- Where it is refused, or memory ran out in `count`, at most the line of the answer is told, and nothing else changes.
+  pub quiet : before.station_tells → LeavesStore course answer →
+      (name : List ℕ) × Tells (fault_line answer name) before after
+  -- It is never `Usage`.
+  pub named : answer ≢ Usage
+  -- A recording is refused only where no call of the site and of its sources failed.
+  pub refused : (gauge : ℕ) (fault : RecordingFault) → answer ≡ Recording gauge fault →
+      after.site_faults ≡ before.site_faults
   -- A read fault is answered only where the configuration's or the site's count of faults rose.
   pub read : answer ≡ ReadFault → CountRose before.config_faults after.config_faults ⊎
       CountRose before.site_faults after.site_faults

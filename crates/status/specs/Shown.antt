@@ -1,7 +1,7 @@
 -- What a whole run shows, before it and after it.
 --   Shown        what the configuration, the site, the station and the output show at one moment
 --   shown_by     the same of four objects
---   outside_in   the site's and the output's part of it
+--   line_for     the line of an answer, by the configuration that is shown
 --   Tells        nothing of the station changes but that this line is told at most
 --   Ends         this line was told last, unless the station failed
 --   TellsAnswer  the line of the answer alone is told
@@ -13,10 +13,10 @@ use Rattle.outside.specs.declared.site.Site as site
 use Rattle.outside.specs.declared.sink.Sink as sink
 use Rattle.outside.specs.station.Station.{Image, Lines, MomentsSince}
 use Rattle.outside.specs.declared.station.station.Station as station
-use Rattle.file_commands.specs.file_tasks.Run.{Outside}
+use Rattle.site_config.specs.Configuration.{config_of_bytes}
 use Rattle.status.specs.declared.status.Status.{Status}
 use Rattle.status.specs.declared.status.Status.TheVariants.{Done}
-use Rattle.status.specs.fault_lines.FaultLine.{fault_line}
+use Rattle.status.specs.fault_lines.FaultLine.{fault_line, name_by}
 use Rattle.status.specs.fault_lines.Telling.{TellsAtMost, EndsIn}
 
 pub record Shown : Type 1 where
@@ -72,17 +72,8 @@ shown_by t u v p c s k o = record {
   written = p.written o;
 }
 
-abbrev pub outside_in : Shown → Outside
-outside_in shown = record {
-  site_tells = shown.site_tells;
-  output_tells = shown.output_tells;
-  files = shown.files;
-  names_asked = shown.names_asked;
-  out = shown.out;
-  site_faults = shown.site_faults;
-  written = shown.written;
-  output_faults = shown.output_faults;
-}
+abbrev pub line_for : Shown → Status → List ℕ
+line_for before answer = fault_line answer (name_by (config_of_bytes before.config) answer)
 
 abbrev pub Tells : List ℕ → Shown → Shown → Type 0
 Tells line before after =

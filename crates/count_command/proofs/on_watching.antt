@@ -1,0 +1,2 @@
+pub mod OnlySeen
+pub mod SeenNumbers

@@ -1,0 +1,42 @@
+-- What must hold before rounds are made.
+--   AreOpened       a store is on its station, and lanes stand where what it holds of each gauge ends
+--   AreOpenedLanes  so it is of a station and the sources of lanes
+--   AreRoundsFor    prepared rounds, and a board for them
+use Rattle.std.specs.Prelude.{◌≡◌, ℕ, List, length, false}
+use Rattle.std.specs.List.{All}
+use Rattle.outside.specs.station.Station.{Image}
+use Rattle.outside.specs.declared.source.Source as source
+use Rattle.outside.specs.declared.station.station.Station as station
+use Rattle.board.specs.Board.{BoardValue}
+use Rattle.count_workers.specs.declared.lane_loans.lane.Lane.{Lane}
+use Rattle.count_workers.specs.round_making.Resting.{PreparedValue}
+use Rattle.segment_store.specs.Held.{ends_of}
+use Rattle.segment_store.specs.Moments.{StoreValue, IsThere}
+use Rattle.site_config.specs.declared.config.Config.{Config}
+use Rattle.site_config.specs.Valid.{IsConfig}
+use Rattle.site_lanes.specs.Lanes.{AreHeldTo, HasSource, IsFaulty}
+use Rattle.count_command.specs.held_rounds.Beside.{IsBoardFor}
+
+-- tells, seen and leaves are of the station, failed counts faults of a source
+pub record AreOpened {C : Type 0} (tells : Type 0) (failed : C → ℕ) (bridge : Config) (store : StoreValue)
+    (lanes : List (Lane C)) (seen : Image) (leaves : Image → Type 0) : Type 0 where
+  pub bridge_is : IsConfig bridge
+  pub usable : store.shut ≡ false
+  pub gauges : length store.held ≡ length bridge.gauges
+  pub count : length lanes ≡ length bridge.gauges
+  pub setup : store.head.setup ≡ bridge.setup
+  pub held : AreHeldTo (ends_of store.held) lanes
+  pub sources : All HasSource lanes
+  pub faulty : All (IsFaulty failed) lanes
+  pub there : tells → IsThere store seen leaves
+
+abbrev pub AreOpenedLanes : {C K : Type 0} → source.Ghosts C → station.Ghosts K → Config → StoreValue → List (Lane C) →
+    K → Type 0
+AreOpenedLanes t v bridge store lanes station =
+    AreOpened v.tells t.faults bridge store lanes (v.seen station) (v.leaves station)
+
+pub record AreRoundsFor (bridge : Config) (prepared : PreparedValue) (board : BoardValue) : Type 0 where
+  pub gauges : prepared.gauges ≡ length bridge.gauges
+  pub grid : prepared.grid ≡ bridge.setup.grid
+  pub block : prepared.block ≡ bridge.block
+  pub board_is : IsBoardFor prepared board

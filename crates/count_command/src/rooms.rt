@@ -1,0 +1,47 @@
+ghost use Rattle.std.specs.Prelude.{◌≤◌, IfOk};
+ghost use Rattle.calibration.specs.declared.limits.TheConstants.{MAX_WORKERS};
+ghost use Rattle.site_config.specs.Valid.{IsConfig};
+ghost use Rattle.report_command.specs.site_report.Room.{HasRoom};
+ghost use Rattle.count_command.specs.held_rounds.Ready.{AreRoundsFor};
+
+use board::Board;
+use count_workers::{Plan, Prepared};
+use outside::Source;
+use report_command::site_report::Report;
+use site_config::Config;
+use std::alloc::{AllocError, Global};
+
+/// The memory of rounds, and of the report behind them.
+#[derive(Drop)]
+pub struct Rooms<C: Source> {
+    pub prepared: Prepared<C>,
+    pub board: Board,
+    pub report: Report,
+}
+
+/// Takes it.
+pub fn take_rooms<C: Source>(
+    alloc: Global,
+    workers: u8,
+    bridge: &Config,
+) -> Result<Rooms<C>, AllocError>
+    requires workers { (1 ≤ workers) × (workers ≤ MAX_WORKERS) }
+    requires bridge { IsConfig bridge.now }
+    ensures rounds { IfOk result (λ r. AreRoundsFor bridge.now r.prepared r.board) }
+    ensures report { IfOk result (λ r. HasRoom bridge.now r.report) }
+{
+    let plan = Plan {
+        grid: bridge.setup.grid,
+        gauges: bridge.gauges.as_slice().len() as u16,
+        block: bridge.block,
+        workers,
+    };
+    let prepared = Prepared::new(alloc, &plan)?;
+    let board = Board::new(alloc, plan.gauges, plan.block, &plan.grid)?;
+    let report = Report::new(alloc, bridge)?;
+    Ok(Rooms {
+        prepared,
+        board,
+        report,
+    })
+}

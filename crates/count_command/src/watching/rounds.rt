@@ -1,0 +1,259 @@
+ghost use Rattle.std.specs.Prelude.{◌≡◌, MatchOption};
+ghost use Rattle.std.specs.Thread.{IsSync, IsSend};
+ghost use Rattle.segment_store.specs.Held.{ends_of};
+ghost use Rattle.count_command.specs.held_rounds.Made.{RoundsMade};
+ghost use Rattle.count_command.specs.held_rounds.Ready.{AreOpened, AreOpenedLanes, AreRoundsFor};
+ghost use Rattle.count_command.specs.watching.Watching.{ShowsAtMost};
+
+use crate::held_rounds::count_rounds;
+use crate::held_samples::{Behind, PutHook};
+use crate::watching::bell::Bell;
+use crate::watching::lookout::Lookout;
+use crate::watching::put_shower::{OneView, PutShower, Rings};
+use crate::watching::watch::{Watch, Watched};
+use board::Board;
+use count_workers::Prepared;
+use count_workers::lane_loans::Lane;
+use outside::station::Station;
+use outside::{Failed, Gate, Source};
+use segment_store::Store;
+use site_config::Config;
+use std::alloc::AllocGlobal;
+use std::marker::{Brand, PhantomData};
+use std::sync::Wait;
+use std::thread::{Threads, join_mut};
+
+// Prepared rounds, with the board that they have not. It is taken when they begin.
+#[derive(Drop)]
+struct RoundsToMake<C: Source> {
+    prepared: Prepared<C>,
+    board: Option<Board>,
+}
+
+// Who watches, and what wakes it.
+#[derive(Drop)]
+struct Looking<'a> {
+    lookout: Lookout,
+    bell: &'a Bell,
+}
+
+// Looks behind each ring, until the rounds are done.
+fn look_beside<R: Wait>(rt: &R, looking: &mut Looking<'_>)
+    ensures { looking.new.lookout ≡ looking.old.lookout }
+{
+    let bell = looking.bell;
+    looking.lookout.watch(rt, bell);
+}
+
+// The rounds, and then the end of the watching.
+fn rounds_and_end<
+    R: Threads + Wait + Sync,
+    C: Source + Send,
+    K: Station,
+    G: Gate + Sync,
+    H: PutHook + Rings,
+>(
+    rt: &R,
+    rounds: &mut RoundsToMake<C>,
+    lanes: &mut [Lane<C>],
+    bridge: &Config,
+    store: &mut Store,
+    station: &mut K,
+    gate: &G,
+    behind: &mut Behind<H>,
+) -> Result<(), Failed>
+    requires opened { AreOpenedLanes ⟦<C as Source>⟧ ⟦<K as Station>⟧ bridge.now store.old
+        lanes.old station.old }
+    requires rounds { MatchOption rounds.old.board ⊥
+        (λ b. AreRoundsFor bridge.now rounds.old.prepared b) }
+    requires follows { H.follows behind.old.hook store.old.head.setup.grid
+        (ends_of store.old.held) }
+    ensures made { RoundsMade ⟦<C as Source>⟧ ⟦<K as Station>⟧ bridge.now store.old store.new
+        lanes.old lanes.new station.old station.new result }
+    ensures follows { H.follows behind.new.hook store.new.head.setup.grid
+        (ends_of store.new.held) }
+{
+    let Some(board) = rounds.board.take() else {
+        unreachable!()
+    };
+    let done = count_rounds(
+        rt,
+        &mut rounds.prepared,
+        board,
+        lanes,
+        bridge,
+        store,
+        station,
+        gate,
+        behind,
+    );
+    behind.hook.end();
+    done
+}
+
+// The rounds in this thread, and a watcher in a new one, or last where none can be made.
+fn rounds_beside<
+    R: Threads + Wait + Sync,
+    C: Source + Send,
+    K: Station,
+    G: Gate + Sync,
+    H: PutHook + Rings,
+>(
+    rt: &R,
+    rounds: &mut RoundsToMake<C>,
+    lanes: &mut [Lane<C>],
+    bridge: &Config,
+    store: &mut Store,
+    station: &mut K,
+    gate: &G,
+    behind: &mut Behind<H>,
+    looking: &mut Looking<'_>,
+) -> Result<(), Failed>
+    requires opened { AreOpenedLanes ⟦<C as Source>⟧ ⟦<K as Station>⟧ bridge.now store.old
+        lanes.old station.old }
+    requires rounds { MatchOption rounds.old.board ⊥
+        (λ b. AreRoundsFor bridge.now rounds.old.prepared b) }
+    requires follows { H.follows behind.old.hook store.old.head.setup.grid
+        (ends_of store.old.held) }
+    ensures made { RoundsMade ⟦<C as Source>⟧ ⟦<K as Station>⟧ bridge.now store.old store.new
+        lanes.old lanes.new station.old station.new result }
+    ensures follows { H.follows behind.new.hook store.new.head.setup.grid
+        (ends_of store.new.held) }
+    ensures lookout { looking.new.lookout ≡ looking.old.lookout }
+{
+    let (_, done) = join_mut(
+        rt,
+        &mut ||
+            requires { IsSync R.row }
+            ensures { looking.exit.now.lookout ≡ looking.entry.now.lookout }
+        { look_beside(rt, looking) },
+        &mut ||
+            requires { IsSync R.row × IsSync G.row × IsSend C.row
+                × AreOpened K.tells C.faults bridge.now store.now lanes.now
+                (K.seen station.now) (K.leaves station.now)
+                × MatchOption rounds.now.board ⊥
+                (λ b. AreRoundsFor bridge.now rounds.now.prepared b)
+                × H.follows behind.now.hook store.now.head.setup.grid (ends_of store.now.held) }
+        { rounds_and_end(rt, rounds, lanes, bridge, store, station, gate, behind) },
+    );
+    done
+}
+
+// The rounds over one live view, and its end.
+fn rounds_watched<
+    R: AllocGlobal + Threads + Wait + Sync,
+    C: Source + Send,
+    K: Station,
+    G: Gate + Sync,
+    V: OneView,
+>(
+    rt: &R,
+    prepared: Prepared<C>,
+    board: Board,
+    lanes: &mut [Lane<C>],
+    bridge: &Config,
+    store: &mut Store,
+    station: &mut K,
+    gate: &G,
+    watch: Watch,
+) -> (Result<(), Failed>, Watched)
+    requires opened { AreOpenedLanes ⟦<C as Source>⟧ ⟦<K as Station>⟧ bridge.now store.old
+        lanes.old station.old }
+    requires rounds { AreRoundsFor bridge.now prepared board }
+    requires shows { ShowsAtMost watch.shown store.old.head.setup.grid (ends_of store.old.held) }
+    requires one { watch.of ≡ V.book }
+    ensures made { RoundsMade ⟦<C as Source>⟧ ⟦<K as Station>⟧ bridge.now store.old store.new
+        lanes.old lanes.new station.old station.new result.0 }
+    ensures starts { result.1.ends ≡ watch.starts }
+{
+    let Watch {
+        line,
+        shower,
+        lookout,
+    } = watch;
+    let bell = Bell::new();
+    let mut rounds = RoundsToMake {
+        prepared,
+        board: Some(board),
+    };
+    let mut looking = Looking {
+        lookout,
+        bell: &bell,
+    };
+    let mut behind = Behind {
+        line,
+        hook: PutShower::<'_, R, V> {
+            rt,
+            alloc: rt.alloc(),
+            bell: &bell,
+            shower,
+            refused: false,
+            of: PhantomData,
+        },
+    };
+    let done = rounds_beside(
+        rt,
+        &mut rounds,
+        lanes,
+        bridge,
+        store,
+        station,
+        gate,
+        &mut behind,
+        &mut looking,
+    );
+    let Behind { line, hook } = behind;
+    let PutShower {
+        rt: _rt,
+        alloc: _alloc,
+        bell: _bell,
+        shower,
+        refused,
+        of: _of,
+    } = hook;
+    let Looking {
+        lookout,
+        bell: _rung,
+    } = looking;
+    let ends = lookout.end(rt, shower);
+    (
+        done,
+        Watched {
+            line,
+            ends,
+            refused,
+        },
+    )
+}
+
+/// The rounds of `count`, each put of which is shown, and a watcher on a thread of its own that
+/// looks at what is shown until they are done. It then looks once more, and both ends of the live
+/// view are ended. Where no thread can be made it looks that once alone.
+pub fn watch_rounds<
+    R: AllocGlobal + Threads + Wait + Sync,
+    C: Source + Send,
+    K: Station,
+    G: Gate + Sync,
+>(
+    rt: &R,
+    prepared: Prepared<C>,
+    board: Board,
+    lanes: &mut [Lane<C>],
+    bridge: &Config,
+    store: &mut Store,
+    station: &mut K,
+    gate: &G,
+    watch: Watch,
+) -> (Result<(), Failed>, Watched)
+    requires opened { AreOpenedLanes ⟦<C as Source>⟧ ⟦<K as Station>⟧ bridge.now store.old
+        lanes.old station.old }
+    requires rounds { AreRoundsFor bridge.now prepared board }
+    requires shows { ShowsAtMost watch.shown store.old.head.setup.grid (ends_of store.old.held) }
+    ensures made { RoundsMade ⟦<C as Source>⟧ ⟦<K as Station>⟧ bridge.now store.old store.new
+        lanes.old lanes.new station.old station.new result.0 }
+    ensures starts { result.1.ends ≡ watch.starts }
+{
+    rounds_watched::<R, C, K, G, Brand>(
+        rt, prepared, board, lanes, bridge, store, station, gate, watch,
+    )
+}
