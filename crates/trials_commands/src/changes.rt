@@ -1,4 +1,6 @@
-use crate::sites::{COMMON, EXAMPLE, EXAMPLE_REPORT, count, image, made, recording_of, site_of};
+use crate::sites::{
+    COMMON, EXAMPLE, EXAMPLE_REPORT, Word, count, image, made, recording_of, run_by, site_of,
+};
 use audit_command::audit_command;
 use outside::station::MomentStation;
 use outside::{SteadySource, VecSink};
@@ -28,7 +30,7 @@ fn store_of<R: Abort + AllocGlobal + Threads + Wait + Sync>(
     Ok(store)
 }
 
-// What `count` answers where this byte of the id is turned.
+// What is answered where this byte of the id is turned.
 fn id_fault(rt: &impl Abort, byte: usize) -> RecordingFault {
     let mut kept = [0x11; 16];
     assert!(rt; byte < 16);
@@ -47,6 +49,7 @@ const PERIODS: &[(usize, u32)] = &[
 
 fn check_turned<R: Abort + AllocGlobal + Threads + Wait + Sync>(
     rt: &R,
+    word: Word,
     store: &[u8],
     place: usize,
     fault: RecordingFault,
@@ -55,7 +58,7 @@ fn check_turned<R: Abort + AllocGlobal + Threads + Wait + Sync>(
     let mut bytes = store.to_vec(alloc)?;
     assert!(rt; place < bytes.len());
     bytes[place] = !bytes[place];
-    let run = count(rt, recording_of(alloc, 0x11, EXAMPLE)?, bytes)?;
+    let run = run_by(rt, word, recording_of(alloc, 0x11, EXAMPLE)?, bytes)?;
     assert_eq!(rt;
         run.status,
         Status::Recording { gauge: 0, fault },
@@ -67,19 +70,33 @@ fn check_turned<R: Abort + AllocGlobal + Threads + Wait + Sync>(
 
 // The id and the period in a store's head are those of the recording that it was made for. A store
 // of version 1 is carried on as such.
-#[test]
-fn each_byte_of_the_id_and_the_period_is_turned(rt: HostRuntime) -> Result<(), Fail> {
+fn check_each_turned<R: Abort + AllocGlobal + Threads + Wait + Sync>(
+    rt: &R,
+    word: Word,
+) -> Result<(), Fail> {
     for version in 1..3u8 {
-        let store = store_of(&rt, version)?;
+        let store = store_of(rt, version)?;
         for byte in 0..16usize {
-            check_turned(&rt, &store, 22 + byte, id_fault(&rt, byte))?;
+            check_turned(rt, word, &store, 22 + byte, id_fault(rt, byte))?;
         }
         for &(place, kept) in PERIODS {
             let found = 10_000;
-            check_turned(&rt, &store, place, RecordingFault::Period { kept, found })?;
+            check_turned(
+                rt,
+                word,
+                &store,
+                place,
+                RecordingFault::Period { kept, found },
+            )?;
         }
     }
     Ok(())
+}
+
+#[test]
+fn each_byte_of_the_id_and_the_period_is_turned(rt: HostRuntime) -> Result<(), Fail> {
+    check_each_turned(&rt, Word::Count)?;
+    check_each_turned(&rt, Word::Watch)
 }
 
 fn audit(

@@ -1,4 +1,4 @@
-use crate::sites::{EXAMPLE, EXAMPLE_REPORT, Run, count, count_at, made, recording_of};
+use crate::sites::{EXAMPLE, EXAMPLE_REPORT, Run, Word, count, made, recording_of, run_at};
 use outside::HoldGate;
 use status::Status;
 use std::process::Abort;
@@ -86,7 +86,15 @@ fn workers_count_beside_each_other(rt: HostRuntime) -> Result<(), Fail> {
     let gate = HoldGate::new(50_000_000);
     let file = recording_of(rt.alloc(), 0x11, EXAMPLE)?;
     let image = made(&rt, rt.alloc())?;
-    let run = count_at(&rt, file, image, Vec::new(rt.alloc()), 2000, &gate)?;
+    let run = run_at(
+        &rt,
+        Word::Count,
+        file,
+        image,
+        Vec::new(rt.alloc()),
+        2000,
+        &gate,
+    )?;
     check(&rt, &run, "held G1 9\n", EXAMPLE_REPORT);
     assert_eq!(rt; gate.passes(), 3);
     assert!(rt; !gate.gave_up());

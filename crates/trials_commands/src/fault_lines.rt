@@ -206,7 +206,7 @@ fn faults_of_the_outside(rt: HostRuntime) -> Result<(), Fail> {
             "usage: monitor table FILE | init | count [--workers N] | report | audit | \
              demo [--seed N] [--samples N] [--workers N] | repeat | \
              column FILE NAME ID PERIOD | sheet | window START FROM TO | \
-             compact",
+             compact | watch [--workers N]",
         ),
         (Status::ReadFault, "read fault"),
         (Status::WriteFault, "write fault"),

@@ -1,4 +1,4 @@
-use crate::sites::{EXAMPLE, EXAMPLE_REPORT, count, image, made, recording_of};
+use crate::sites::{EXAMPLE, EXAMPLE_REPORT, Word, count, image, made, recording_of, run_by};
 use outside::station::Torn;
 use status::{RecordingFault, Status};
 use std::alloc::Global;
@@ -53,13 +53,15 @@ fn nothing_new_tells_nothing(rt: HostRuntime) -> Result<(), Fail> {
 }
 
 // Three samples and two bytes. Then the fourth sample is whole.
-#[test]
-fn a_torn_end_holds_all_whole_samples(rt: HostRuntime) -> Result<(), Fail> {
+fn check_torn<R: Abort + AllocGlobal + Threads + Wait + Sync>(
+    rt: &R,
+    word: Word,
+) -> Result<(), Fail> {
     let alloc = rt.alloc();
     let mut file = recording_of(alloc, 0x11, &EXAMPLE[..4])?;
     assert!(rt; file.len() == 48);
     file.truncate(46);
-    let run = count(&rt, file, made(&rt, alloc)?)?;
+    let run = run_by(rt, word, file, made(rt, alloc)?)?;
     assert_eq!(rt; run.status, Status::Torn { gauge: 0, bytes: 2 });
     assert_eq!(rt;
         run.station.told(),
@@ -67,13 +69,20 @@ fn a_torn_end_holds_all_whole_samples(rt: HostRuntime) -> Result<(), Fail> {
     );
     assert_eq!(rt; run.out.written(), b"".as_slice());
     let next = count(
-        &rt,
+        rt,
         recording_of(alloc, 0x11, &EXAMPLE[..4])?,
         image(alloc, &run.station)?,
     )?;
     assert_eq!(rt; next.status, Status::Done);
     assert_eq!(rt; next.station.told(), b"held G1 4\n".as_slice());
     Ok(())
+}
+
+// A `watch` tells then nothing of what its watcher saw.
+#[test]
+fn a_torn_end_holds_all_whole_samples(rt: HostRuntime) -> Result<(), Fail> {
+    check_torn(&rt, Word::Count)?;
+    check_torn(&rt, Word::Watch)
 }
 
 fn check_refused<R: Abort + AllocGlobal + Threads + Wait + Sync>(
@@ -85,11 +94,13 @@ fn check_refused<R: Abort + AllocGlobal + Threads + Wait + Sync>(
     let alloc = rt.alloc();
     let whole = count(rt, recording_of(alloc, 0x11, EXAMPLE)?, made(rt, alloc)?)?;
     let store = image(alloc, &whole.station)?;
-    let run = count(rt, file, store)?;
-    assert_eq!(rt; run.status, Status::Recording { gauge: 0, fault });
-    assert_eq!(rt; run.station.told(), told.as_bytes());
-    let left = image(alloc, &run.station)?;
-    assert_eq!(rt; left.as_slice(), image(alloc, &whole.station)?.as_slice());
+    for word in [Word::Count, Word::Watch] {
+        let file = file.as_slice().to_vec(alloc)?;
+        let run = run_by(rt, word, file, store.as_slice().to_vec(alloc)?)?;
+        assert_eq!(rt; run.status, Status::Recording { gauge: 0, fault });
+        assert_eq!(rt; run.station.told(), told.as_bytes());
+        assert_eq!(rt; image(alloc, &run.station)?.as_slice(), store.as_slice());
+    }
     Ok(())
 }
 

@@ -1,4 +1,4 @@
-use crate::sites::{EXAMPLE, count, held, image, made, recording_of};
+use crate::sites::{EXAMPLE, Word, held, image, made, recording_of, run_by};
 use status::{RecordingFault, Status};
 use std::process::Abort;
 use std::sync::Wait;
@@ -21,29 +21,35 @@ fn status_of(length: u64) -> Status {
 
 fn check_cut<R: Abort + AllocGlobal + Threads + Wait + Sync>(
     rt: &R,
+    word: Word,
     length: u64,
 ) -> Result<(), Fail> {
     let alloc = rt.alloc();
     let mut file = recording_of(alloc, 0x11, EXAMPLE)?;
     assert_eq!(rt; file.len(), 68);
     file.truncate(length as usize);
-    let run = count(rt, file, made(rt, alloc)?)?;
-    assert_eq!(rt; run.status, status_of(length), "{length} bytes");
+    let run = run_by(rt, word, file, made(rt, alloc)?)?;
+    assert_eq!(rt; run.status, status_of(length), "{word:?}, {length} bytes");
     let whole = length.saturating_sub(32) / 4;
     assert_eq!(rt;
         held(alloc, image(alloc, &run.station)?)?,
         whole,
-        "{length} bytes"
+        "{word:?}, {length} bytes"
     );
     let is_printed = !run.out.written().is_empty();
-    assert_eq!(rt; is_printed, run.status == Status::Done, "{length} bytes");
+    assert_eq!(rt;
+        is_printed,
+        run.status == Status::Done,
+        "{word:?}, {length} bytes"
+    );
     Ok(())
 }
 
 #[test]
 fn every_length_of_a_recording(rt: HostRuntime) -> Result<(), Fail> {
     for length in 0..68 {
-        check_cut(&rt, length)?;
+        check_cut(&rt, Word::Count, length)?;
+        check_cut(&rt, Word::Watch, length)?;
     }
     Ok(())
 }

@@ -1,7 +1,8 @@
 //! Tests of the configuration, the words, the commands and whole sites in memory, beside what
 //! their contracts prove: worked examples with every byte that is printed and told, faults of
-//! each kind, a `count` stopped after each call of the station and with each read failing, each
-//! length of a recording, stores whose bytes were changed, and rounds that run beside the puts.
+//! each kind, a `count` and a `watch` stopped after each call of the station and with each read
+//! failing, each length of a recording, stores whose bytes were changed, and rounds that run beside
+//! the puts.
 //! There is no code but the tests.
 #![tactic(auto)]
 
@@ -56,6 +57,8 @@ mod report_rooms;
 #[cfg(test)]
 mod report_runs;
 #[cfg(test)]
+mod seen_lines;
+#[cfg(test)]
 mod sheet_runs;
 #[cfg(test)]
 mod sheets;
@@ -65,6 +68,8 @@ mod sites;
 mod stops;
 #[cfg(test)]
 mod usual;
+#[cfg(test)]
+mod watch_runs;
 #[cfg(test)]
 mod window_runs;
 #[cfg(test)]

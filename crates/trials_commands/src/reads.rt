@@ -1,5 +1,5 @@
 use crate::made::{MADE_REPORT, made_recording};
-use crate::sites::{COMMON, Run, count, count_over, held, image, made};
+use crate::sites::{COMMON, Run, Word, count, held, image, made, run_over};
 use outside::station::MomentStation;
 use outside::{MapSite, OpenGate};
 use status::Status;
@@ -15,9 +15,10 @@ fn whole_before(take: u64) -> u64 {
     take.saturating_sub(7).min(100)
 }
 
-// Runs `count` over the made recording, of which this take fails.
+// Runs a command over the made recording, of which this take fails.
 fn with_failure<R: Abort + AllocGlobal + Threads + Wait + Sync>(
     rt: &R,
+    word: Word,
     take: u64,
 ) -> Result<Run, Fail> {
     let alloc = rt.alloc();
@@ -28,7 +29,7 @@ fn with_failure<R: Abort + AllocGlobal + Threads + Wait + Sync>(
     let name = String::from_str(alloc, "g1.sgrc")?;
     let mut site = site.failing_reads(name, vec![in alloc; take]?);
     let station = MomentStation::new(alloc, made(rt, alloc)?, Vec::new(alloc));
-    count_over(rt, COMMON, &mut site, station, 2000, &OpenGate)
+    run_over(rt, word, COMMON, &mut site, station, 2000, &OpenGate)
 }
 
 // All samples before the take are held, nothing is printed, and the rest is counted by the next.
@@ -48,14 +49,26 @@ fn check_failed<R: Abort + AllocGlobal + Threads + Wait + Sync>(
     Ok(())
 }
 
-// The last of them finds the end.
-#[test]
-fn every_failing_read_of_a_count(rt: HostRuntime) -> Result<(), Fail> {
+fn check_each<R: Abort + AllocGlobal + Threads + Wait + Sync>(
+    rt: &R,
+    word: Word,
+) -> Result<(), Fail> {
     for take in 0..108 {
-        check_failed(&rt, &with_failure(&rt, take)?, take)?;
+        check_failed(rt, &with_failure(rt, word, take)?, take)?;
     }
-    let run = with_failure(&rt, 108)?;
+    // The last of them finds the end.
+    let run = with_failure(rt, word, 108)?;
     assert_eq!(rt; run.status, Status::Done);
     assert_eq!(rt; run.out.written(), MADE_REPORT.as_bytes());
     Ok(())
+}
+
+#[test]
+fn every_failing_read_of_a_count(rt: HostRuntime) -> Result<(), Fail> {
+    check_each(&rt, Word::Count)
+}
+
+#[test]
+fn every_failing_read_of_a_watch(rt: HostRuntime) -> Result<(), Fail> {
+    check_each(&rt, Word::Watch)
 }

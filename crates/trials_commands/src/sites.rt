@@ -1,7 +1,7 @@
 ghost use Rattle.std.specs.Prelude.{◌≡◌, IfOk};
 
 use calibration::{Gain, Gains, Grid, Setup};
-use count_command::count_command;
+use count_command::{count_command, watch_command};
 use init_command::init_command;
 use outside::station::{MomentStation, Torn};
 use outside::{Gate, MapSite, OpenGate, SteadySource, VecSink};
@@ -148,7 +148,14 @@ pub fn made(rt: &impl Abort, alloc: Global) -> Result<Vec<u8>, Fail> {
     image(alloc, &station)
 }
 
-/// What a run of `count` did.
+/// The commands that count.
+#[derive(Clone, Copy, Debug)]
+pub enum Word {
+    Count,
+    Watch,
+}
+
+/// What a run of such a command did.
 #[derive(Drop)]
 pub struct Run {
     pub status: Status,
@@ -156,9 +163,10 @@ pub struct Run {
     pub out: VecSink,
 }
 
-/// Runs `count` over this configuration, site and station. The output has so much room.
-pub fn count_over<R: AllocGlobal + Threads + Wait + Sync, G: Gate + Sync>(
+/// Runs a command over this configuration, site and station. The output has so much room.
+pub fn run_over<R: AllocGlobal + Threads + Wait + Sync, G: Gate + Sync>(
     rt: &R,
+    word: Word,
     config: &str,
     site: &mut MapSite,
     mut station: MomentStation,
@@ -170,7 +178,10 @@ pub fn count_over<R: AllocGlobal + Threads + Wait + Sync, G: Gate + Sync>(
     let alloc = rt.alloc();
     let mut source = SteadySource::new(config.as_bytes().to_vec(alloc)?);
     let mut out = VecSink::new(alloc, room, Vec::new(alloc))?;
-    let status = count_command(rt, None, &mut source, site, &mut station, &mut out, gate);
+    let status = match word {
+        Word::Count => count_command(rt, None, &mut source, site, &mut station, &mut out, gate),
+        Word::Watch => watch_command(rt, None, &mut source, site, &mut station, &mut out, gate),
+    };
     Ok(Run {
         status,
         station,
@@ -178,10 +189,11 @@ pub fn count_over<R: AllocGlobal + Threads + Wait + Sync, G: Gate + Sync>(
     })
 }
 
-/// Runs `count` over the common configuration, a recording, and a station with this image, on which
-/// the calls of these numbers fail.
-pub fn count_at<R: AllocGlobal + Threads + Wait + Sync, G: Gate + Sync>(
+/// Runs a command over the common configuration, a recording, and a station with this image, on
+/// which the calls of these numbers fail.
+pub fn run_at<R: AllocGlobal + Threads + Wait + Sync, G: Gate + Sync>(
     rt: &R,
+    word: Word,
     file: Vec<u8>,
     image: Vec<u8>,
     failing: Vec<u64>,
@@ -190,14 +202,24 @@ pub fn count_at<R: AllocGlobal + Threads + Wait + Sync, G: Gate + Sync>(
 ) -> Result<Run, Fail> {
     let mut site = site_of(rt.alloc(), file)?;
     let station = MomentStation::new(rt.alloc(), image, failing);
-    count_over(rt, COMMON, &mut site, station, room, gate)
+    run_over(rt, word, COMMON, &mut site, station, room, gate)
 }
 
 /// Likewise, where nothing fails.
+pub fn run_by<R: AllocGlobal + Threads + Wait + Sync>(
+    rt: &R,
+    word: Word,
+    file: Vec<u8>,
+    image: Vec<u8>,
+) -> Result<Run, Fail> {
+    run_at(rt, word, file, image, Vec::new(rt.alloc()), 2000, &OpenGate)
+}
+
+/// Runs `count` likewise.
 pub fn count<R: AllocGlobal + Threads + Wait + Sync>(
     rt: &R,
     file: Vec<u8>,
     image: Vec<u8>,
 ) -> Result<Run, Fail> {
-    count_at(rt, file, image, Vec::new(rt.alloc()), 2000, &OpenGate)
+    run_by(rt, Word::Count, file, image)
 }

@@ -1,5 +1,5 @@
 use crate::made::{MADE_REPORT, made_recording};
-use crate::sites::{count, count_at, held, made};
+use crate::sites::{Word, count, held, made, run_at, run_by};
 use outside::OpenGate;
 use outside::station::Torn;
 use status::Status;
@@ -19,16 +19,17 @@ fn last_held(told: &[u8]) -> u64 {
     }
 }
 
-// The last number that a `count` tells in its first calls of the station, so many: the next one
-// fails.
+// The last number that a command acknowledges in its first calls of the station, so many: the next
+// one fails.
 fn told_by<R: Abort + AllocGlobal + Threads + Wait + Sync>(
     rt: &R,
+    word: Word,
     calls: u64,
 ) -> Result<u64, Fail> {
     let alloc = rt.alloc();
     let file = made_recording(rt, alloc)?;
     let failing = vec![in alloc; calls]?;
-    let run = count_at(rt, file, made(rt, alloc)?, failing, 2000, &OpenGate)?;
+    let run = run_at(rt, word, file, made(rt, alloc)?, failing, 2000, &OpenGate)?;
     Ok(last_held(run.station.told()))
 }
 
@@ -48,20 +49,32 @@ fn check_left<R: Abort + AllocGlobal + Threads + Wait + Sync>(
     Ok(())
 }
 
-#[test]
-fn every_stop_of_a_count(rt: HostRuntime) -> Result<(), Fail> {
+fn check_stops<R: Abort + AllocGlobal + Threads + Wait + Sync>(
+    rt: &R,
+    word: Word,
+) -> Result<(), Fail> {
     let alloc = rt.alloc();
-    let whole = count(&rt, made_recording(&rt, alloc)?, made(&rt, alloc)?)?;
+    let whole = run_by(rt, word, made_recording(rt, alloc)?, made(rt, alloc)?)?;
     assert_eq!(rt; whole.status, Status::Done);
     assert_eq!(rt; whole.out.written(), MADE_REPORT.as_bytes());
     assert_eq!(rt; last_held(whole.station.told()), 100);
     for calls in 0..whole.station.calls() + 1 {
-        let told = told_by(&rt, calls)?;
+        let told = told_by(rt, word, calls)?;
         for torn in [Torn::Old, Torn::New, Torn::Fill(1)] {
             assert!(rt; calls <= whole.station.calls());
             let left = whole.station.crash(alloc, calls, torn)?;
-            check_left(&rt, left, told, calls)?;
+            check_left(rt, left, told, calls)?;
         }
     }
     Ok(())
+}
+
+#[test]
+fn every_stop_of_a_count(rt: HostRuntime) -> Result<(), Fail> {
+    check_stops(&rt, Word::Count)
+}
+
+#[test]
+fn every_stop_of_a_watch(rt: HostRuntime) -> Result<(), Fail> {
+    check_stops(&rt, Word::Watch)
 }

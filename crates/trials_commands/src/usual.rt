@@ -1,6 +1,7 @@
 ghost use Rattle.std.specs.Prelude.{◌≡◌, IfOk};
 
-use crate::sites::{Run, count_over, image, made_over, recording_of};
+use crate::seen_lines::check_told;
+use crate::sites::{Run, Word, image, made_over, recording_of, run_over};
 use outside::station::{MomentStation, Torn};
 use outside::{MapSite, OpenGate};
 use sha2::{Digest, Sha256};
@@ -57,6 +58,15 @@ const REPORT_DIGEST: [u8; 32] = [
     0x48, 0x7e, 0xce, 0xf6, 0x42, 0xbb, 0x4b, 0x2c, 0x5e, 0xed, 0x8f, 0xc0, 0x21, 0x12, 0x42, 0x4b,
     0xae, 0xe6, 0x78, 0x7f, 0xf5, 0x21, 0xbc, 0xf7, 0x1c, 0xe3, 0xce, 0x71, 0xab, 0xf2, 0x98, 0x2f,
 ];
+
+// What is told of the first two rounds.
+const FIRST: &str = "held G1 16384
+held G2 16384
+held G3 16384
+held G1 32768
+held G2 32768
+held G3 32768
+";
 
 // What is told behind the second round, of 16 blocks of each gauge.
 const REST: &str = "held G1 49152
@@ -116,6 +126,7 @@ fn made_store(rt: &impl Abort, alloc: Global) -> Result<Vec<u8>, Fail> {
 
 fn run<R: Abort + AllocGlobal + Threads + Wait + Sync>(
     rt: &R,
+    word: Word,
     workers: u8,
     store: Vec<u8>,
 ) -> Result<Run, Fail> {
@@ -123,8 +134,9 @@ fn run<R: Abort + AllocGlobal + Threads + Wait + Sync>(
     let mut site = site_of_three(alloc)?;
     let config = config_of(alloc, workers)?;
     let station = MomentStation::new(alloc, store, Vec::new(alloc));
-    let run = count_over(
+    let run = run_over(
         rt,
+        word,
         config.as_str(),
         &mut site,
         station,
@@ -140,16 +152,28 @@ fn run<R: Abort + AllocGlobal + Threads + Wait + Sync>(
 #[test]
 fn a_usual_site_is_stopped_after_two_rounds(rt: HostRuntime) -> Result<(), Fail> {
     let alloc = rt.alloc();
-    let whole = run(&rt, 4, made_store(&rt, alloc)?)?;
+    let whole = run(&rt, Word::Count, 4, made_store(&rt, alloc)?)?;
     assert!(rt; whole.station.told().ends_with(REST.as_bytes()));
     let left_out = 5 * 3 * 5;
     assert!(rt; whole.station.calls() >= left_out);
     let left = whole
         .station
         .crash(alloc, whole.station.calls() - left_out, Torn::Old)?;
-    let again = run(&rt, 4, left)?;
+    let again = run(&rt, Word::Count, 4, left)?;
     assert_eq!(rt; again.station.told(), REST.as_bytes());
-    let by_one = run(&rt, 1, made_store(&rt, alloc)?)?;
+    let by_one = run(&rt, Word::Count, 1, made_store(&rt, alloc)?)?;
     assert_eq!(rt; again.out.written(), by_one.out.written());
     Ok(())
+}
+
+// The numbers of a gauge that a watcher may have seen, of a store without samples.
+const NUMBERS: &[u64] = &[0, 16_384, 32_768, 49_152, 65_536, 81_920, 98_304, 100_000];
+
+#[test]
+fn a_usual_site_is_watched(rt: HostRuntime) -> Result<(), Fail> {
+    let alloc = rt.alloc();
+    let watched = run(&rt, Word::Watch, 4, made_store(&rt, alloc)?)?;
+    let held = format!(in alloc; "{FIRST}{REST}")?;
+    let seen = [("G1", NUMBERS), ("G2", NUMBERS), ("G3", NUMBERS)];
+    check_told(&rt, alloc, watched.station.told(), held.as_str(), &seen)
 }

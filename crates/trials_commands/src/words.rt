@@ -13,30 +13,48 @@ const BYTES: [u8; 16] = [
     0x01, 0x23, 0x45, 0x67, 0x89, 0xab, 0xcd, 0xef, 0x01, 0x23, 0x45, 0x67, 0x89, 0xab, 0xcd, 0xef,
 ];
 
-// A line, and the workers of `count`, or none where the line is refused.
+// The words behind `count` or `watch`, and the workers, or none where the line is refused.
+const WORKERS: &[(&str, Option<Option<u8>>)] = &[
+    ("--workers 2", Some(Some(2))),
+    ("--workers=8", Some(Some(8))),
+    ("--workers +3", Some(Some(3))),
+    ("--workers 03", Some(Some(3))),
+    ("--workers 9", None),
+    ("--workers 0", None),
+    ("--workers -1", None),
+    ("--workers", None),
+    ("--workers 2 --workers 2", None),
+    ("-w 2", None),
+    ("--work 2", None),
+    ("x", None),
+    ("--", Some(None)),
+    ("--help", None),
+    ("-h", None),
+];
+
 #[test]
 fn lines_of_count(rt: HostRuntime) -> Result<(), Fail> {
-    let table = [
-        ("count", Some(None)),
-        ("count --workers 2", Some(Some(2))),
-        ("count --workers=8", Some(Some(8))),
-        ("count --workers +3", Some(Some(3))),
-        ("count --workers 03", Some(Some(3))),
-        ("count --workers 9", None),
-        ("count --workers 0", None),
-        ("count --workers -1", None),
-        ("count --workers", None),
-        ("count --workers 2 --workers 2", None),
-        ("count -w 2", None),
-        ("count --work 2", None),
-        ("count x", None),
-        ("count --", Some(None)),
-        ("count --help", None),
-        ("count -h", None),
-    ];
-    for (line, workers) in table {
-        let words = words_of(&rt, line)?;
+    let words = words_of(&rt, "count")?;
+    let count = Command::Count { workers: None };
+    assert_eq!(rt; read_words(rt.alloc(), &words)?, Some(count));
+    for &(line, workers) in WORKERS {
+        let line = format!(in rt.alloc(); "count {line}")?;
+        let words = words_of(&rt, line.as_str())?;
         let command = workers.map(|workers| Command::Count { workers });
+        assert_eq!(rt; read_words(rt.alloc(), &words)?, command);
+    }
+    Ok(())
+}
+
+#[test]
+fn lines_of_watch(rt: HostRuntime) -> Result<(), Fail> {
+    let words = words_of(&rt, "watch")?;
+    let watch = Command::Watch { workers: None };
+    assert_eq!(rt; read_words(rt.alloc(), &words)?, Some(watch));
+    for &(line, workers) in WORKERS {
+        let line = format!(in rt.alloc(); "watch {line}")?;
+        let words = words_of(&rt, line.as_str())?;
+        let command = workers.map(|workers| Command::Watch { workers });
         assert_eq!(rt; read_words(rt.alloc(), &words)?, command);
     }
     Ok(())
