@@ -3,12 +3,12 @@
 
 beside.py PROGRAM [SEED [TRIALS]]
 
-- Two and three `count` at once, TRIALS times (60 where it is left out), over recordings that grow between and during them. Each ends with the report of what it read, or
-  is refused since another holds the store. Afterwards the report is that of all the samples.
-- `report`, `repeat`, `window` and `compact` beside a `count` with a backlog, until TRIALS of them began and ended while it ran. Each prints what is
+- Two and three writers, each `count` or `watch`, at once, TRIALS times (60 where it is left out), over recordings that grow between and during
+  them. Each ends with the report of what it read, or is refused since another holds the store. Afterwards the report is that of all the samples.
+- `report`, `repeat`, `window` and `compact` beside a writer with a backlog, until TRIALS of them began and ended while it ran. Each prints what is
   held of a front of each recording, with at least what was acknowledged before it began.
 - Two `init` at once, half as often. One makes the store, the other is refused.
-- `count`, `init` and the readers beside a program that holds the store.
+- `count`, `watch`, `init` and the readers beside a program that holds the store.
 What is expected comes from an independent count (model.py). Last line: beside: N passed, M failed
 """
 
@@ -25,11 +25,12 @@ import time
 sys.dont_write_bytecode = True
 
 import stores
-from model import Count, recording, repeat, report, window_report
-from trial import ALL_TIME, GAIN, GRID, Trial, as_text, held, other_lines, parts, read, samples
+from model import Count, recording, repeat, report, seen_faults, window_report
+from trial import ALL_TIME, GAIN, GRID, Trial, as_text, held, other_lines, parts, read, samples, without_seen
 
 IN_USE = "monitor: monitor.store: in use by another monitor\nstation fault\n"
 NAMES = ["north", "south"]
+WRITERS = ("count", "watch")
 
 
 def configuration(block):
@@ -117,7 +118,7 @@ class Trials(Trial):
     def check_front(self, word, end, acknowledged):
         """What a reader printed is of a front of each recording, with at least what was acknowledged."""
         status, printed, told = end
-        self.check("%s beside count" % word, (status, told), (0, ""))
+        self.check("%s beside a writer" % word, (status, told), (0, ""))
         if word == "repeat":
             return
         if word == "report":
@@ -131,33 +132,46 @@ class Trials(Trial):
         self.check("what was acknowledged before %s" % word, enough, [True] * len(NAMES))
         self.check("%s of a front" % word, printed, text_of(there))
 
-    def end_of_one(self, run, before):
-        """What a `count` beside others acknowledged. Its recordings had these lengths when it was started."""
-        status, printed, told = run.end()
+    def check_lines(self, word, told, starts):
+        """A writer that ended well acknowledged, and told what its watcher saw if it had one; each of the starts may be what it found held."""
+        if word == "watch":
+            faults = [seen_faults(told, NAMES, start) for start in starts]
+            self.check("what a watcher saw", [] if [] in faults else faults, [])
+            told = without_seen(told)
+        self.check("lines of %s" % word, other_lines(told), "")
+
+    def end_of_one(self, word, end, before, starts):
+        """What a writer beside others acknowledged. Its recordings had these lengths when it was started."""
+        status, printed, told = end
         if status == 8:
             self.check("a second writer", (printed, told), ("", IN_USE))
             return {}, 1
-        self.check("status of count", status, 0)
+        self.check("status of %s" % word, status, 0)
         there = samples(printed)
         grown = [low <= n <= len(raws) for low, n, raws in zip(before, there, self.raws)]
         self.check("how much was counted", grown, [True] * len(NAMES))
-        self.check("report of count", printed, self.report(there))
-        self.check("lines of count", other_lines(told), "")
+        self.check("report of %s" % word, printed, self.report(there))
+        self.check_lines(word, told, starts)
         return held(told), 0
 
     def count_at_once(self, writers):
-        """So many `count` over recordings that have grown, and some that grow on."""
+        """So many writers over recordings that have grown, and some that grow on."""
+        starts = [samples(self.run("report")[1])]
         self.grow(300)
         before = [len(raws) for raws in self.raws]
+        words = [self.rng.choice(WRITERS) for _ in range(writers)]
         runs = []
-        for _ in range(writers):
-            runs.append(Run(self.program, "count"))
+        for word in words:
+            runs.append(Run(self.program, word))
             time.sleep(self.rng.choice((0, 0, 0.001, 0.004)))
         if self.rng.random() < 0.5:
             self.grow(60)
         refused, acknowledged = 0, {}
-        for run in runs:
-            last, was_refused = self.end_of_one(run, before)
+        ends = [run.end() for run in runs]
+        # (what one of them left is what the next one finds)
+        starts += [samples(printed) for status, printed, _ in ends if status == 0]
+        for word, end in zip(words, ends):
+            last, was_refused = self.end_of_one(word, end, before, starts)
             refused += was_refused
             for name, n in last.items():
                 acknowledged[name] = max(n, acknowledged.get(name, 0))
@@ -168,26 +182,31 @@ class Trials(Trial):
         self.check("all that was acknowledged", [acknowledged.get(name, 0) <= n for name, n in zip(NAMES, there)], [True] * len(NAMES))
         self.check("report of a front", printed, self.report(there))
         lengths = [len(raws) for raws in self.raws]
-        status, printed, _ = self.run("count")
-        self.check("a further count", (status, printed), (0, self.report(lengths)))
+        word = self.rng.choice(WRITERS)
+        status, printed, told = self.run(word)
+        self.check("a further %s" % word, (status, printed), (0, self.report(lengths)))
+        self.check_lines(word, told, [there])
         return refused
 
     def read_beside(self, due):
-        """Readers until so many ran beside a `count`. How many did."""
+        """Readers until so many ran beside a writer. How many did."""
         beside = grown = 0
         while beside < due and grown < 40:
             grown += 1
+            starts = [samples(self.run("report")[1])]
             self.grow(4000)
-            run = Run(self.program, "count")
+            writer = WRITERS[grown % 2]
+            run = Run(self.program, writer)
             while run.is_running() and beside < due:
                 words = self.rng.choice((("report",), ("report",), ("repeat",), ALL_TIME, ("compact",)))
                 acknowledged = held(run.told)
                 end = self.run(*words)
                 beside += run.is_running()
                 self.check_front(words[0], end, acknowledged)
-            status, printed, _ = run.end()
+            status, printed, told = run.end()
             lengths = [len(raws) for raws in self.raws]
-            self.check("count with readers", (status, printed), (0, self.report(lengths)))
+            self.check("%s with readers" % writer, (status, printed), (0, self.report(lengths)))
+            self.check_lines(writer, told, starts)
             self.check("repeat", self.run("repeat"), (0, self.repeat(lengths), ""))
             self.check("window", self.run(*ALL_TIME), (0, self.window(lengths), ""))
             self.check("compact", self.run("compact"), (0, self.copy(lengths), ""))
@@ -209,7 +228,8 @@ class Trials(Trial):
         lengths = [len(raws) for raws in self.raws]
         with open("monitor.store", "r+b") as store:
             fcntl.flock(store, fcntl.LOCK_EX)
-            self.check("count of a store in use", self.run("count"), (8, "", IN_USE))
+            for word in WRITERS:
+                self.check("%s of a store in use" % word, self.run(word), (8, "", IN_USE))
             self.check("init of a store in use", self.run("init"), (8, "", IN_USE))
             self.check("report of a store in use", self.run("report"), (0, self.report(lengths), ""))
             self.check("repeat of a store in use", self.run("repeat"), (0, self.repeat(lengths), ""))
@@ -217,7 +237,8 @@ class Trials(Trial):
             self.check("compact of a store in use", self.run("compact"), (0, self.copy(lengths), ""))
             same = "".join("audit %s same\n" % name for name in NAMES)
             self.check("audit of a store in use", self.run("audit"), (0, same, ""))
-        self.check("count of a store that was let go", self.run("count")[0], 0)
+        for word in WRITERS:
+            self.check("%s of a store that was let go" % word, self.run(word)[0], 0)
 
 
 def main():
@@ -234,7 +255,7 @@ def main():
         trials.hold()
         trials.begin(1)
         beside = trials.read_beside(due)
-        trials.check("readers beside a count", beside, due)
+        trials.check("readers beside a writer", beside, due)
         trials.begin(4)
         store = read("monitor.store")
         refused_inits = sum(trials.init_at_once(store) for _ in range(due // 2))

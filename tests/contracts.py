@@ -4,7 +4,7 @@
   contracts.py                                    prints the figures
   contracts.py --repeated                         prints each clause that stands three times or more, and where
   contracts.py PUBLIC_LINES PARAMETERS REPEATED   ends with status 1 where a public function has more lines of clauses, a function has more
-                                                  parameters, or more of a thousand clauses stand three times or more
+                                                  parameters, or the clauses that stand three times or more have more characters
 
 It reads the products: no crate whose name begins with trials_ or bench_, and no module of tests. A clause is `requires`, `ensures` or `ghost`, starred or
 not, between the signature of a function and its body; those of closures don't count, and a line of comment is no line of a clause. Two clauses are the
@@ -187,7 +187,8 @@ def tell(every: list[Function], repeated: dict[str, list[Function]]) -> None:
     wide = sorted((it for it in every if len(it.parameters) > 7), key=lambda it: -len(it.parameters))
     print(f"contracts: {len(wide)} functions have more than seven parameters", *(f"  {len(it.parameters):4} {it}" for it in wide), sep="\n")
     often = list(repeated.items())[:10]
-    print(f"contracts: {len(repeated)} clauses stand three times or more, at {sum(map(len, repeated.values()))} places; most often")
+    places, text = sum(map(len, repeated.values())), sum(len(clause) * len(at) for clause, at in repeated.items())
+    print(f"contracts: {len(repeated)} clauses stand three times or more, at {places} places, {text} characters in all; most often")
     print(*(f"  {len(at):4} {clause}" for clause, at in often), sep="\n")
     nested = [it for it in every if is_nested(it.result)]
     print(f"contracts: {len(nested)} results have nested tuples", *(f"       {it} -> {it.result}" for it in nested), sep="\n")
@@ -214,14 +215,14 @@ def main(words: list[str]) -> int:
     if not words:
         tell(every, repeated)
         return 0
-    lines, parameters, share = (int(it) for it in words)
+    lines, parameters, most = (int(it) for it in words)
     longest, widest = max(it.lines for it in every if it.public), max(len(it.parameters) for it in every)
-    found, clauses = sum(map(len, repeated.values())), sum(len(it.clauses) for it in every)
-    print(f"contracts: at most {longest} lines of clauses at a public function and {widest} parameters; {found} of {clauses} clauses repeated")
+    found, text = sum(len(clause) * len(at) for clause, at in repeated.items()), sum(len(clause) for it in every for clause in it.clauses)
+    print(f"contracts: at most {longest} lines of clauses at a public function and {widest} parameters; {found} of {text} characters repeated")
     faults = [f"{it} has {it.lines} lines of clauses, where at most {lines} may be" for it in every if it.public and it.lines > lines]
     faults += [f"{it} has {len(it.parameters)} parameters, where at most {parameters} may be" for it in every if len(it.parameters) > parameters]
-    if found * 1000 > share * clauses:
-        faults.append(f"{found} of {clauses} clauses stand three times or more, where at most {share} of 1000 may; --repeated prints them")
+    if found > most:
+        faults.append(f"clauses of {found} characters stand three times or more, where at most {most} may; --repeated prints them")
     for fault in faults:
         print(f"contracts: {fault}")
     return 1 if faults else 0

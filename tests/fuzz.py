@@ -7,7 +7,7 @@ Random sites (site.py) are made, counted by the program, and kept. Each run take
 store, several of these or the command's words at random, and runs a command over it, under a limit of address space and of time.
 Bodies of a changed store often get a digest that fits, so that what stands behind the digest is met too. What is checked:
 - the exit status is one of docs/FORMATS.md that the command may have: no signal ends the program, and no limit of time;
-- the line of the status is told last, in the form of docs/FORMATS.md, and besides only lines that acknowledge;
+- the line of the status is told last, in the form of docs/FORMATS.md, and besides only lines that acknowledge, or tell what a watcher saw;
 - with another status than 0 nothing is printed, and with 0 the command's text is;
 - a copy that `compact` writes is one of which `report` prints what it prints of the store, and `compact` the same bytes;
 - the store is as it was where it has to be;
@@ -59,14 +59,19 @@ STATUSES = {
     "table": (0, 4, 5, 6, 9),
     "init": (0, 2, 3, 4, 6, 8, 9),
     "count": (0, 2, 3, 4, 5, 6, 8, 9),
+    "watch": (0, 2, 3, 4, 5, 6, 8, 9),
     "report": (0, 2, 3, 6, 8, 9),
     "repeat": (0, 2, 3, 6, 8, 9),
     "audit": (0, 2, 3, 4, 6, 8, 9, 11),
     "window": (0, 2, 3, 6, 8, 9),
     "compact": (0, 2, 3, 6, 8, 9),
 }
-BEGINS = {"table": b"samples ", "init": b"", "count": b"gauge ", "report": b"gauge ", "repeat": b"repeat ", "audit": b"audit "}
+BEGINS = {"table": b"samples ", "init": b"", "count": b"gauge ", "watch": b"gauge ", "report": b"gauge ", "repeat": b"repeat ", "audit": b"audit "}
 BEGINS |= {"window": b"window ", "compact": b"\x01SGST\x02"}
+# The lines that a command may tell besides that of its status; those that tell what a watcher saw come with status 0 alone.
+LINES_BESIDE = {"init": r"init \d+", "count": r"held [A-Za-z0-9_-]{1,32} [1-9]\d*"}
+LINES_BESIDE["watch"] = LINES_BESIDE["count"]
+SEEN = r"seen [A-Za-z0-9_-]{1,32} \d+"
 # The commands that read the store and no recording.
 READERS = ("report", "repeat", "window", "compact")
 NUMBERS = [0, 1, 2, 3, 7, 8, 127, 128, 129, 255, 256, 1024, 1025, 4095, 4096, 65535, 65536, 10**6, 10**9, 10**9 + 1]
@@ -305,7 +310,7 @@ class Case:
     """One run: the files of a site, the command and its words."""
 
     def __init__(self, rng, kept):
-        self.command = rng.choice(("table", "init", "count", "count", "report", "repeat", "audit", "window", "compact"))
+        self.command = rng.choice(("table", "init", "count", "watch", "report", "repeat", "audit", "window", "compact"))
         self.configuration = kept.configuration
         self.recordings = dict(zip(kept.files, kept.recordings))
         self.store = b"" if self.command == "init" and rng.random() < 0.8 else rng.choice(kept.stores)
@@ -368,8 +373,12 @@ class Case:
                 yield "status %d printed %r" % (status, printed[:100])
         elif not printed.startswith(BEGINS[command]) or (command == "init" and printed):
             yield "printed %r" % printed[:100]
-        others = [line for line in lines if not re.fullmatch(r"held [A-Za-z0-9_-]{1,32} [1-9]\d*" if command == "count" else r"init \d+", line)]
-        if others or (lines and command not in ("count", "init")):
+        if command == "watch" and status == 0:
+            first = next((at for at, line in enumerate(lines) if not line.startswith("held ")), len(lines))
+            seen, lines = lines[first:], lines[:first]
+            if not seen or not all(re.fullmatch(SEEN, line) for line in seen):
+                yield "told of a watcher %r" % seen[:3]
+        if not all(re.fullmatch(LINES_BESIDE.get(command, ""), line) for line in lines):
             yield "told besides %r" % lines[:3]
         if (status in (1, 2, 3, 4, 11) or command in ("table", "audit", *READERS)) and (left or b"") != self.store:
             yield "status %d, and the store changed" % status

@@ -242,6 +242,28 @@ def window_report(names, windows, counts, details):
     return text_of(lines)
 
 
+def seen_faults(told, names, starts):
+    """What is wrong with the lines by which a `watch` that ended well tells what its watcher saw, of gauges of which so many samples were
+    held when it began. They are the last lines. Of each gauge, in order, the numbers ascend strictly; each is what was held at the
+    beginning or what a line of this gauge acknowledged, and the last is what is held at the end."""
+    lines = told.splitlines()
+    first = next((at for at, line in enumerate(lines) if line.startswith("seen ")), len(lines))
+    seen = [tuple(line.split(" ")) for line in lines[first:]]
+    if any(len(it) != 3 or it[0] != "seen" for it in seen):
+        return ["another line behind the first of them"]
+    faults = [] if [name for _, name, _ in seen] == [name for name in names for it in seen if it[1] == name] else ["the order of the gauges"]
+    for name, start in zip(names, starts):
+        acknowledged = [int(line.split(" ")[2]) for line in lines[:first] if line.startswith("held %s " % name)]
+        numbers = [int(number) for _, other, number in seen if other == name]
+        if numbers != sorted(set(numbers)):
+            faults.append("%s: %s don't ascend" % (name, numbers))
+        if not set(numbers) <= {start, *acknowledged}:
+            faults.append("%s: %s are not all of %s" % (name, numbers, [start, *acknowledged]))
+        if numbers[-1:] != (acknowledged or [start])[-1:]:
+            faults.append("%s: %s end otherwise than %s" % (name, numbers, [start, *acknowledged]))
+    return faults
+
+
 def repeat(names, counts):
     """What `repeat` prints of gauges with these names and counts."""
     return text_of(line for name, count in zip(names, counts) for line in count.repeat_text(name))

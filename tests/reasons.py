@@ -5,10 +5,10 @@ reasons.py PROGRAM
 
 What is wrong is: no configuration, no recording, a folder in the place of either, of the store or of a CSV file, files that may not be read
 or written, a file that may not grow, a file system that is full, and standard streams that are closed. After each the store is as it was,
-or holds what was acknowledged, and a further `count` prints the whole report. On a store, a folder and a file system that can only be read,
-`report`, `repeat`, `audit`, `window` and `compact` end as ever, and change neither bytes nor times. Of a recording that is longer than what is read
-ahead, what is held is passed over, in a file by a seek and in a pipe, where none can be made, by reading: what is new is counted, and one that
-became shorter is refused.
+or holds what was acknowledged, and a further `count` prints the whole report. `watch` ends as `count` does. On a store, a folder and a file
+system that can only be read, `report`, `repeat`, `audit`, `window` and `compact` end as ever, and change neither bytes nor times. Of a recording
+that is longer than what is read ahead, what is held is passed over, in a file by a seek and in a pipe, where none can be made, by reading: what is
+new is counted, and one that became shorter is refused.
 Where this is run by root, what a user may not do is tried as another user, and file systems are mounted. What can't be tried is told.
 What is expected comes from an independent count (model.py). Last line: reasons: N passed, M failed
 """
@@ -35,6 +35,8 @@ RNG = random.Random(5)
 RAWS = [RNG.randint(-8, 7) for _ in range(600)]
 LONG = [RNG.randint(-8, 7) for _ in range(42000)]
 NOBODY = 65534
+# The commands that count.
+WRITERS = ("count", "watch")
 # The commands that only read the store, with their words.
 READERS = (("report",), ("repeat",), ("audit",), ALL_TIME, ("compact",))
 DOING = {2: "config", 6: "read fault", 7: "write fault", 8: "station fault"}
@@ -117,13 +119,13 @@ def missing(trial):
     none = "No such file or directory"
     os.makedirs("empty")
     os.chdir("empty")
-    for words in (("init",), ("count",), ("sheet",), *READERS):
+    for words in (("init",), ("count",), ("watch",), ("sheet",), *READERS):
         trial.fails("%s without a configuration" % words[0], words, 6, "monitor.toml", none)
     trial.fails("no table", ("table", "none\tthere"), 6, "none?there", none)
     trial.fails("no column", ("column", "none.csv", "a", "0" * 32, "1"), 6, "none.csv", none)
     trial.begin("no-recording")
     os.remove("g1.sgrc")
-    for word in ("count", "audit", "sheet"):
+    for word in (*WRITERS, "audit", "sheet"):
         trial.fails("%s without a recording" % word, (word,), 6, "g1.sgrc", none)
     os.remove("monitor.store")
     trial.fails("init without a recording", ("init",), 6, "g1.sgrc", none)
@@ -136,7 +138,7 @@ def folders(trial):
     os.remove("g1.sgrc")
     os.mkdir("g1.sgrc")
     store = read("monitor.store")
-    for word in ("count", "audit", "sheet"):
+    for word in (*WRITERS, "audit", "sheet"):
         trial.fails("%s of a folder" % word, (word,), 6, "g1.sgrc", folder)
     trial.fails("table of a folder", ("table", "g1.sgrc"), 6, "g1.sgrc", folder)
     trial.fails("column of a folder", ("column", "g1.sgrc", "a", "0" * 32, "1"), 6, "g1.sgrc", folder)
@@ -146,7 +148,7 @@ def folders(trial):
     os.mkdir("monitor.store")
     os.rmdir("g1.sgrc")
     write("g1.sgrc", recording(RAWS[:300]))
-    for words in (("init",), ("count",), *READERS):
+    for words in (("init",), ("count",), ("watch",), *READERS):
         trial.fails("%s with a folder for a store" % words[0], words, 8, "monitor.store", folder)
     os.remove("monitor.toml")
     os.mkdir("monitor.toml")
@@ -157,14 +159,15 @@ def folders(trial):
 def limits(trial):
     """A file that may not grow."""
     text = "File too large"
-    trial.begin("limit")
-    write("g1.sgrc", recording(RAWS))
-    size = os.path.getsize("monitor.store")
-    for more in (1, 40, 200, 3000):
-        status, printed, told = trial.run("count", before=limit(size + more))
-        due = (8, "", reason("monitor.store", text, 8))
-        trial.check("count with a limit of %d bytes more" % more, (status, printed, other_lines(told)), due)
-    trial.goes_on("after a limit")
+    for word in WRITERS:
+        trial.begin("limit-of-%s" % word)
+        write("g1.sgrc", recording(RAWS))
+        size = os.path.getsize("monitor.store")
+        for more in (1, 40, 200, 3000):
+            status, printed, told = trial.run(word, before=limit(size + more))
+            due = (8, "", reason("monitor.store", text, 8))
+            trial.check("%s with a limit of %d bytes more" % (word, more), (status, printed, other_lines(told)), due)
+        trial.goes_on("after a limit of %s" % word)
     trial.enter("limit-of-init")
     trial.fails("init with a limit of no bytes", ("init",), 8, "monitor.store", text, before=limit(0))
     trial.check("init again", trial.run("init"), (0, "", "init 1\n"))
@@ -182,12 +185,16 @@ def streams(trial):
         trial.fails(words[0], words, 7, "standard output", text, before=close(1))
     store = read("monitor.store")
     for closed in ((1,), (2,), (0, 1), (0, 2), (1, 2), (0, 1, 2)):
-        for words in (("count",), ("init",), *READERS):
+        for words in (("count",), ("watch",), ("init",), *READERS):
             trial.run(*words, before=close(*closed))
             trial.check("the store after %s without %s" % (words[0], closed), read("monitor.store"), store)
     write("g1.sgrc", recording(RAWS))
     trial.run("count", before=close(0, 1, 2))
     trial.goes_on("without streams")
+    trial.begin("watched-without-streams")
+    write("g1.sgrc", recording(RAWS))
+    trial.run("watch", before=close(0, 1, 2))
+    trial.goes_on("after a watch without streams")
     if os.path.exists("/dev/full"):
         with open("/dev/full", "w") as full:
             ends = [subprocess.run([trial.program, *words], stdout=full, stderr=subprocess.PIPE, text=True) for words in READERS]
@@ -231,7 +238,8 @@ def long_recordings(trial):
     trial.check("count of a shorter pipe", trial.run("count"), fewer)
     os.remove("g1.sgrc")
     write("g1.sgrc", recording(LONG[:30000]) + bytes(3))
-    trial.check("count of a shorter recording", trial.run("count"), fewer)
+    for word in WRITERS:
+        trial.check("%s of a shorter recording" % word, trial.run(word), fewer)
 
 
 def readers(trial, folder, what, **how):
@@ -253,7 +261,8 @@ def permissions(trial):
     os.chmod("monitor.store", 0o444)
     os.chmod(folder, 0o555)
     readers(trial, folder, "what can only be read", **how)
-    trial.fails("count of a store that can only be read", ("count",), 8, "monitor.store", text, **how)
+    for word in WRITERS:
+        trial.fails("%s of a store that can only be read" % word, (word,), 8, "monitor.store", text, **how)
     trial.fails("init of a store that can only be read", ("init",), 8, "monitor.store", text, **how)
     os.chmod(folder, 0o755)
     os.remove("monitor.store")
@@ -283,14 +292,16 @@ def mounts(trial):
         if subprocess.run(readers_only, capture_output=True).returncode == 0:
             readers(trial, folder, "a file system that can only be read")
             text = "Read-only file system"
-            trial.fails("count on it", ("count",), 8, "monitor.store", text)
+            for word in WRITERS:
+                trial.fails("%s on it" % word, (word,), 8, "monitor.store", text)
             subprocess.run(["mount", "-o", "remount,rw", disk], check=True)
         text = "No space left on device"
         write("g1.sgrc", recording(RAWS))
         fill(os.path.join(disk, "rest"))
-        status, printed, told = trial.run("count")
         due = (8, "", reason("monitor.store", text, 8))
-        trial.check("count on a full disk", (status, printed, other_lines(told)), due)
+        for word in WRITERS:
+            status, printed, told = trial.run(word)
+            trial.check("%s on a full disk" % word, (status, printed, other_lines(told)), due)
         store = read("monitor.store")
         os.remove("monitor.store")
         fill(os.path.join(disk, "more"))

@@ -8,7 +8,10 @@ from 1 on, until a run makes fewer requests. What is checked:
 - the run ends as the one without a refusal does, in status, text and lines, or it tells `out of memory` last, ends with status 9, and
   prints nothing;
 - after `init` there is no store, one that is none yet, or the whole one;
-- after `count` the store holds a front of the recording, with at least what was acknowledged, and a further `count` prints the report.
+- after `count` the store holds a front of the recording, with at least what was acknowledged, and a further `count` prints the report;
+- `watch` ends so too, where of its lines only those that tell what its watcher saw may be others, by their rule. Where it ends with status 9
+  the store is as it was, or holds every sample, since a watcher that could not be shown a segment doesn't stop the storing; and it ends so after
+  some refusal at least.
 What is expected comes from an independent count (model.py). It needs a C compiler, as $CC or cc. Last line: refused: N passed, M failed
 """
 
@@ -21,8 +24,8 @@ import tempfile
 sys.dont_write_bytecode = True
 
 import stores
-from model import Count, Detail, Grid, recording, repeat, report, window_report
-from trial import ALL_TIME, GAIN, GRID, ONE_GAUGE, as_text, held, read, write
+from model import Count, Detail, Grid, recording, repeat, report, seen_faults, window_report
+from trial import ALL_TIME, GAIN, GRID, ONE_GAUGE, as_text, held, read, samples, without_seen, write
 from trial import Trial as Counted
 
 LIBRARY = r"""
@@ -67,13 +70,15 @@ category = 71
 gamma = 100
 """
 EXAMPLE = [-2, 1, -3, 5, -1, 3, -4, 4, -2]
+# Two rounds of a recording.
+LONG = EXAMPLE * 11
 STORE = bytes.fromhex(
     "015347535402000100100002ffffffffffffe0c00008" + "11" * 16 + "0000271000000000000003e800000001000000000000000000"
 )
 
 
-def report_of(samples):
-    return report(["G1"], [Count(GRID, GAIN, EXAMPLE[:samples])], [Detail("W1", 0, "normal", 71, 100)])
+def report_of(raws):
+    return report(["G1"], [Count(GRID, GAIN, raws)], [Detail("W1", 0, "normal", 71, 100)])
 
 
 def window_of_all():
@@ -110,15 +115,26 @@ class Trial(Counted):
         os.close(reader)
         return (done.returncode, as_text(done.stdout), as_text(done.stderr)), was_refused
 
+    def beside_watcher(self, words, ended):
+        """The same, without what a watcher saw, which is looked at here. (Nothing is held when a `watch` begins.)"""
+        status, text, told = ended
+        if words != ["watch"]:
+            return ended
+        faults = seen_faults(told, ["G1"], [0]) if status == 0 else [line for line in told.splitlines() if line.startswith("seen ")]
+        self.check("what a watcher saw", faults, [[]])
+        return status, text, without_seen(told)
+
     def each(self, name, words, begin, after):
         """Tries a command with each request refused, in a folder that `begin` fills. `after` looks at it, with the lines that were told."""
         begin()
         whole, _ = self.run(words)
+        whole = self.beside_watcher(words, whole)
         number = outs = 0
         while True:
             number += 1
             begin()
             ended, was_refused = self.run(words, number)
+            ended = self.beside_watcher(words, ended)
             if not was_refused:
                 self.check("%s, which makes %d requests" % (name, number - 1), ended, [whole])
                 break
@@ -156,20 +172,38 @@ def rows(trial):
     def after_count(number, told):
         acknowledged = held(told).get("G1", 0)
         ended, _ = trial.run(["report"])
-        trial.check("report where request %d of count was refused" % number, ended, [(0, report_of(n), "") for n in range(acknowledged, 10)])
+        fronts = [(0, report_of(EXAMPLE[:n]), "") for n in range(acknowledged, 10)]
+        trial.check("report where request %d of count was refused" % number, ended, fronts)
         status, text, _ = trial.run(["count"])[0]
-        trial.check("count where request %d of count was refused" % number, (status, text), [(0, report_of(9))])
+        trial.check("count where request %d of count was refused" % number, (status, text), [(0, report_of(EXAMPLE))])
+
+    shows_refused = []  # the requests whose refusal ended a `watch` that had stored all samples
+
+    def after_watch(number, told):
+        ended, _ = trial.run(["report"])
+        no_memory = told.endswith("out of memory\n")
+        ends = [0, len(LONG)] if no_memory else [len(LONG)]
+        if no_memory and held(told).get("G1", 0) == len(LONG):
+            shows_refused.append(number)
+        trial.check("report where request %d of watch was refused" % number, ended, [(0, report_of(LONG[:n]), "") for n in ends])
+        trial.check("what watch acknowledged then", held(told).get("G1", 0), samples(ended[1]))
+        status, text, _ = trial.run(["count"])[0]
+        trial.check("count where request %d of watch was refused" % number, (status, text), [(0, report_of(LONG))])
 
     def after_reading(image):
         return lambda number, told: trial.check("store where request %d is refused" % number, store() == image, [True])
 
     trial.each("init", ["init"], no_store, after_init)
     trial.each("init again", ["init"], lambda: write("monitor.store", STORE), after_reading(STORE))
+    write("g1.sgrc", recording(LONG))
+    trial.each("watch", ["watch"], lambda: write("monitor.store", STORE), after_watch)
+    trial.check("watch tells where a show was refused", bool(shows_refused), [True])
+    write("g1.sgrc", recording(EXAMPLE))
     trial.each("count", ["count"], lambda: write("monitor.store", STORE), after_count)
-    trial.check("count", trial.run(["count"])[0], [(0, report_of(9), "")])
+    trial.check("count", trial.run(["count"])[0], [(0, report_of(EXAMPLE), "")])
     image = store()
     repeated = repeat(["G1"], [Count(GRID, GAIN, EXAMPLE)])
-    readers = (("report",), report_of(9)), (("repeat",), repeated), (("audit",), "audit G1 same\n")
+    readers = (("report",), report_of(EXAMPLE)), (("repeat",), repeated), (("audit",), "audit G1 same\n")
     for words, due in (*readers, (ALL_TIME, window_of_all()), (("compact",), copy_of_all())):
         trial.check(words[0], trial.run(words)[0], [(0, due, "")])
         trial.each(words[0], words, lambda: None, after_reading(image))

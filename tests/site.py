@@ -4,10 +4,12 @@
 site.py PROGRAM [SEED [CASES [KILLS]]]
 
 Each case makes a folder with a configuration and recordings, and a store by `init`. The recordings grow a few times. At each growth
-`count` is killed by signal 9 KILLS times (none where it is left out), each a random moment after a random line, and then runs to its end.
+`count` or `watch` is killed by signal 9 KILLS times (none where it is left out), each a random moment after a random line, and then both
+run to their ends, each over the store as it is then.
 Only a kill that met a running program is one of the KILLS; a growth has at most three times as many tries. What is checked, byte for byte:
 - after a kill `report` is that of a front of each recording, which holds every acknowledged sample;
 - after `count`, its report and that of `report` are those of the whole recordings, and each last acknowledged number is the length;
+- `watch` prints, acknowledges and stores the same bytes, and tells then what its watcher saw, by the rule of these lines;
 - after `count`, what `repeat` prints is the count of each whole recording as a history that repeats;
 - `window` over random instants, most of them near the ends of stored bodies, prints the report of the samples whose bodies lie inside;
 - `compact` writes the bytes of a store that has one body for each gauge, and of such a copy the same bytes. Half of the copies take the
@@ -29,9 +31,9 @@ sys.dont_write_bytecode = True
 
 import instants
 import stores
-from model import MISSING, Count, Detail, Grid, recording, repeat, report, window_of, window_report
+from model import MISSING, Count, Detail, Grid, recording, repeat, report, seen_faults, window_of, window_report
 from trial import Trial as Counted
-from trial import held, other_lines, read, samples
+from trial import held, other_lines, read, samples, without_seen
 from trial import write as write_file
 
 NORMAL = [160, 140, 125, 112, 100, 90, 80, 71, 63, 56, 50, 45, 40, 36]
@@ -179,9 +181,9 @@ class Trial(Counted):
         return done.returncode, done.stdout, done.stderr
 
     def kill(self, rng):
-        """What a `count` acknowledged that is killed a moment after one of its first lines, or before any."""
+        """What a `count` or a `watch` acknowledged that is killed a moment after one of its first lines, or before any."""
         child = subprocess.Popen(
-            [self.program, "count"], stdout=subprocess.DEVNULL, stderr=subprocess.PIPE, text=True
+            [self.program, rng.choice(("count", "watch"))], stdout=subprocess.DEVNULL, stderr=subprocess.PIPE, text=True
         )
         told = ""
         for _ in range(rng.randint(0, 6)):
@@ -228,6 +230,14 @@ def copies(trial, site, lengths):
         write_file("monitor.store", image)
 
 
+def watch(trial, site, counted):
+    """A `watch` over the store that is there ends as this `count` over the same did, and leaves the same bytes."""
+    starts = samples(trial.run("report")[1])
+    status, text, told = trial.run("watch", *site.rng.choice(((), ("--workers", str(site.rng.randint(1, 8))))))
+    trial.check("watch", ((status, text, without_seen(told)), read("monitor.store")), counted)
+    trial.check("what a watcher saw", seen_faults(told, site.names, starts), [])
+
+
 def grow(trial, site, lengths, kills):
     """The recordings have grown to these lengths."""
     write(site, lengths)
@@ -246,7 +256,12 @@ def grow(trial, site, lengths, kills):
         trial.check("what was acknowledged", all(kept), True)
         if site.rng.random() < 0.25:
             windows(trial, site, 1)
+    before = read("monitor.store")
     status, text, told = trial.run("count")
+    counted = (status, text, told), read("monitor.store")
+    write_file("monitor.store", before)
+    watch(trial, site, counted)
+    watch(trial, site, ((status, text, ""), counted[1]))
     trial.check("status of count", (status, other_lines(told)), (0, ""))
     trial.check("report of count", text, site.report(lengths))
     acknowledged.update(held(told))

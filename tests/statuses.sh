@@ -62,7 +62,7 @@ check 'a sound recording' "0:$table" "$("$program" table sound >printed; echo "$
 check 'a head alone' '0:samples 0 used 0 missing 0 refused 0
 rainflow' "$("$program" table head >printed; echo "$?:$(cat printed)")"
 
-usage='usage: monitor table FILE | init | count [--workers N] | report | audit | demo [--seed N] [--samples N] [--workers N] | repeat | column FILE NAME ID PERIOD | sheet | window START FROM TO | compact'
+usage='usage: monitor table FILE | init | count [--workers N] | report | audit | demo [--seed N] [--samples N] [--workers N] | repeat | column FILE NAME ID PERIOD | sheet | window START FROM TO | compact | watch [--workers N]'
 status 'no words' 1 "$usage"
 status 'no such command' 1 "$usage" count-all sound
 status 'no file' 1 "$usage" table
@@ -85,6 +85,8 @@ done
 status 'a year before 0 that looks like an option' 1 "$usage" window -000001-01-01T00:00:00Z $day $day
 status 'an instant that is too early' 1 "$usage" window -- -009999-01-02T01:59:58.999999999Z $day $day
 status 'a word behind compact' 1 "$usage" compact monitor.store
+status 'a word behind watch' 1 "$usage" watch sound
+status 'too many workers for watch' 1 "$usage" watch --workers 9
 
 : >empty
 status 'an empty file' 4 'recording empty: short' table empty
@@ -154,11 +156,12 @@ cp sound g1.sgrc
 status 'a word behind init' 1 "$usage" init x
 check 'nothing was made' no "$([ -e monitor.store ] && echo yes || echo no)"
 status 'no store' 3 'store: not a store' report
+status 'no store to watch' 3 'store: not a store' watch
 status 'no store that repeats' 3 'store: not a store' repeat
 status 'no store for a window' 3 'store: not a store' window $day $day $day
 status 'no store to copy' 3 'store: not a store' compact
 mkdir monitor.store
-for word in init count report; do
+for word in init count watch report; do
     status "a folder for a store to $word" 8 'monitor: monitor.store: Is a directory
 station fault' "$word"
 done
@@ -205,8 +208,43 @@ head -c 48 example >g1.sgrc
 "$program" count >/dev/null 2>told
 check 'a part of the example is held' '0:held G1 4' "$?:$(cat told)"
 cp example g1.sgrc
+cp monitor.store four
 "$program" count >counted 2>told
 check 'the example is held' '0:held G1 9' "$?:$(cat told)"
+
+# A watcher may have seen the four samples of before, and sees all nine.
+cp monitor.store nine
+cp four monitor.store
+"$program" watch --workers 2 >printed 2>told
+got=$?:$(cat told)
+case $got in
+"0:held G1 9
+seen G1 9" | "0:held G1 9
+seen G1 4
+seen G1 9") got=seen ;;
+esac
+check 'the example is watched' seen "$got"
+check 'its report' "$(cat counted)" "$(cat printed)"
+check 'its store' "$(bytes nine)" "$(store)"
+"$program" watch >printed 2>told
+check 'a watch of nothing new' "0:seen G1 9:$(cat counted)" "$?:$(cat told):$(cat printed)"
+for odd in 1 2 3; do
+    { cat example && head -c "$odd" /dev/zero; } >g1.sgrc
+    cp four monitor.store
+    "$program" watch >printed 2>told
+    check "a watch of $odd odd bytes" "5:held G1 9
+recording G1: ends in $odd odd bytes:" "$?:$(cat told):$(cat printed)"
+    check 'what it holds' "$(bytes nine)" "$(store)"
+done
+cp example g1.sgrc
+if [ -c /dev/full ]; then
+    "$program" watch >/dev/full 2>told
+    check 'a full output of watch' '7:seen G1 9
+monitor: standard output: No space left on device
+write fault' "$?:$(cat told)"
+    "$program" watch >printed 2>/dev/full
+    check 'a watch that cannot tell' '8:' "$?:$(cat printed)"
+fi
 repeated='repeat G1
 9.0 1.0
 7.0 1.0

@@ -67,6 +67,11 @@ def other_lines(told: str) -> str:
     return "".join(line + "\n" for line in told.splitlines() if not line.startswith("held "))
 
 
+def without_seen(told: str) -> str:
+    """What was told besides what a watcher saw."""
+    return "".join(line + "\n" for line in told.splitlines() if not line.startswith("seen "))
+
+
 def parts(text: str) -> list[tuple[int, int]]:
     """The samples that the lines of a window name, from where to where."""
     return [(int(first), int(end)) for first, end in re.findall(r"^window \S+ (\d+) (\d+)$", text, re.M)]

@@ -33,7 +33,9 @@ _DETAIL = re.compile(
 )
 # What other texts of the program begin with, and what they are.
 _OTHER_TEXTS = {
-    "held ": "a line that `count` tells on standard error: give its standard output alone",
+    "held ": "a line that `count` or `watch` tells on standard error:"
+    " give its standard output alone",
+    "seen ": "a line that `watch` tells on standard error: give its standard output alone",
     "init ": "a line that `init` tells on standard error, and no report",
     "samples ": "the table of one recording by `table`, and no report",
     "repeat ": "the text of `repeat`, and no report",
