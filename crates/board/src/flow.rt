@@ -3,9 +3,9 @@
 //!
 //! `specs/flow/Flow.antt` has its states and events, `specs/flow/Kept.antt` what every list of
 //! events keeps. Nothing here knows of threads: the orders in which threads can act are among the
-//! lists of events. There is no code but the law.
+//! lists of events. There is no code but the laws.
 
-/// The law of the flow.
+/// The laws of the flow.
 pub mod laws;
 
 /// The blocks that a round reads of a gauge at most: its window.

@@ -25,6 +25,7 @@
 mod classifier;
 mod gain;
 mod grid;
+pub mod laws;
 mod limits;
 mod reading;
 mod setup;

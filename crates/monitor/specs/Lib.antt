@@ -1,6 +1,5 @@
 pub mod Figures
 pub mod Printed
-pub mod Numbers
 pub mod Task
 pub mod Outside
 pub mod InitRun

@@ -1,26 +1,14 @@
-ghost use Rattle.std.specs.Prelude.{◌≡◌, ◌≢◌, ◌<◌, ◌≤◌, ◌↔◌, ◌+◌, ◌-◌, ◌*◌, ◌^◌, ℕ, ℤ, pos, neg_ℤ, min, List, length, slice_index, None, Ok, Err};
-ghost use Rattle.calibration.specs.Gain.{GainValue};
-ghost use Rattle.calibration.specs.Grid.{GridValue};
+//! What the definitions of the commands come to in numbers; those of readings and of a
+//! configuration are in `calibration::laws` and `site_config::laws`.
+
+ghost use Rattle.std.specs.Prelude.{◌≡◌, ◌<◌, ◌↔◌, ◌+◌, ◌-◌, ◌*◌, ◌^◌, ℕ, ℤ, pos, min, List, length, slice_index};
 ghost use Rattle.calibration.specs.Level.{reading_of};
-ghost use Rattle.calibration.specs.declared.reading.Reading.TheVariants.{Missing, Level};
+ghost use Rattle.calibration.specs.declared.reading.Reading.TheVariants.{Level};
 ghost use Rattle.recording.specs.Samples.{samples};
-ghost use Rattle.site_config.specs.Configuration.{count_if, config_of_bytes};
-ghost use Rattle.site_config.specs.declared.fault.ConfigFault.TheVariants.{TooLong};
 ghost use Rattle.site_config.specs.recorded.Recorded.{Recorded};
 ghost use Rattle.count_command.specs.held_samples.Told.{held_after};
 ghost use Rattle.file_commands.specs.file_tasks.FileState.{TooManySamples, body_state};
-ghost use Rattle.monitor.specs.Numbers.{LiesInClass, configuration_in};
 ghost use Rattle.monitor.specs.Printed.{table_gain, table_grid};
-
-/// What a raw value is: a class is so many steps of 500 kPa wide, and -2^31 says that there is no
-/// reading.
-pub fn readings()
-    ensures level { (gain : GainValue) (grid : GridValue) (raw : ℤ) (l : ℕ) → 1 ≤ grid.w2 →
-        (reading_of gain grid raw ≡ Level l) ↔
-        ((raw ≢ neg_ℤ (pos (2 ^ 31))) × (l < grid.classes) × LiesInClass gain grid raw l) }
-    ensures missing { (gain : GainValue) (grid : GridValue) (raw : ℤ) →
-        (reading_of gain grid raw ≡ Missing) ↔ (raw ≡ neg_ℤ (pos (2 ^ 31))) }
-{}
 
 /// `table` reads a raw value from 0 to 63 as its own level and no other, and its classes are two
 /// steps wide, which is 1 N/mm².
@@ -38,14 +26,4 @@ pub fn samples_of_a_gauge()
     ensures round { (block : ℕ) (r : Recorded) (n : List ℕ) (rounds g : ℕ) →
         held_after block r n rounds g ≡
         min (slice_index n g + 16 * block * rounds) (length (r.samples g)) }
-{}
-
-/// A configuration has 65,536 bytes at most. Where it has no part `count` there are 1,024 samples
-/// in a block, and four workers.
-pub fn configuration()
-    ensures long { (bytes : List ℕ) → 65536 < length bytes →
-        config_of_bytes bytes ≡ Err TooLong }
-    ensures read { (bytes : List ℕ) → length bytes ≤ 65536 →
-        config_of_bytes bytes ≡ configuration_in bytes }
-    ensures defaults { count_if None ≡ Ok (1024, 4) }
 {}

@@ -18,6 +18,7 @@ mod details;
 mod fault;
 mod fields;
 mod gauges;
+pub mod laws;
 mod limits;
 mod names;
 mod reading;

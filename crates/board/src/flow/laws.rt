@@ -1,6 +1,9 @@
-//! The law of the flow, for all blocks, workers, recordings and lists of events.
+//! The law of the flow, for all blocks, workers, recordings and lists of events; and the window of
+//! a round in numbers.
 
+ghost use Rattle.std.specs.Prelude.{◌≡◌};
 ghost use Rattle.board.specs.flow.Kept.{EachEventKeeps, EachScheduleKeeps, StoredNeverFalls, AllIsStored};
+ghost use Rattle.board.specs.declared.flow.TheConstants.{BLOCKS_PER_WINDOW};
 
 /// In every order of events the names of a gauge in rings, counted and placed lists cover what is
 /// read and not stored, once each, and each ring ascends. Each event keeps this from every state
@@ -12,4 +15,9 @@ pub fn flow()
     ensures schedule { EachScheduleKeeps }
     ensures stored { StoredNeverFalls }
     ensures through { AllIsStored }
+{}
+
+/// A window has 16 blocks.
+pub fn window()
+    ensures blocks { BLOCKS_PER_WINDOW ≡ 16 }
 {}

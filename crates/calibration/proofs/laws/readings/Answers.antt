@@ -1,5 +1,5 @@
-use Rattle.monitor.proofs.Numerals.{level_by_stress, missing_by_value}
-use Rattle.monitor.proofs.laws.readings.Goals as goal
+use Rattle.calibration.proofs.Numerals.{level_by_stress, missing_by_value}
+use Rattle.calibration.proofs.laws.readings.Goals as goal
 
 pub returns-clause-level : goal.returns-clause-level
 returns-clause-level c = level_by_stress

@@ -1,5 +1,5 @@
-use Rattle.monitor.proofs.Numerals.{long_configuration, short_configuration}
-use Rattle.monitor.proofs.laws.configuration.Goals as goal
+use Rattle.site_config.proofs.Numerals.{long_configuration, short_configuration}
+use Rattle.site_config.proofs.laws.configuration.Goals as goal
 
 pub returns-clause-long : goal.returns-clause-long
 returns-clause-long c = long_configuration
