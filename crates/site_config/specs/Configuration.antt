@@ -157,5 +157,9 @@ config_in ms = do
     workers = count.1;
   })
 
+-- what bytes mean, however many they are
+abbrev pub configuration_in : List ℕ → Result Config ConfigFault
+configuration_in bytes = document bytes >>= config_in
+
 unfoldable pub config_of_bytes : List ℕ → Result Config ConfigFault
-config_of_bytes bytes = if nat_lt MAX_BYTES (length bytes) then Err TooLong else document bytes >>= config_in
+config_of_bytes bytes = if nat_lt MAX_BYTES (length bytes) then Err TooLong else configuration_in bytes
