@@ -20,7 +20,7 @@ use Rattle.segment.specs.segment_rules.Rules.{EndsAgree, AreSegmentParts}
 use Rattle.segment.specs.Alike.{Alike}
 use Rattle.segment.specs.Segment.{SegmentValue, IsSegment}
 use Rattle.segment.specs.Parts.{parts_of}
-use Rattle.segment.specs.Loading.{longest_of}
+use Rattle.calibration.specs.declared.limits.TheConstants.{MAX_SAMPLES}
 use Rattle.segment.proofs.Listing.{bins_again}
 use Rattle.segment.proofs.Ready.{long_enough}
 use Rattle.lemmas.proofs.Naturals.{few_cases}
@@ -99,7 +99,8 @@ made_of g p n t r x c = record {
 
 module _ (g : GridValue) (p : PartsValue) (n : ℕ) (t : Counts) (r : ReducerValue) (x : CrossingsValue) (c : SimpleValue) (grid : IsGrid g)
     (s : AreSegmentParts g p)
-    (longest : n ≡ longest_of p.name) (cells : t ≡ record { classes = g.classes; room = room_for g.classes n; cells = p.cells })
+    (longest : (1 ≤ n) × (n ≤ MAX_SAMPLES) × (p.name.to - p.name.from ≤ n))
+    (cells : t ≡ record { classes = g.classes; room = room_for g.classes n; cells = p.cells })
     (residue : r ≡ record { classes = g.classes; residue = p.residue })
     (x_grid : (x.classes ≡ g.classes) × (x.reference ≡ g.reference)) (crossed : (l : ℕ) → crossing_count x l ≡ count_at l p.crossings)
     (x_ends : HasEnds x p.ends)
@@ -155,7 +156,7 @@ module _ (g : GridValue) (p : PartsValue) (n : ℕ) (t : Counts) (r : ReducerVal
           simple = c_grid;
         };
         span = q.span;
-        longest = (omega (arith, longest), omega (arith, longest, q.span.1), omega (arith, longest));
+        longest = longest;
         readings = omega (arith, q.readings);
         used = omega (arith, points, q.points);
         none = λ z. q.no_points (omega (arith, z, points));

@@ -1,30 +1,16 @@
 -- A walk that was begun, and one that came to a closed gate, from equal places.
---   HasBegun      a visitor was handed the segments of the bodies up to some gate
 --   not_begun     of none
 --   begun_moved, found_moved   from equal places
-use Rattle.std.proofs.Common.{◌≡◌, ℕ, List, [], length, subst}
-use Rattle.std.specs.Prelude.{map}
+use Rattle.std.proofs.Common.{◌≡◌, ℕ, List, [], subst}
 use Rattle.outside.specs.station.Station.{Image}
 use Rattle.calibration.specs.declared.setup.Setup.{Setup}
-use Rattle.segment.specs.Parts.{parts_of}
 use Rattle.segment.specs.Segment.{SegmentValue}
 use Rattle.store_bytes.specs.declared.segment_bytes.layout.Layout.{Layout}
 use Rattle.store_bytes.specs.store_head.Head.{start_of}
 use Rattle.segment_store.specs.Image.{nothing_held}
-use Rattle.segment_store.specs.Reading.{IsFound, HasPassed}
-use Rattle.segment_store.specs.Visiting.{HasVisited}
+use Rattle.segment_store.specs.Visiting.{BegunFrom, FoundFrom, HasBegun}
 use Rattle.segment_store.proofs.Found.{none_passed}
 use Rattle.segment_store.proofs.Visited.{none_visited}
-
-abbrev pub BegunFrom : {V : Type 0} (step : V → SegmentValue → V → Type 0) (u w : V) (tells : Type 0) (l : Layout) (setup : Setup)
-    (image : Image) (start : ℕ) (ends : List ℕ) → Type 0
-BegunFrom step u w tells l setup image start ends = (segments : List SegmentValue) × (last : List ℕ) × (at : ℕ)
-    × HasVisited step u w setup ends segments last
-    × (tells → HasPassed l setup image start ends at last (map parts_of segments))
-
-abbrev pub HasBegun : {V : Type 0} (step : V → SegmentValue → V → Type 0) (u w : V) (tells : Type 0) (l : Layout) (setup : Setup)
-    (image : Image) → Type 0
-HasBegun step u w tells l setup image = BegunFrom step u w tells l setup image (start_of setup) (nothing_held setup)
 
 pub not_begun : {V : Type 0} (step : V → SegmentValue → V → Type 0) (u : V) (tells : Type 0) (l : Layout) (setup : Setup) (image : Image)
     → HasBegun step u u tells l setup image
@@ -43,12 +29,9 @@ module _ {V : Type 0} (step : V → SegmentValue → V → Type 0) (u w : V) (te
   begun_moved a e b = subst (λ n. BegunFrom step u w tells l setup image n ends2) a
       (subst (λ x. BegunFrom step u w tells l setup image start x) e b)
 
-  abbrev FoundFrom : (from : ℕ) (begin end : List ℕ) (place count : ℕ) → Type 0
-  FoundFrom from begin end place count = (segments : List SegmentValue) × HasVisited step u w setup begin segments end
-      × (count ≡ length segments)
-      × (tells → IsFound l setup image from begin place end (map parts_of segments))
-
   pub found_moved : (last last2 : List ℕ) (place count : ℕ) → start ≡ start2 → ends ≡ ends2 → last ≡ last2
-      → FoundFrom start ends last place count → FoundFrom start2 ends2 last2 place count
-  found_moved last last2 place count a e f b = subst (λ n. FoundFrom n ends2 last2 place count) a
-      (subst (λ x. FoundFrom start x last2 place count) e (subst (λ x. FoundFrom start ends x place count) f b))
+      → FoundFrom step u w tells l setup image start ends last place count
+      → FoundFrom step u w tells l setup image start2 ends2 last2 place count
+  found_moved last last2 place count a e f b = subst (λ n. FoundFrom step u w tells l setup image n ends2 last2 place count) a
+      (subst (λ x. FoundFrom step u w tells l setup image start x last2 place count) e
+      (subst (λ x. FoundFrom step u w tells l setup image start ends x place count) f b))

@@ -7,14 +7,12 @@ use Rattle.outside.specs.station.Station.{Image}
 use Rattle.calibration.specs.declared.setup.Setup.{Setup}
 use Rattle.store_bytes.specs.declared.segment_bytes.layout.Layout.{Layout}
 use Rattle.segment.specs.segment_rules.Parts.{PartsValue}
-use Rattle.segment.specs.Parts.{parts_of}
 use Rattle.segment_store.specs.declared.damage.Damage.{Damage}
 use Rattle.segment_store.specs.declared.damage.Stop.{Stop}
 use Rattle.segment_store.specs.declared.damage.Stop.TheVariants as stops
 use Rattle.segment_store.specs.Image.{ends_after}
 use Rattle.segment_store.specs.Resuming.{length_at, Finds, TellsAs, Walks, StopsWalkAs, damaged, more}
 use Rattle.segment_store.specs.Reading.{NoDamage}
-use Rattle.segment_store.specs.declared.resuming.Stored.{Stored}
 use Rattle.segment_store.specs.declared.filling.TheConstants.{FRAME_LENGTH}
 
 pub on_ok : {E : Type 0} (r : Result (Unit {0}) E) (P : Type 0) → is_err r ≡ false → OnOk r P → P
@@ -46,12 +44,12 @@ module _ (lay : Layout) (setup : Setup) (limit limit2 : ℕ) (image image2 : Ima
   step p next f is r w = more gate (moved (Ok p) f) (subst (λ n. Walks lay setup limit image (index + 1) n (ends_after ends p) r) (is
       ∙ ap (λ i. at + length_at i at + FRAME_LENGTH) same) w)
 
-  pub stops_here : (W : Result (ℕ × List ℕ) (ℕ × Damage) → Type 0) (stop : Stop)
-      → TellsAs (λ (x : Stored). parts_of x.segment) (Finds lay setup limit2 image2 ends2 at) (Err stop)
+  pub stops_here : {X : Type 0} (view : X → PartsValue) (W : Result (ℕ × List ℕ) (ℕ × Damage) → Type 0) (stop : Stop)
+      → TellsAs view (Finds lay setup limit2 image2 ends2 at) (Err stop)
       → ((r : Result (ℕ × List ℕ) (ℕ × Damage)) → Walks lay setup limit image index at ends r → W r) → StopsWalkAs W index stop
-  stops_here W stops.Memory t go = tt
-  stops_here W stops.Disk t go = tt
-  stops_here W (stops.Damaged d) t go = go (Err (index, d)) (damaged gate (moved (Err d) t))
+  stops_here view W stops.Memory t go = tt
+  stops_here view W stops.Disk t go = tt
+  stops_here view W (stops.Damaged d) t go = go (Err (index, d)) (damaged gate (moved (Err d) t))
 
 -- where every way to walk ends well
 pub no_damage : (last : List ℕ) (W : Result (ℕ × List ℕ) (ℕ × Damage) → Type 0) (index : ℕ) (stop : Stop) → StopsWalkAs W index stop

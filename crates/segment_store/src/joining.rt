@@ -9,7 +9,7 @@ ghost use Rattle.segment_store.specs.Joiner.{IsNextOf};
 ghost use Rattle.segment_store.specs.Keeping.{IsKept, see_state};
 ghost use Rattle.segment_store.specs.Moments.{IsOn};
 ghost use Rattle.segment_store.specs.Opening.{Resumes, IsUnharmed};
-ghost use Rattle.segment_store.specs.Quiet.{IsQuiet};
+ghost use Rattle.segment_store.specs.Quiet.{StaysQuiet};
 ghost use Rattle.segment_store.specs.declared.fault.ResumeFault.TheVariants.{DiskFault};
 ghost use Rattle.segment_store.specs.declared.putting.State.{State as StateIs};
 
@@ -109,9 +109,7 @@ pub(crate) fn resume<K: Station>(
     ensures cause { result ≡ Err DiskFault →
         CountRose (K.faults station.old) (K.faults station.new) }
     ensures later { K.faults station.old ≤ K.faults station.new }
-    ensures quiet { K.tells → IsQuiet (K.clock station.old) (K.moments station.old)
-        (K.clock station.new) (K.moments station.new) (K.told station.old) (K.told station.new)
-        (K.seen station.old) (K.seen station.new) (K.leaves station.old) (K.leaves station.new) }
+    ensures quiet { K.tells → StaysQuiet ⟦<K as Station>⟧ station.old station.new }
 {
     let gauges = setup.gains.as_slice().len() as u16;
     let mut joiner = Joiner::new(alloc, &setup.grid, gauges)?;

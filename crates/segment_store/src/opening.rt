@@ -17,9 +17,9 @@ ghost use Rattle.segment_store.specs.Opening.{
   Resumes,
   IsUnharmed,
 };
-ghost use Rattle.segment_store.specs.Quiet.{IsQuiet};
-ghost use Rattle.segment_store.specs.Reading.{StartsAt, IsFound, HasPassed};
-ghost use Rattle.segment_store.specs.Visiting.{HasVisited};
+ghost use Rattle.segment_store.specs.Quiet.{IsQuiet, StaysQuiet};
+ghost use Rattle.segment_store.specs.Reading.{StartsAt};
+ghost use Rattle.segment_store.specs.Visiting.{FoundFrom, HasBegun, HasVisited};
 ghost use Rattle.segment_store.specs.declared.fault.ResumeFault.TheVariants.{DiskFault};
 ghost use Rattle.segment_store.specs.declared.opening.Walked.{Walked as WalkedIs};
 ghost use Rattle.calibration.specs.declared.limits.TheConstants.{MAX_GAUGES};
@@ -30,11 +30,12 @@ use crate::damage::Stop;
 use crate::fault::ResumeFault;
 use crate::filling::FRAME_LENGTH;
 use crate::heads::{check_front, read_gauges};
-use crate::resuming::{Stretch, walk};
+use crate::resuming::{Scratch, Stretch, walk};
 use crate::visiting::Visitor;
-use calibration::Setup;
+use calibration::{MAX_SAMPLES, Setup};
 use outside::Failed;
 use outside::station::Station;
+use segment::Segment;
 use std::alloc::Global;
 use store_bytes::segment_bytes::{Layout, max_body};
 use store_bytes::store_head::{FRONT_LENGTH, GAUGE_LENGTH, StoreHead};
@@ -80,9 +81,7 @@ fn check_head<K: Station>(
     ensures cause { result ≡ Err DiskFault →
         CountRose (K.faults station.old) (K.faults station.new) }
     ensures later { K.faults station.old ≤ K.faults station.new }
-    ensures quiet { K.tells → IsQuiet (K.clock station.old) (K.moments station.old)
-        (K.clock station.new) (K.moments station.new) (K.told station.old) (K.told station.new)
-        (K.seen station.old) (K.seen station.new) (K.leaves station.old) (K.leaves station.new) }
+    ensures quiet { K.tells → StaysQuiet ⟦<K as Station>⟧ station.old station.new }
 {
     let _classes = setup.grid.classes();
     let layout = check_front(station, setup, size)?;
@@ -149,16 +148,11 @@ fn walk_bodies<K: Station, V: Visitor>(
         (longest_body layout head.setup.grid.classes) (K.seen station.old)
         (start_of head.setup) (nothing_held head.setup) bodies last gate front rest →
         IsUnharmed result }
-    ensures found { IfOk result (λ x. (segments : List SegmentValue) ×
-        HasVisited V.step visitor.old visitor.new head.setup (nothing_held head.setup)
-        segments x.ends.items × (x.count ≡ length segments) × (K.tells →
-        IsFound layout head.setup (K.seen station.old) (start_of head.setup)
-        (nothing_held head.setup) x.place x.ends.items (map parts_of segments))) }
-    ensures passed { IfErr result (λ _. (segments : List SegmentValue) × (last : List ℕ) ×
-        (at : ℕ) × HasVisited V.step visitor.old visitor.new head.setup
-        (nothing_held head.setup) segments last × (K.tells → HasPassed layout head.setup
-        (K.seen station.old) (start_of head.setup) (nothing_held head.setup) at last
-        (map parts_of segments))) }
+    ensures found { IfOk result (λ x. FoundFrom V.step visitor.old visitor.new K.tells layout
+        head.setup (K.seen station.old) (start_of head.setup) (nothing_held head.setup)
+        x.ends.items x.place x.count) }
+    ensures passed { IfErr result (λ _. HasBegun V.step visitor.old visitor.new K.tells layout
+        head.setup (K.seen station.old)) }
     ensures head { IfOk result (λ x. x.head ≡ head) }
     ensures layout { IfOk result (λ x. x.layout ≡ layout) }
     ensures near { IfOk result (λ x. IsNear x.place x.ends.items) }
@@ -168,25 +162,28 @@ fn walk_bodies<K: Station, V: Visitor>(
     ensures cause { result ≡ Err DiskFault →
         CountRose (K.faults station.old) (K.faults station.new) }
     ensures later { K.faults station.old ≤ K.faults station.new }
-    ensures quiet { K.tells → IsQuiet (K.clock station.old) (K.moments station.old)
-        (K.clock station.new) (K.moments station.new) (K.told station.old) (K.told station.new)
-        (K.seen station.old) (K.seen station.new) (K.leaves station.old) (K.leaves station.new) }
+    ensures quiet { K.tells → StaysQuiet ⟦<K as Station>⟧ station.old station.new }
 {
     let gauges = head.setup.gains.as_slice().len();
     let limit = max_body(layout, head.setup.grid.classes());
     let mut ends = vec![in alloc; 0u64; gauges]?;
-    let mut buf = vec![in alloc; 0u8; limit + FRAME_LENGTH]?;
-    let start = (FRONT_LENGTH + GAUGE_LENGTH * gauges) as u64;
+    let buf = vec![in alloc; 0u8; limit + FRAME_LENGTH]?;
+    let segment = Segment::new(alloc, &head.setup.grid, 0, 0, MAX_SAMPLES)?;
+    let mut scratch = Scratch { buf, segment };
+    let stretch = Stretch {
+        layout,
+        limit,
+        start: (FRONT_LENGTH + GAUGE_LENGTH * gauges) as u64,
+        size,
+    };
     match walk(
         alloc,
         station,
-        layout,
         &head.setup,
-        Stretch { start, size },
-        limit,
+        stretch,
         &mut ends,
         visitor,
-        &mut buf,
+        &mut scratch,
     ) {
         Ok(ended) => Ok(Walked {
             head,
@@ -194,7 +191,7 @@ fn walk_bodies<K: Station, V: Visitor>(
             ends,
             count: ended.count,
             place: ended.place,
-            buf,
+            buf: scratch.buf,
         }),
         Err(stopped) => Err(fault_of(stopped.count, stopped.stop)),
     }
@@ -216,11 +213,8 @@ pub(crate) fn walk_store<K: Station, V: Visitor>(
         Reads (see_head x.layout x.head) (map parts_of segments) x.ends.items
         (K.seen station.new) × (x.place ≡ length (head_of (see_head x.layout x.head)
         ++ open_bodies x.layout (map parts_of segments))))) }
-    ensures begun { IfErr result (λ _. (segments : List SegmentValue) × (last : List ℕ) ×
-        (at : ℕ) × HasVisited V.step visitor.old visitor.new setup.now
-        (nothing_held setup.now) segments last × (K.tells →
-        HasPassed (layout_in (K.seen station.old)) setup.now (K.seen station.old)
-        (start_of setup.now) (nothing_held setup.now) at last (map parts_of segments))) }
+    ensures begun { IfErr result (λ _. HasBegun V.step visitor.old visitor.new K.tells
+        (layout_in (K.seen station.old)) setup.now (K.seen station.old)) }
     ensures durable { K.tells → IfOk result (λ _. Only (K.seen station.new) (K.leaves station.new)) }
     ensures unharmed { K.tells → (head : HeadValue) (bodies : List PartsValue) (ends : List ℕ) →
         head.setup ≡ setup.now → Reads head bodies ends (K.seen station.old) →
@@ -234,9 +228,7 @@ pub(crate) fn walk_store<K: Station, V: Visitor>(
     ensures cause { result ≡ Err DiskFault →
         CountRose (K.faults station.old) (K.faults station.new) }
     ensures later { K.faults station.old ≤ K.faults station.new }
-    ensures quiet { K.tells → IsQuiet (K.clock station.old) (K.moments station.old)
-        (K.clock station.new) (K.moments station.new) (K.told station.old) (K.told station.new)
-        (K.seen station.old) (K.seen station.new) (K.leaves station.old) (K.leaves station.new) }
+    ensures quiet { K.tells → StaysQuiet ⟦<K as Station>⟧ station.old station.new }
 {
     station.sync()?;
     let size = station.size()?;

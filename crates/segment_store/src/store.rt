@@ -114,8 +114,7 @@ impl Store {
         ensures refuses { Refuses self.old.shut
             (slice_index (ends_of self.old.held) seg.now.gauge) seg.now.from result }
         ensures unwritten { K.tells → LeavesUnwritten result (K.seen station.old)
-            (K.seen station.new)
-            (K.leaves station.old) (K.leaves station.new) }
+            (K.seen station.new) (K.leaves station.old) (K.leaves station.new) }
         ensures cause { result ≡ Err DiskFault →
             CountRose (K.faults station.old) (K.faults station.new) × (self.new.shut ≡ true) }
         ensures shut { (result ≡ Err DiskFault) ⊎ (self.new.shut ≡ self.old.shut) }

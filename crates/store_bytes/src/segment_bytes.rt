@@ -24,7 +24,7 @@ mod row_reading;
 mod sizes;
 mod writing;
 
-pub use decoding::decode;
+pub use decoding::{decode, decode_into};
 pub use encoding::encode;
 pub use fault::BytesFault;
 pub use layout::{Layout, MAX_CLASSES_ONE};

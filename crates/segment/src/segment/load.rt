@@ -1,128 +1,78 @@
-ghost use Rattle.std.specs.Prelude.{◌≡◌, ◌*◌, ◌≤◌, ℕ, IfOk, length};
-ghost use Rattle.calibration.specs.Grid.{IsGrid};
-ghost use Rattle.turning_points.specs.Ends.{end_points};
-ghost use Rattle.tally.specs.tables.Bins.{count_at};
-ghost use Rattle.simple_counts.specs.level_crossing.Crossings.{crossing_count};
-ghost use Rattle.simple_counts.specs.level_crossing.Loading.{CanLoadCrossings, HasEnds};
-ghost use Rattle.simple_counts.specs.Loading.{CanLoad};
-ghost use Rattle.simple_counts.specs.Simple.{IsSimple, peak_count, range_count, valley_count};
+ghost use Rattle.std.specs.Prelude.{◌≡◌, ◌*◌, ◌-◌, ◌≤◌, [], IfNone, OnSome, length};
+ghost use Rattle.calibration.specs.declared.limits.TheConstants.{MAX_SAMPLES};
 ghost use Rattle.tally.specs.Counts.{total_of};
 ghost use Rattle.tally.specs.Room.{room_for};
 ghost use Rattle.tally.specs.declared.cells.TheConstants.{MAX_TOTAL};
 ghost use Rattle.segment.specs.segment_rules.Parts.{parts_value};
-ghost use Rattle.segment.specs.segment_rules.Rules.{AreCells, AreSegmentParts};
-ghost use Rattle.segment.specs.Loading.{Loads, longest_of};
+ghost use Rattle.segment.specs.segment_rules.Rules.{AreCells};
+ghost use Rattle.segment.specs.segment_rules.Tests.{first_broken};
+ghost use Rattle.segment.specs.Loading.{Loads};
 ghost use Rattle.segment.specs.Parts.{parts_of};
+ghost use Rattle.segment.specs.Segment.{empty_at};
 
 use super::Segment;
-use crate::classes::Classes;
 use crate::fault::{LoadFault, fault_of};
-use crate::segment_rules::{Name, Parts, first_broken};
-use calibration::Grid;
-use four_point::Reducer;
-use simple_counts::Simple;
-use simple_counts::level_crossing::Crossings;
-use std::alloc::{AllocError, Global};
-use tally::{Cell, Tally, room_for};
+use crate::segment_rules::{BrokenRule, Parts, first_broken};
+use calibration::{Grid, MAX_SAMPLES};
+use std::alloc::Global;
+use tally::{Cell, Tally};
 
-// A tally of these cells, with the room of so many samples.
-fn tally_of(alloc: Global, grid: &Grid, longest: u64, cells: &[Cell]) -> Result<Tally, AllocError>
-    requires cells { AreCells grid.now.classes cells.now }
+// Counts these cells in an empty tally with the room of so many samples.
+fn fill_tally(tally: &mut Tally, longest: u64, cells: &[Cell])
+    requires empty { tally.old.cells ≡ [] }
+    requires room_is { tally.old.room ≡ room_for tally.old.classes longest }
+    requires cells { AreCells tally.old.classes cells.now }
     requires total { total_of cells.now ≤ MAX_TOTAL }
     requires room { 2 * length cells.now ≤ longest }
-    ensures { IfOk result (λ t. t ≡ record {
-      classes = grid.now.classes;
-      room = room_for grid.now.classes longest;
+    ensures { tally.new ≡ record {
+      classes = tally.old.classes;
+      room = room_for tally.old.classes longest;
       cells = cells.now;
-    }) }
+    } }
 {
-    let classes = grid.classes();
-    let mut tally = Tally::new(alloc, classes, room_for(classes, longest))?;
+    // What holds of every tally only a call of it tells; this costs nothing.
+    let _classes = tally.classes();
     for cell in cells {
         tally.add(cell.lo, cell.hi, cell.n);
     }
-    Ok(tally)
-}
-
-// The crossings of the parts.
-fn crossings_of(alloc: Global, grid: &Grid, parts: &Parts) -> Result<Crossings, AllocError>
-    requires { CanLoadCrossings grid.now.classes (end_points parts.now.ends) parts.now.crossings }
-    ensures grid { IfOk result (λ x.
-        (x.classes ≡ grid.now.classes) × (x.reference ≡ grid.now.reference)) }
-    ensures ends { IfOk result (λ x. HasEnds x (end_points parts.now.ends)) }
-    ensures counts { IfOk result (λ x.
-        (l : ℕ) → crossing_count x l ≡ count_at l parts.now.crossings) }
-{
-    let mut crossings = Crossings::new(alloc, grid)?;
-    crossings.load(&parts.ends, parts.crossings.as_slice());
-    Ok(crossings)
-}
-
-// The peaks, valleys and simple ranges of the parts.
-fn simple_of(alloc: Global, grid: &Grid, parts: &Parts) -> Result<Simple, AllocError>
-    requires { CanLoad grid.now.classes grid.now.reference (end_points parts.now.ends)
-        parts.now.peaks parts.now.valleys parts.now.ranges }
-    ensures grid { IfOk result (λ s.
-        (s.classes ≡ grid.now.classes) × (s.reference ≡ grid.now.reference)) }
-    ensures ends { IfOk result (λ s. s.ends ≡ end_points parts.now.ends) }
-    ensures ranges { IfOk result (λ s. (k : ℕ) → range_count s k ≡ count_at k parts.now.ranges) }
-    ensures peaks { IfOk result (λ s. (l : ℕ) → peak_count s l ≡ count_at l parts.now.peaks) }
-    ensures valleys { IfOk result (λ s.
-        (l : ℕ) → valley_count s l ≡ count_at l parts.now.valleys) }
-    ensures rules { IfOk result IsSimple }
-{
-    let mut simple = Simple::new(alloc, grid)?;
-    simple.load(
-        &parts.ends,
-        parts.peaks.as_slice(),
-        parts.valleys.as_slice(),
-        parts.ranges.as_slice(),
-    );
-    Ok(simple)
-}
-
-// The most samples of a segment of this name.
-fn longest_of(name: Name) -> u64
-    requires { name.from ≤ name.to }
-    ensures { result ≡ longest_of name }
-{
-    (name.to - name.from).max(1)
 }
 
 impl Segment {
-    // The segment of parts that keep the rules, where the reducer holds their residue.
-    fn of(
-        alloc: Global,
-        grid: &Grid,
-        parts: &Parts,
-        reducer: Reducer,
-    ) -> Result<Segment, AllocError>
-        requires limits { IsGrid grid.now }
-        requires rules { AreSegmentParts grid.now (parts_value parts.now) }
-        requires residue { reducer ≡
-            record { classes = grid.now.classes; residue = parts.now.residue } }
-        ensures grid { IfOk result (λ s. s.grid ≡ grid.now) }
-        ensures longest { IfOk result (λ s. s.longest ≡ longest_of parts.now.name) }
-        ensures parts { IfOk result (λ s. parts_of s ≡ parts_value parts.now) }
+    /// Makes it the segment over its grid with exactly these parts, whatever it was of, or tells
+    /// the first rule that they break; then it is of no samples. It may come to as many samples as
+    /// before. Takes no memory, and a step for each cell that it had and for each entry of the
+    /// parts.
+    pub fn reload(&mut self, parts: &Parts) -> Option<BrokenRule>
+        requires longest { parts.now.name.to ≤ MAX_SAMPLES →
+            parts.now.name.to - parts.now.name.from ≤ self.old.longest }
+        ensures rule { result ≡ first_broken self.old.grid (parts_value parts.now) }
+        ensures parts { IfNone result (parts_of self.new ≡ parts_value parts.now) }
+        ensures empty { OnSome result (self.new ≡ empty_at self.old.grid 0 0 self.old.longest) }
+        ensures grid { self.new.grid ≡ self.old.grid }
+        ensures longest { self.new.longest ≡ self.old.longest }
     {
-        let longest = longest_of(parts.name);
-        let tally = tally_of(alloc, grid, longest, parts.cells.as_slice())?;
-        let crossings = crossings_of(alloc, grid, parts)?;
-        let simple = simple_of(alloc, grid, parts)?;
-        Ok(Segment {
-            grid: Classes::new(grid),
-            gauge: parts.name.gauge,
-            from: parts.name.from,
-            to: parts.name.to,
-            longest,
-            used: parts.used,
-            missing: parts.missing,
-            refused: parts.refused,
-            tally,
-            reducer,
-            crossings,
-            simple,
-        })
+        self.clear(0, 0);
+        let has_residue = self.reducer.load(parts.residue.as_slice());
+        let broken = first_broken(&self.grid.grid(), parts, has_residue);
+        if broken.is_some() {
+            self.reducer.clear();
+            return broken;
+        }
+        fill_tally(&mut self.tally, self.longest, parts.cells.as_slice());
+        self.crossings.load(&parts.ends, parts.crossings.as_slice());
+        self.simple.load(
+            &parts.ends,
+            parts.peaks.as_slice(),
+            parts.valleys.as_slice(),
+            parts.ranges.as_slice(),
+        );
+        self.gauge = parts.name.gauge;
+        self.from = parts.name.from;
+        self.to = parts.name.to;
+        self.used = parts.used;
+        self.missing = parts.missing;
+        self.refused = parts.refused;
+        None
     }
 
     /// The segment over a grid with exactly these parts, or the first rule that they break. It may
@@ -130,11 +80,13 @@ impl Segment {
     pub fn load(alloc: Global, grid: &Grid, parts: &Parts) -> Result<Segment, LoadFault>
         ensures { Loads grid.now (parts_value parts.now) result }
     {
-        let mut reducer = Reducer::new(alloc, grid.classes())?;
-        let has_residue = reducer.load(parts.residue.as_slice());
-        match first_broken(grid, parts, has_residue) {
+        let longest = parts.name.to.saturating_sub(parts.name.from).max(1);
+        let mut segment = Segment::new(alloc, grid, 0, 0, longest.min(MAX_SAMPLES))?;
+        let broken = segment.reload(parts);
+        let _rules = segment.grid();
+        match broken {
             Some(rule) => Err(fault_of(rule)),
-            None => Ok(Segment::of(alloc, grid, parts, reducer)?),
+            None => Ok(segment),
         }
     }
 }

@@ -1,11 +1,17 @@
-use Rattle.std.proofs.Common.{◌≡◌, ◌++◌, ℕ, List, length, take, drop, ap, subst, sym, ◌∙◌, arith}
+use Rattle.std.proofs.Common.{◌≡◌, ◌++◌, ℕ, List, length, take, drop, refl, ap, subst, sym, ◌∙◌, arith}
 use Rattle.std.specs.Prelude.{Err, Ok, replicate}
 use Rattle.std.proofs.lemmas.List.{take_at, length-replicate}
+use Rattle.segment.specs.Segment.{SegmentValue}
 use Rattle.store_bytes.specs.segment_bytes.Sizes.{max_body}
 use Rattle.store_bytes.specs.store_head.Head.{start_of, gauge_place}
 use Rattle.segment_store.specs.declared.opening.Walked.{Walked}
 use Rattle.segment_store.specs.Image.{nothing_held}
-use Rattle.segment_store.specs.Opening.{WalksAs, IsUnharmed}
+use Rattle.segment_store.specs.Opening.{WalksAs, IsUnharmed, fault_is}
+use Rattle.segment_store.specs.Places.{IsNear}
+use Rattle.segment_store.specs.declared.damage.Stop.{Stop}
+use Rattle.segment_store.specs.declared.damage.Stop.TheVariants as stops
+use Rattle.segment_store.specs.declared.fault.ResumeFault.{ResumeFault}
+use Rattle.segment_store.specs.declared.fault.ResumeFault.TheVariants.{DiskFault}
 use Rattle.segment_store.specs.Resuming.{Walks}
 use Rattle.segment_store.proofs.Answering.{if_err_any, walks_err, unharmed_err, walks_moved, starts_moved, stops_moved}
 use Rattle.segment_store.proofs.Nearness.{max_small}
@@ -27,6 +33,26 @@ pub returns-in_err-buf-clause-passed : goal.returns-in_err-buf-clause-passed
 returns-in_err-buf-clause-passed g c =
     if_err_any _ c.from_residual-in_err-buf.result (not_begun g.V.Visitor.step _ g.K.Station.tells c.args.layout c.args.head.setup
     (g.K.Station.seen c.args.station.now))
+
+pub returns-in_err-segment-clause-passed : goal.returns-in_err-segment-clause-passed
+returns-in_err-segment-clause-passed g c =
+    if_err_any _ c.from_residual-in_err-segment.result (not_begun g.V.Visitor.step _ g.K.Station.tells c.args.layout c.args.head.setup
+    (g.K.Station.seen c.args.station.now))
+
+pub walk-requires-clause-few : goal.walk-requires-clause-few
+walk-requires-clause-few g c =
+    let classes = c.args.head.setup.grid.classes in
+    let small = max_small c.args.layout classes (omega (arith, c.classes.ensures.limits.classes_to)) in
+    omega (arith, c.max_body-limit.ensures ∙ ap (max_body c.args.layout) c.classes.ensures.value, small)
+
+pub walk-requires-clause-room : goal.walk-requires-clause-room
+walk-requires-clause-room g c =
+    let empty = c.in_ok-segment.ensures.empty in
+    record {
+      over = ap (λ (v : SegmentValue). v.grid) empty;
+      longest = ap (λ (v : SegmentValue). v.longest) empty;
+      places = omega (arith, c.in_ok-buf.ensures.len);
+    }
 
 pub returns-in-Ok-clause-walks : goal.returns-in-Ok-clause-walks
 returns-in-Ok-clause-walks g c tells =
@@ -93,3 +119,21 @@ returns-in-Err-clause-reads g c tells bodies last gate front rest starts =
     _ last bodies q moved.here moved.whole moved.tiles w) in
     subst (λ f. IsUnharmed {X = Walked} (Err f)) (sym c.fault_of.ensures.fault)
     (unharmed_err {X = Walked} c.args.layout s k image (λ (x : Walked). (x.place, x.ends.items)) c.in-Err.stopped.count c.in-Err.stopped.stop stop)
+
+pub returns-in-Ok-clause-near : goal.returns-in-Ok-clause-near
+returns-in-Ok-clause-near g c =
+    let ends = c.deref_mut.ensures.value ∙ c.in_ok-ends.ensures.items_if_clones_equal (λ y h. h) in
+    let last = whole c.walk.new.ends c.in_ok-ends.ends.items c.in_ok-ends.ends.len (length c.deref_mut.result.now) c.walk.auto.ends
+    (omega (arith, ap length ends, c.in_ok-ends.ensures.len, length-replicate {A = ℕ} (length c.as_slice-gauges.result.now) 0)) in
+    subst (λ l. IsNear c.in-Ok.ended.place l) (sym last) c.in-Ok.ensures.near
+
+-- of all stops a failing disk alone is told as one
+disk_only : (index : ℕ) (stop : Stop) (f : ResumeFault) → f ≡ fault_is index stop → f ≡ DiskFault → stop ≡ stops.Disk
+disk_only index stops.Memory f is e = absurd cc
+disk_only index stops.Disk f is e = refl
+disk_only index (stops.Damaged d) f is e = absurd cc
+
+pub returns-in-Err-clause-cause : goal.returns-in-Err-clause-cause
+returns-in-Err-clause-cause g c = λ e.
+    let same : c.fault_of.result ≡ DiskFault = cc in
+    c.in-Err.ensures.cause (disk_only c.in-Err.stopped.count c.in-Err.stopped.stop c.fault_of.result c.fault_of.ensures.fault same)

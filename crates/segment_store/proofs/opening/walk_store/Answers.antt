@@ -12,11 +12,11 @@ use Rattle.store_bytes.specs.store_head.HeadFaults.{head_fault, layout_in}
 use Rattle.segment_store.specs.declared.opening.Walked.{Walked}
 use Rattle.segment_store.specs.Image.{Reads, open_bodies, nothing_held}
 use Rattle.segment_store.specs.Reading.{StartsAt, IsFound, HasPassed}
-use Rattle.segment_store.specs.Visiting.{HasVisited}
+use Rattle.segment_store.specs.Visiting.{HasBegun, HasVisited}
 use Rattle.segment_store.proofs.Answering.{if_ok3, if_ok_any, if_err_any, if_err_more, never_err, reads_found}
 use Rattle.segment_store.proofs.Passing.{layout_is, never, starts}
 use Rattle.segment_store.proofs.Quiet.{quiet_starts, quiet_on, quiet_then}
-use Rattle.segment_store.proofs.Begins.{HasBegun, not_begun}
+use Rattle.segment_store.proofs.Begins.{not_begun}
 use Rattle.segment_store.proofs.opening.walk_store.Goals as goal
 
 pub returns-in-Err-clause-unharmed : goal.returns-in-Err-clause-unharmed

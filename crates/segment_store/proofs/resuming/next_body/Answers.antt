@@ -12,5 +12,5 @@ returns-then-size_now-at-clause-finds g c tells =
       | else-at-size w ↦ ap g.K.Station.seen w.station-is
     ] in
     let size = c.in_ok-size_now.ensures.size tells ∙ ap length same in
-    subst (λ n. Finds c.args.layout c.args.setup.now c.args.limit (g.K.Station.seen c.args.station.now)
+    subst (λ n. Finds c.args.stretch.layout c.args.setup.now c.args.stretch.limit (g.K.Station.seen c.args.station.now)
     c.args.ends.now c.args.at (Err (damages.Cut n))) (sym size) (no_length (omega (arith, size, c.if-size_now-at.true)))

@@ -8,6 +8,7 @@ use Rattle.segment_store.specs.Places.{IsNear}
 use Rattle.segment_store.specs.Reading.{HasPassed}
 use Rattle.segment_store.specs.Resuming.{Finds, Walks, shut, length_at}
 use Rattle.segment_store.specs.Visiting.{HasVisited}
+use Rattle.segment_store.specs.declared.resuming.Stored.{Stored}
 use Rattle.segment_store.proofs.Found.{pass_more, passed_all, none_passed}
 use Rattle.segment_store.proofs.Nearness.{near_step}
 use Rattle.segment_store.proofs.Quiet.{quiet_starts, quiet_on, quiet_then}
@@ -26,7 +27,7 @@ bodies-init g c =
         [],
         none_visited g.V.Visitor.step c.args.visitor.now c.args.setup.now ends,
         refl,
-        λ tells. none_passed c.args.layout c.args.setup.now
+        λ tells. none_passed c.args.stretch.layout c.args.setup.now
             (k.seen c.args.station.now) c.args.stretch.start ends,
       );
       quiet = λ tells.
@@ -42,7 +43,7 @@ bodies-init g c =
       few = omega arith;
       later = search rules;
       near = c.requires.near;
-      room = refl;
+      room = c.requires.room;
       gauges = refl;
     }
 
@@ -53,7 +54,7 @@ returns-then-is_err-clause-passed g c = (
   c.args.ends.now,
   c.args.stretch.start,
   none_visited g.V.Visitor.step c.args.visitor.now c.args.setup.now c.args.ends.now,
-  λ tells. none_passed c.args.layout c.args.setup.now (g.K.Station.seen c.args.station.now) c.args.stretch.start c.args.ends.now,
+  λ tells. none_passed c.args.stretch.layout c.args.setup.now (g.K.Station.seen c.args.station.now) c.args.stretch.start c.args.ends.now,
 )
 
 pub returns-then-is_err-clause-quiet : goal.returns-then-is_err-clause-quiet
@@ -77,7 +78,7 @@ returns-clause-found g c =
       p.0,
       p.1,
       p.2,
-      λ tells. passed_all c.args.layout c.args.setup.now c.args.limit c.requires.few (k.seen c.args.station.now) c.args.stretch.start
+      λ tells. passed_all c.args.stretch.layout c.args.setup.now c.args.stretch.limit c.requires.few (k.seen c.args.station.now) c.args.stretch.start
           c.bodies.place c.args.ends.now c.bodies.ends (map parts_of p.0) (omega (arith, i.within tells, c.requires.size tells))
           (λ e. c.bodies-test.false (i.gate tells ∙ e)) (p.3 tells),
     )
@@ -103,13 +104,13 @@ pub bodies-preserved : goal.bodies-preserved
 bodies-preserved g c =
     let k = g.K.Station in
     let i = c.bodies.invariant in
-    let s = c.in-Ok.found.segment in
-    let v = parts_of c.in-Ok.found.segment in
+    let s = c.next_body.new.scratch.segment in
+    let v = parts_of c.next_body.new.scratch.segment in
     let setup : Setup = c.args.setup.now in
     let image = k.seen c.args.station.now in
     let p = i.passed in
     let ends = c.pass.ensures in
-    let over = c.in-Ok.ensures.over in
+    let over = c.next_body.ensures.room.over in
     let stepped = on_ok c.body.result _ (sym c.is_err-in-Ok.ensures.value ∙ c.if-is_err-2.false) c.body.ensures.step in
     let listed : List PartsValue = map parts_of p.0 in
     let more_listed : map parts_of (p.0 ++ s ∷ []) ≡ listed ++ v ∷ [] = map-append parts_of p.0 (s ∷ []) in
@@ -117,9 +118,9 @@ bodies-preserved g c =
       walks = λ tells r w.
           let same = (i.quiet tells).seen_same in
           let is_one : get_or image c.bodies.place 0 ≡ 1 = sym (i.gate tells) ∙ c.bodies-test.true in
-          i.walks tells r (step c.args.layout setup c.args.limit c.args.limit image (k.seen c.bodies.station) c.bodies.ends
+          i.walks tells r (step c.args.stretch.layout setup c.args.stretch.limit c.args.stretch.limit image (k.seen c.bodies.station) c.bodies.ends
           c.bodies.ends c.bodies.count c.bodies.place same (omega arith) refl is_one v c.in-Ok.found.next (c.in-Ok.ensures.finds tells) (c.in-Ok.ensures.gate tells) r
-          (subst (λ e. Walks c.args.layout setup c.args.limit image (c.bodies.count + 1) c.in-Ok.found.next e r) ends w));
+          (subst (λ e. Walks c.args.stretch.layout setup c.args.stretch.limit image (c.bodies.count + 1) c.in-Ok.found.next e r) ends w));
       passed = (
         p.0 ++ s ∷ [],
         subst (λ e. HasVisited g.V.Visitor.step c.args.visitor.now c.body.new.self setup c.args.ends.now (p.0 ++ s ∷ []) e) (sym ends)
@@ -129,15 +130,15 @@ bodies-preserved g c =
         λ tells.
             let same = (i.quiet tells).seen_same in
             let is_one : get_or image c.bodies.place 0 ≡ 1 = sym (i.gate tells) ∙ c.bodies-test.true in
-            let finds = subst (λ m. Finds c.args.layout setup c.args.limit m c.bodies.ends c.bodies.place (Ok v)) same
+            let finds = subst (λ m. Finds c.args.stretch.layout setup c.args.stretch.limit m c.bodies.ends c.bodies.place (Ok v)) same
             (c.in-Ok.ensures.finds tells) in
-            let more = pass_more c.args.layout setup c.args.limit c.requires.few image c.args.stretch.start c.bodies.place c.args.ends.now
+            let more = pass_more c.args.stretch.layout setup c.args.stretch.limit c.requires.few image c.args.stretch.start c.bodies.place c.args.ends.now
             c.bodies.ends listed v is_one finds (p.3 tells) in
-            let moved = subst (λ e. HasPassed c.args.layout setup image c.args.stretch.start c.args.ends.now
+            let moved = subst (λ e. HasPassed c.args.stretch.layout setup image c.args.stretch.start c.args.ends.now
             (c.bodies.place + length_at image c.bodies.place + FRAME_LENGTH) e (listed ++ v ∷ [])) (sym ends) more in
-            subst (λ l. HasPassed c.args.layout setup image c.args.stretch.start c.args.ends.now c.in-Ok.found.next c.pass.new.ends l) (sym
+            subst (λ l. HasPassed c.args.stretch.layout setup image c.args.stretch.start c.args.ends.now c.in-Ok.found.next c.pass.new.ends l) (sym
             more_listed)
-            (subst (λ n. HasPassed c.args.layout setup image c.args.stretch.start c.args.ends.now n c.pass.new.ends
+            (subst (λ n. HasPassed c.args.stretch.layout setup image c.args.stretch.start c.args.ends.now n c.pass.new.ends
             (listed ++ v ∷ []))
             (sym (c.in-Ok.ensures.gate tells ∙ ap (λ m. c.bodies.place + length_at m c.bodies.place + FRAME_LENGTH) same)) moved),
       );
@@ -148,9 +149,9 @@ bodies-preserved g c =
       gauges = ap length ends ∙ length-set c.bodies.ends s.gauge s.to ∙ i.gauges;
       near = subst (λ e. IsNear c.in-Ok.found.next e) (sym ends)
           (near_step c.bodies.place c.in-Ok.found.next c.bodies.ends v
-          (omega (arith, c.in-Ok.ensures.gauge)) c.in-Ok.ensures.step c.bodies.invariant.near);
+          (omega (arith, c.in-Ok.ensures.next.body.gauge, i.gauges, c.requires.gauges)) c.in-Ok.ensures.step c.bodies.invariant.near);
       later = search rules;
-      room = search rules;
+      room = c.next_body.ensures.room;
     }
 
 -- a body that is refused
@@ -161,9 +162,10 @@ returns-in-Err-clause-walks g c tells =
     let setup : Setup = c.args.setup.now in
     let same = (i.quiet tells).seen_same in
     let is_one : get_or (k.seen c.args.station.now) c.bodies.place 0 ≡ 1 = sym (i.gate tells) ∙ c.bodies-test.true in
-    stops_here c.args.layout setup c.args.limit c.args.limit (k.seen c.args.station.now) (k.seen c.bodies.station)
-    c.bodies.ends c.bodies.ends c.bodies.count c.bodies.place same (omega arith) refl is_one
-    (Walks c.args.layout setup c.args.limit (k.seen c.args.station.now) 0 c.args.stretch.start c.args.ends.now)
+    stops_here c.args.stretch.layout setup c.args.stretch.limit c.args.stretch.limit (k.seen c.args.station.now) (k.seen c.bodies.station)
+    c.bodies.ends c.bodies.ends c.bodies.count c.bodies.place same (omega arith) refl is_one {X = Stored}
+    (λ _. parts_of c.next_body.new.scratch.segment)
+    (Walks c.args.stretch.layout setup c.args.stretch.limit (k.seen c.args.station.now) 0 c.args.stretch.start c.args.ends.now)
     c.in-Err.stop (c.in-Err.ensures.finds tells) (i.walks tells)
 
 pub returns-in-Err-clause-passed : goal.returns-in-Err-clause-passed

@@ -6,7 +6,7 @@ use Rattle.segment_store.specs.declared.damage.Damage.{Damage}
 use Rattle.segment_store.specs.Places.{IsNear}
 use Rattle.segment_store.specs.Quiet.{IsQuiet}
 use Rattle.segment_store.specs.Reading.{HasPassed}
-use Rattle.segment_store.specs.Resuming.{Walks}
+use Rattle.segment_store.specs.Resuming.{HasRoom, Walks}
 use Rattle.segment_store.specs.Visiting.{HasVisited}
 use Rattle.segment_store.proofs.resuming.walk.Given as goal
 
@@ -15,11 +15,11 @@ invariant-bodies g l =
     let k = g.K.Station in
     record {
       walks : k.tells → (r : Result (ℕ × List ℕ) (ℕ × Damage))
-          → Walks l.fn.layout l.fn.setup l.fn.limit (k.seen l.fn.station) l.count l.place l.ends r
-          → Walks l.fn.layout l.fn.setup l.fn.limit (k.seen l.fn.station) 0 l.fn.stretch.start l.fn.ends r;
+          → Walks l.fn.stretch.layout l.fn.setup l.fn.stretch.limit (k.seen l.fn.station) l.count l.place l.ends r
+          → Walks l.fn.stretch.layout l.fn.setup l.fn.stretch.limit (k.seen l.fn.station) 0 l.fn.stretch.start l.fn.ends r;
       passed : (segments : List SegmentValue) × HasVisited g.V.Visitor.step l.fn.visitor l.visitor l.fn.setup l.fn.ends segments l.ends
           × (l.count ≡ length segments)
-          × (k.tells → HasPassed l.fn.layout l.fn.setup (k.seen l.fn.station) l.fn.stretch.start l.fn.ends l.place l.ends (map parts_of
+          × (k.tells → HasPassed l.fn.stretch.layout l.fn.setup (k.seen l.fn.station) l.fn.stretch.start l.fn.ends l.place l.ends (map parts_of
           segments));
       quiet : k.tells → IsQuiet (k.clock l.fn.station) (k.moments l.fn.station) (k.clock l.station) (k.moments l.station)
           (k.told l.fn.station)
@@ -29,7 +29,7 @@ invariant-bodies g l =
       few : l.count ≤ l.place;
       later : k.faults l.fn.station ≤ k.faults l.station;
       near : IsNear l.place l.ends;
-      room : length l.buf ≡ length l.fn.buf;
+      room : HasRoom l.fn.setup l.fn.stretch.limit l.scratch;
       gauges : length l.ends ≡ length l.fn.ends;
     }
 

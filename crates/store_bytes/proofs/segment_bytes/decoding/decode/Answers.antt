@@ -7,7 +7,7 @@ use Rattle.store_bytes.proofs.segment_bytes.decoding.decode.Goals as goal
 
 pub returns-clause-found : goal.returns-clause-found
 returns-clause-found c =
-    is_found c.args.layout c.args.grid.now c.args.bytes.now c.segment_in.result
+    is_found parts_of c.args.layout c.args.grid.now c.args.bytes.now c.segment_in.result
     (λ i. omega (arith, c.type_inv.bytes i)) c.segment_in.ensures.reads
 
 pub returns-clause-complete : goal.returns-clause-complete

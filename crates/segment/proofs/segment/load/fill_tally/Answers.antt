@@ -1,8 +1,21 @@
-use Rattle.std.proofs.Common.{◌∙◌, arith}
-use Rattle.tally.specs.Counts.{total_of}
+use Rattle.std.proofs.Common.{refl, ap, ◌∙◌, arith}
+use Rattle.std.specs.Prelude.{length}
+use Rattle.tally.specs.Counts.{count_of, total_of}
 use Rattle.tally.proofs.Equal.{cell_of}
 use Rattle.segment.proofs.TallyCells.{tally_step, total_step, tally_is}
-use Rattle.segment.proofs.segment.load.tally_of.Goals as goal
+use Rattle.segment.proofs.segment.load.fill_tally.Goals as goal
+
+pub loop-cell-init : goal.loop-cell-init
+loop-cell-init c =
+    let none = c.requires.empty in
+    record {
+      classes = refl;
+      room = c.requires.room_is;
+      counts = c.classes-classes.ensures.counts;
+      few = omega (arith, ap length none);
+      so_far = λ a b. omega (arith, ap (λ l. count_of l a b) none);
+      total = omega (arith, ap total_of none);
+    }
 
 pub loop-cell-preserved : goal.loop-cell-preserved
 loop-cell-preserved c =
@@ -23,6 +36,6 @@ loop-cell-preserved c =
 pub returns : goal.returns
 returns c =
     let v = c.loop-cell.invariant in
-    tally_is c.args.grid.now.classes c.args.longest c.loop-cell.cell-index c.loop-cell.tally c.args.cells.now v.counts v.classes v.room
+    tally_is c.args.tally.now.classes c.args.longest c.loop-cell.cell-index c.loop-cell.tally c.args.cells.now v.counts v.classes v.room
     c.requires.cells c.requires.total
     c.requires.room (omega (arith, c.loop-cell-test.false)) v.so_far
