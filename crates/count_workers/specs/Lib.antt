@@ -4,4 +4,5 @@ pub mod gauge_ring
 pub mod block_workers
 pub mod collector
 pub mod lane_loans
+pub mod running
 pub mod round_making

@@ -1,5 +1,4 @@
-//! The collector, which places what the workers have counted, and a whole round of readers, workers
-//! and collector.
+//! The collector, which places what the workers have counted.
 //!
 //! The collector goes round the return rings until it has the mark of each. What comes is a mix of
 //! the workers' lists; each unit is deposited and given back as it comes
@@ -7,9 +6,9 @@
 //! (`specs/collector/Settling.antt`). No call here takes memory.
 
 mod collecting;
-mod running;
+mod depot;
 mod settling;
 
-pub use collecting::{Return, collect};
-pub use running::run_round;
+pub use collecting::{Return, collect, collect_rest, look_at_all};
+pub use depot::Depot;
 pub use settling::settle_returns;

@@ -4,17 +4,17 @@
 //! A [`Plan`] says for how many gauges, which block and how many workers rounds are [`Prepared`]. A
 //! round reads up to 16 blocks of each [`Lane`], deals them to the workers, and puts together what
 //! they counted: the front of a gauge stands for exactly the samples that its lane gave in this
-//! round, with any number of workers. As many threads as there are workers, the caller's among
-//! them, read the lanes and then count; where a thread can't be made, its work is done by the
-//! caller.
+//! round, with any number of workers. One worker counts in the caller's thread, which reads,
+//! counts and places one block after the other. Several count beside each other when all was read,
+//! the caller's thread among theirs; where a thread can't be made, its work is done by the caller.
 //!
 //! What a round does is said by `RoundDone` and `SourcesBack`
 //! (`crates/count_workers/specs/round_making/Round.antt`).
 //!
-//! From below: [`gauge_ring`] carries units between threads, [`block_workers`] read and count,
-//! [`collector`] puts what was counted on the board, [`lane_loans`] lends lanes to a round and
-//! puts them back, [`round_making`] makes a whole round, and `round_accounts` has lemmas on
-//! what comes back.
+//! From below: [`gauge_ring`] carries units between threads, [`block_workers`] read and count a
+//! block, [`collector`] puts what was counted on the board, `running` has them all run,
+//! [`lane_loans`] lends lanes to a round and puts them back, [`round_making`] makes a whole round,
+//! and `round_accounts` has lemmas on what comes back.
 #![tactic(auto)]
 
 pub mod block_workers;
@@ -26,6 +26,7 @@ mod prepared;
 mod preparing;
 pub mod round_accounts;
 pub mod round_making;
+mod running;
 
 pub use plan::Plan;
 pub use prepared::Prepared;

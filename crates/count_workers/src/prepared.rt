@@ -3,7 +3,7 @@ ghost use Rattle.board.specs.Board.{IsFront};
 ghost use Rattle.board.specs.declared.flow.TheConstants.{BLOCKS_PER_WINDOW};
 
 use crate::block_workers::{Reader, Worker};
-use crate::collector::Return;
+use crate::collector::{Depot, Return};
 use crate::gauge_ring::ring;
 use crate::lane_loans::Lane;
 use crate::preparing::{new_readers, new_worker};
@@ -23,8 +23,7 @@ use std::thread::Threads;
 /// All memory of rounds: the units, the board, the rings, and the places of readers and workers.
 #[derive(Drop)]
 pub struct Prepared<C: Source> {
-    pool: Pool,
-    board: Board,
+    depot: Depot,
     readers: Vec<Reader<C>>,
     workers: Vec<Worker>,
     returns: Vec<Return>,
@@ -35,9 +34,9 @@ impl<C: Source> Model for Prepared<C> {
 
     ghost Value = { PreparedValue };
 
-    ghost view = { λ p. value_of p.pool p.board p.readers.items p.workers.items };
+    ghost view = { λ p. value_of p.depot.pool p.depot.board p.readers.items p.workers.items };
 
-    ghost invariant = { λ p. IsResting p.pool p.board
+    ghost invariant = { λ p. IsResting p.depot.pool p.depot.board
         p.readers.items p.workers.items p.returns.items };
 }
 
@@ -69,8 +68,7 @@ impl<C: Source + Send> Prepared<C> {
             });
         }
         Ok(Prepared {
-            pool,
-            board,
+            depot: Depot { pool, board },
             readers,
             workers,
             returns,
@@ -95,8 +93,7 @@ impl<C: Source + Send> Prepared<C> {
         make_round(
             rt,
             gate,
-            &mut self.pool,
-            &mut self.board,
+            &mut self.depot,
             self.readers.as_mut_slice(),
             self.workers.as_mut_slice(),
             self.returns.as_mut_slice(),
@@ -108,7 +105,7 @@ impl<C: Source + Send> Prepared<C> {
     pub fn board(&self) -> &Board
         ensures { result.now ≡ self.now.board }
     {
-        &self.board
+        &self.depot.board
     }
 
     /// What stands for the samples that a gauge's lane gave in the last round. Where it gave none
@@ -117,14 +114,14 @@ impl<C: Source + Send> Prepared<C> {
         requires { gauge < self.now.gauges }
         ensures { IsFront self.now.board gauge result.now }
     {
-        self.board.front(gauge)
+        self.depot.board.front(gauge)
     }
 
     /// The names of the last round's blocks, in order of arrival.
     pub fn arrivals(&self) -> &[Name]
         ensures { result.now ≡ self.now.board.arrivals }
     {
-        self.board.arrivals()
+        self.depot.board.arrivals()
     }
 
     /// How many units are in the pool.
@@ -132,7 +129,7 @@ impl<C: Source + Send> Prepared<C> {
         ensures inside { result ≡ self.now.inside }
         ensures all { result ≡ BLOCKS_PER_WINDOW * self.now.gauges }
     {
-        self.pool.inside()
+        self.depot.pool.inside()
     }
 
     /// Hands out the board that the last round filled, and takes another for the next.
@@ -142,6 +139,6 @@ impl<C: Source + Send> Prepared<C> {
         ensures out { result ≡ self.old.board }
         ensures same { IsSameBut self.old self.new board }
     {
-        std::mem::replace(&mut self.board, board)
+        std::mem::replace(&mut self.depot.board, board)
     }
 }

@@ -79,5 +79,7 @@ pub(crate) fn new_worker<C: Source>(
         number,
         takers,
         back,
+        gauge: 0,
+        block: 0,
     })
 }

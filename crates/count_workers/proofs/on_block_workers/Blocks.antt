@@ -371,24 +371,23 @@ still_ready tells l m old new number h few r = record {
 }
 
 pub marked : (tells : Type 0) (left_old left_new : List ℕ) (old mid new : Desk)
-    → IsReadSoFar tells left_old left_new old mid (BLOCKS_PER_WINDOW * old.block) (BlocksOfRound old mid) → SameDesk mid new →
-    new.at ≡ mid.at
-    → new.end ≡ mid.end → new.blanks ≡ mid.blanks → MarksAll mid.feeders.items new.feeders.items → ReadDone tells left_old left_new old new
-marked tells left_old left_new old mid new r s at end b m = record {
-  same = same_desk old mid new r.same s;
-  limit = omega (arith, at, r.limit);
+    → IsReadSoFar tells left_old left_new old mid (BLOCKS_PER_WINDOW * old.block) (BlocksOfRound old mid) → NotRead mid new
+    → ReadDone tells left_old left_new old new
+marked tells left_old left_new old mid new r m = record {
+  same = same_desk old mid new r.same m.same;
+  limit = omega (arith, m.at, r.limit);
   units = r.units;
   few = r.are.0;
-  blocks = subst (AreBlocks old old.at r.units) (sym at) r.are.1;
-  samples = λ t. r.samples t ∙ ap (λ a. take (a - old.at) (samples left_old)) (sym at);
-  gives = λ t. subst (λ e. IsRead (BLOCKS_PER_WINDOW * old.block) (most old) left_old (new.at - old.at) e left_new) (sym end)
-      (subst (λ a. IsRead (BLOCKS_PER_WINDOW * old.block) (most old) left_old (a - old.at) mid.end left_new) (sym at) (r.gives t));
-  fed = λ v d h. m.marked v d (omega (arith, h, r.same.feeders, mid.feeders.ok.0)) ∙ ap (λ l. l ++ Mark ∷ []) (r.fed v d h)
+  blocks = subst (AreBlocks old old.at r.units) (sym m.at) r.are.1;
+  samples = λ t. r.samples t ∙ ap (λ a. take (a - old.at) (samples left_old)) (sym m.at);
+  gives = λ t. subst (λ e. IsRead (BLOCKS_PER_WINDOW * old.block) (most old) left_old (new.at - old.at) e left_new) (sym m.end)
+      (subst (λ a. IsRead (BLOCKS_PER_WINDOW * old.block) (most old) left_old (a - old.at) mid.end left_new) (sym m.at) (r.gives t));
+  fed = λ v d h. m.fed v d (omega (arith, h, r.same.feeders)) ∙ ap (λ l. l ++ Mark ∷ []) (r.fed v d h)
       ∙ append_assoc (fed (get_or old.feeders.items v d)) (map block_of (blocks_of_worker (vec_len old.feeders) v 0 r.units)) (Mark ∷ []);
   ends = λ v d h. same_feeders (get_or old.feeders.items v d) (get_or mid.feeders.items v d) (get_or new.feeders.items v d) (r.ends v d h)
-      (m.same v d);
-  blanks = ap (λ l. vec_len l + length r.units) b ∙ r.blanks;
-  fit = subst (λ l. All (IsBlank old.block old.grid) l) (sym (ap (λ l. l.items) b)) r.fit;
+      (m.ends v d (omega (arith, h, r.same.feeders)));
+  blanks = ap (λ l. vec_len l + length r.units) m.blanks ∙ r.blanks;
+  fit = subst (λ l. All (IsBlank old.block old.grid) l) (sym (ap (λ l. l.items) m.blanks)) r.fit;
 }
 
 -- the last of the blanks, and those that are left

@@ -20,7 +20,7 @@ use Rattle.count_workers.specs.declared.block_workers.desk.Desk.{Desk}
 use Rattle.count_workers.specs.block_workers.Dealing.{blocks_of_worker}
 use Rattle.count_workers.specs.block_workers.Reading.{AreBlocks}
 use Rattle.count_workers.specs.block_workers.Reading.AreBlocks.{none, last, more}
-use Rattle.count_workers.proofs.on_round_accounts.Lists.{in_turn}
+use Rattle.count_workers.specs.block_workers.Working.{in_turn}
 use Rattle.count_workers.proofs.on_round_accounts.Names.{blocks_of_worker_names}
 use Rattle.count_workers.proofs.on_round_accounts.Taken.{AreTaken, blocks_reach, each_name, list_names, mixed_names, taken_known}
 use Rattle.board.specs.declared.flow.TheConstants.{BLOCKS_PER_WINDOW}

@@ -9,6 +9,7 @@ use Rattle.board.specs.block_pool.Units.{FilledValue}
 use Rattle.board.specs.arrivals.Arrivals.{names_of}
 use Rattle.board.specs.flow.Kept.Each.{none}
 use Rattle.count_workers.specs.block_workers.Dealing.{blocks_of_worker}
+use Rattle.count_workers.specs.block_workers.Working.{in_turn}
 use Rattle.count_workers.proofs.on_block_workers.Accounts.{one_worker}
 
 pub over_swap : (n m : ℕ) (f : ℕ → ℕ → ℕ) → over n (λ v. over m (λ h. f v h)) ≡ over m (λ h. over n (λ v. f v h))
@@ -18,15 +19,6 @@ over_swap (suc n) m f =
     let sums : over m (λ h. f n h + over n (λ v. f v h)) ≡ over m (λ h. f n h) + over m (λ h. over n (λ v. f v h)) =
     over_sum m (λ h. f n h) (λ h. over n (λ v. f v h)) in
     omega (arith, rest, sums)
-
--- the lists of the first n gauges, one after another
-abbrev pub in_turn : {A : Type 0} → ℕ → (ℕ → List A) → List A
-in_turn zero f = []
-in_turn (suc n) f = in_turn n f ++ f n
-
-pub turn_same : {A : Type 0} → (n : ℕ) (f h : ℕ → List A) → ((g : ℕ) → g < n → f g ≡ h g) → in_turn n f ≡ in_turn n h
-turn_same zero f h e = refl
-turn_same (suc n) f h e = ap (λ l. l ++ f n) (turn_same n f h (λ g l. e g (omega arith))) ∙ ap (λ l. in_turn n h ++ l) (e n (omega arith))
 
 pub turn_long : {A : Type 0} → (n : ℕ) (f : ℕ → List A) → length (in_turn n f) ≡ over n (λ g. length (f g))
 turn_long zero f = refl

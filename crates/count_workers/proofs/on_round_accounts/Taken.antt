@@ -20,10 +20,10 @@ use Rattle.count_workers.specs.declared.block_workers.desk.Desk.{Desk}
 use Rattle.count_workers.specs.block_workers.Dealing.{blocks_of_worker}
 use Rattle.count_workers.specs.block_workers.Reading.{IsUnit, AreBlocks, samples_of}
 use Rattle.count_workers.specs.block_workers.Reading.AreBlocks.{none, last, more}
-use Rattle.count_workers.specs.block_workers.Working.{AreCounts}
-use Rattle.count_workers.proofs.on_block_workers.Drains.{counts_long}
+use Rattle.count_workers.specs.block_workers.Working.{in_turn, AreCounts}
+use Rattle.count_workers.proofs.on_block_workers.Steps.{counts_long}
 use Rattle.count_workers.proofs.on_block_workers.Accounts.{blocks_of_worker_once, blocks_once}
-use Rattle.count_workers.proofs.on_round_accounts.Lists.{over_swap, in_turn, turn_long, turn_each, turn_names, turn_hits, blocks_of_worker_long}
+use Rattle.count_workers.proofs.on_round_accounts.Lists.{over_swap, turn_long, turn_each, turn_names, turn_hits, blocks_of_worker_long}
 use Rattle.count_workers.proofs.on_round_accounts.Standing.{FromLanes, from_lane, each_dealt, count_stands, each_count, counts_names}
 use Rattle.board.specs.declared.flow.TheConstants.{BLOCKS_PER_WINDOW}
 

@@ -1,12 +1,11 @@
 -- What a round does to a reader and to a worker, from lending to settling.
-use Rattle.std.proofs.Common.{◌≡◌, ◌≢◌, inl, inr, ◌≤◌, ◌<◌, ◌+◌, ◌*◌, ◌-◌, ℕ, zero, suc, List, [], ◌∷◌, ◌++◌, length, take, get_or, vec_len, vec_capacity, refl, sym, ap, ◌∙◌, subst, arith, append_assoc, Some}
+use Rattle.std.proofs.Common.{◌≡◌, ◌≢◌, inl, inr, ◌≤◌, ◌<◌, ◌+◌, ◌*◌, ◌-◌, ℕ, List, [], ◌++◌, length, take, get_or, vec_len, vec_capacity, sym, ap, ◌∙◌, subst, arith, Some}
 use Rattle.calibration.specs.declared.limits.TheConstants.{MAX_SAMPLES}
 use Rattle.board.specs.declared.flow.TheConstants.{BLOCKS_PER_WINDOW}
 use Rattle.std.specs.List.{All}
 use Rattle.std.specs.declared.vec.Vec.{Vec}
 use Rattle.std.specs.declared.alloc.Global.{Global}
 use Rattle.calibration.specs.Grid.{GridValue}
-use Rattle.std.proofs.lemmas.List.{append-nil, get_or_default}
 use Rattle.outside.specs.Fault.{CountRose}
 use Rattle.recording.specs.Samples.{samples}
 use Rattle.recording.specs.declared.lane_ends.end.End.TheVariants.{More, ReadFault}
@@ -23,16 +22,14 @@ use Rattle.count_workers.specs.declared.block_workers.worker.Worker.{Worker}
 use Rattle.count_workers.specs.block_workers.Dealing.{round_of, blocks_of_worker}
 use Rattle.count_workers.specs.block_workers.Reading.{AreBlocks, samples_of, ReadDone, SameDesk}
 use Rattle.count_workers.specs.block_workers.Reading.AreBlocks.{none}
-use Rattle.count_workers.specs.block_workers.Working.{AreCounts, all_new, new_blocks, return_round}
-use Rattle.count_workers.specs.block_workers.Jobs.{RingAt, CanRead, ReadJob, NotRead, SameRead, WorkJob, SameWork}
+use Rattle.count_workers.specs.block_workers.Working.{in_turn, AreCounts, return_round, WorkJob}
+use Rattle.count_workers.specs.block_workers.Jobs.{RingAt, CanRead, ReadJob, NotRead, SameRead, SameWork}
 use Rattle.count_workers.proofs.on_block_workers.Blocks.{gives_as}
 use Rattle.count_workers.proofs.on_gauge_ring.Ends.{same_feeders, same_takers, still_one}
 use Rattle.count_workers.specs.declared.collector.collecting.Return.{Return}
 use Rattle.count_workers.specs.collector.Settling.{SameFeeding, ReturnAt}
 use Rattle.count_workers.specs.declared.lane_loans.lane.Lane.{Lane}
 use Rattle.count_workers.specs.lane_loans.Lent.{LendsSource}
-use Rattle.count_workers.proofs.on_round_accounts.Lists.{in_turn}
-use Rattle.count_workers.proofs.on_lane_loans.Walking.{some_of}
 
 fit_as : (b c : ℕ) (g k : GridValue) (xs : List BlankValue) → b ≡ c → g ≡ k → All (IsBlank b g) xs → All (IsBlank c k) xs
 fit_as b c g k xs e f h = subst (λ x. All (IsBlank c x) xs) f (subst (λ x. All (IsBlank x g) xs) e h)
@@ -205,16 +202,15 @@ module _ {C : Type 0} where
 
   -- the ends of a ring until the jobs are done
   pub ring_so_far : (tells : Type 0) (left : C → List ℕ) (faults : C → ℕ) (workers g v : ℕ) (r0 r1 r2 : Reader C) (l0 l1 : Lane C)
-      (w0 w1 : Worker) → v < workers → g < vec_len w0.takers → vec_len r0.desk.feeders ≡ workers → LendsSource r0 r1 l0 l1
+      (w0 w1 : Worker) → v < workers → vec_len r0.desk.feeders ≡ workers → LendsSource r0 r1 l0 l1
       → ReadJob tells left faults r1 r2 → WorkJob w0 w1 → RingAt w0 r0 g v → RingAt w1 r2 g v
-  ring_so_far tells left faults workers g v r0 r1 r2 l0 l1 w0 w1 m h wide lent job work ring =
+  ring_so_far tells left faults workers g v r0 r1 r2 l0 l1 w0 w1 m wide lent job work ring =
       let here : vec_len r1.desk.feeders ≡ workers = ap (λ (fs : Vec (Feeder Item) Global). vec_len fs) lent.feeders ∙ wide in
-      let long : vec_len w0.takers ≡ length w0.takers.items = w0.takers.ok.0 in
       record {
         one = λ d e. still_one (get_or r0.desk.feeders.items v e) (get_or r2.desk.feeders.items v e) (get_or w0.takers.items g d)
             (get_or w1.takers.items g d) (ring.one d e)
             (ends_so_far workers r0 r1 r2 l0 l1 lent (job_keeps tells left faults workers r1 r2 here job) v e m)
-            (work.worked.took g d (omega (arith, h, long))).same;
+            (work.ends g d);
       }
 
   pub feeders_so_far : (tells : Type 0) (left : C → List ℕ) (faults : C → ℕ) (workers : ℕ) (r0 r1 r2 : Reader C) (l0 l1 : Lane C)
@@ -229,7 +225,7 @@ pub back_so_far : (w0 w1 w2 : Worker) (b0 b1 : Return) → ReturnAt w0 b0 → Wo
 back_so_far w0 w1 w2 b0 b1 ring job same taker =
     record {
       one = still_one w0.back w2.back b0.taker b1.taker ring.one
-          (same_feeders w0.back w1.back w2.back job.worked.same same.back.1) taker;
+          (same_feeders w0.back w1.back w2.back job.same same.back.1) taker;
     }
 
 -- a worker after a round, what it took of each gauge and what it fed back
@@ -245,45 +241,17 @@ pub record WorkerRan (w0 w3 : Worker) : Type 0 where
   pub fed : fed w3.back ≡ fed w0.back ++ return_round units
   pub same : IsSameFeeder w0.back w3.back
 
-turn_front : {A : Type 0} → (n : ℕ) (f : ℕ → List A) → in_turn (suc n) f ≡ f 0 ++ in_turn n (λ g. f (suc g))
-turn_front zero f = sym (append-nil (f 0))
-turn_front (suc n) f = ap (λ l. l ++ f (suc n)) (turn_front n f) ∙ append_assoc (f 0) (in_turn n (λ g. f (suc g))) (f (suc n))
-
-all_turn : (os ns : List (Taker Item)) (d : Taker Item) → length ns ≡ length os
-    → all_new os ns ≡ in_turn (length os) (λ g. new_blocks (get_or os g d) (get_or ns g d))
-all_turn [] ns d e = refl
-all_turn (o ∷ os) [] d e = absurd (omega (arith, e))
-all_turn (o ∷ os) (n ∷ ns) d e =
-    ap (λ l. new_blocks o n ++ l) (all_turn os ns d (omega (arith, e)))
-    ∙ sym (turn_front (length os) (λ g. new_blocks (get_or (o ∷ os) g d) (get_or (n ∷ ns) g d)))
-
-pub worker_ran : (w0 w1 w2 w3 : Worker) → 1 ≤ vec_len w0.takers → WorkJob w0 w1 → SameWork w1 w2 → SameFeeding w2 w3 → WorkerRan w0 w3
-worker_ran w0 w1 w2 w3 some job same feeding =
-    let n0 : vec_len w0.takers ≡ length w0.takers.items = w0.takers.ok.0 in
-    let n1 : vec_len w1.takers ≡ length w1.takers.items = w1.takers.ok.0 in
-    let e = some_of w0.takers.items (omega (arith, some, n0)) in
-    let blocks : ℕ → List FilledValue = λ g. new_blocks (get_or w0.takers.items g e) (get_or w1.takers.items g e) in
-    let long : length w1.takers.items ≡ length w0.takers.items = omega (arith, n0, n1, job.takers) in
-    let all : all_new w0.takers.items w1.takers.items ≡ in_turn (vec_len w0.takers) blocks =
-    all_turn w0.takers.items w1.takers.items e long ∙ ap (λ k. in_turn k blocks) (sym n0) in
-    record {
-      number = feeding.number ∙ same.number ∙ job.number;
-      takers = ap (λ (x : Vec (Taker Item) Global). vec_len x) feeding.takers ∙ same.takers ∙ job.takers;
-      blocks = blocks;
-      took = λ g d m. (
-          let few : g < length w0.takers.items = omega (arith, m, n0) in
-          let fewer : g < length w1.takers.items = omega (arith, few, long) in
-          ap (λ (x : Vec (Taker Item) Global). taken (get_or x.items g d)) feeding.takers ∙ same.taken g d ∙ (job.worked.took g d few).round
-          ∙ ap (λ x. taken (get_or w0.takers.items g d) ++ round_of (new_blocks x (get_or w1.takers.items g d)))
-          (get_or_default w0.takers.items g d e few)
-          ∙ ap (λ x. taken (get_or w0.takers.items g d) ++ round_of (new_blocks (get_or w0.takers.items g e) x))
-          (get_or_default w1.takers.items g d e fewer));
-      ends = λ g d m. subst (λ (x : Vec (Taker Item) Global). IsSameTaker (get_or w0.takers.items g d) (get_or x.items g d))
-          (sym feeding.takers)
-          (same_takers (get_or w0.takers.items g d) (get_or w1.takers.items g d) (get_or w2.takers.items g d)
-          (job.worked.took g d (omega (arith, m, n0))).same (same.ends g d));
-      units = job.worked.units;
-      counts = subst (λ fs. AreCounts fs job.worked.units) all job.worked.counts;
-      fed = feeding.fed ∙ same.back.0 ∙ job.worked.fed;
-      same = same_feeders w0.back w2.back w3.back (same_feeders w0.back w1.back w2.back job.worked.same same.back.1) feeding.same;
-    }
+pub worker_ran : (w0 w1 w2 w3 : Worker) → WorkJob w0 w1 → SameWork w1 w2 → SameFeeding w2 w3 → WorkerRan w0 w3
+worker_ran w0 w1 w2 w3 job same feeding = record {
+  number = feeding.number ∙ same.number ∙ job.number;
+  takers = ap (λ (x : Vec (Taker Item) Global). vec_len x) feeding.takers ∙ same.takers ∙ job.takers;
+  blocks = job.blocks;
+  took = λ g d m. ap (λ (x : Vec (Taker Item) Global). taken (get_or x.items g d)) feeding.takers ∙ same.taken g d ∙ job.took g d m;
+  ends = λ g d m. subst (λ (x : Vec (Taker Item) Global). IsSameTaker (get_or w0.takers.items g d) (get_or x.items g d))
+      (sym feeding.takers)
+      (same_takers (get_or w0.takers.items g d) (get_or w1.takers.items g d) (get_or w2.takers.items g d) (job.ends g d) (same.ends g d));
+  units = job.units;
+  counts = job.counts;
+  fed = feeding.fed ∙ same.back.0 ∙ job.fed;
+  same = same_feeders w0.back w2.back w3.back (same_feeders w0.back w1.back w2.back job.same same.back.1) feeding.same;
+}

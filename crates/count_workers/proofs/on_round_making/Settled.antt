@@ -27,8 +27,8 @@ use Rattle.count_workers.specs.declared.block_workers.jobs.Reader.{Reader}
 use Rattle.count_workers.specs.declared.block_workers.worker.Worker.{Worker}
 use Rattle.count_workers.specs.block_workers.Dealing.{round_of, blocks_of_worker}
 use Rattle.count_workers.specs.block_workers.Reading.{AreBlocks, samples_of}
-use Rattle.count_workers.specs.block_workers.Working.{AreCounts, return_round}
-use Rattle.count_workers.specs.block_workers.Jobs.{CanRead, ReadJob, SameRead, WorkJob, SameWork, Fifo}
+use Rattle.count_workers.specs.block_workers.Working.{in_turn, AreCounts, return_round, WorkJob}
+use Rattle.count_workers.specs.block_workers.Jobs.{CanRead, ReadJob, SameRead, SameWork, Fifo}
 use Rattle.count_workers.proofs.on_block_workers.Accounts.{even_round, even_return, blocks_ascend}
 use Rattle.count_workers.specs.declared.collector.collecting.Return.{Return}
 use Rattle.count_workers.specs.collector.Collecting.{IsCollected}
@@ -38,7 +38,8 @@ use Rattle.count_workers.specs.lane_loans.Lent.{LendsSource, blanks_at, ReturnsS
 use Rattle.count_workers.specs.round_making.Resting.{PreparedValue, IsResting, RestingReader, RestingWorker, RestingReturn, IsEven, value_of, rings_of}
 use Rattle.count_workers.specs.round_making.Round.{LaneDone, FrontDone, RingDone, RoundDone, flow_of}
 use Rattle.count_workers.proofs.on_lane_loans.Walking.{map_at, some_of}
-use Rattle.count_workers.proofs.on_round_accounts.Lists.{in_turn, turn_same, choose, chosen}
+use Rattle.count_workers.proofs.on_block_workers.Steps.{turn_same}
+use Rattle.count_workers.proofs.on_round_accounts.Lists.{choose, chosen}
 use Rattle.count_workers.proofs.on_round_accounts.Taken.{AreTaken, taken_long, taken_once, taken_fit, taken_kind, taken_known, taken_stand, blocks_reach}
 use Rattle.count_workers.proofs.on_round_making.Ran.{LaneRan, lane_ran, WorkerRan, worker_ran}
 use Rattle.std.specs.Prelude.{ℤ, pos, replicate, slice_range}
@@ -173,9 +174,7 @@ module _ {C : Type 0} (tells : Type 0) (left : C → List ℕ) (faults : C → �
 
   pub worker_at : (v : ℕ) → v < workers → WorkerRan (get_or ws0 v w) (get_or ws3 v w)
   worker_at v m =
-      let rest = s.resting.each_worker v w m in
-      worker_ran (get_or ws0 v w) (get_or ws1 v w) (get_or ws2 v w) (get_or ws3 v w) (let e = rest.takers in
-      omega (arith, e, s.resting.gauges_few.0)) (s.worked v w m) (s.still_work v w)
+      worker_ran (get_or ws0 v w) (get_or ws1 v w) (get_or ws2 v w) (get_or ws3 v w) (s.worked v w m) (s.still_work v w)
       (s.fed_back v w (omega (arith, m, s.ran_long.1, s.still_long.1)))
 
   pub wide : (v : ℕ) (m : v < workers) → vec_len (get_or ws0 v w).takers ≡ n

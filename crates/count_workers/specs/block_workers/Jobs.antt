@@ -1,10 +1,9 @@
--- What a round does to its readers and workers.
+-- What a round does to its readers and to both ends of the rings.
 --   CanRead, ReadJob                       a reader before and after a round
 --   NotRead                                a lane that had ended: nothing but marks
---   CanWork, WorkJob                       a worker before and after a round
 --   SameRead, SameWork                     the same but for what its ends know of the rings
 --   RingAt, Fifo                           the ring of a gauge and a worker, and that what was fed was taken or is left
---   AllRead, AllWorked, AllRings, AllFifo  the same of all readers and workers
+--   AllRead, AllRings, AllFifo             the same of all readers and rings
 --   SameSource, SameSources                the source with the same number, and so of all readers
 use Rattle.std.specs.Prelude.{◌≡◌, ◌≢◌, ◌<◌, ◌≤◌, [], ℕ, List, ◌++◌, length, slice_index_or, vec_len, Option, Some, option_map}
 use Rattle.count_workers.specs.declared.gauge_ring.taker.Taker.{Taker}
@@ -20,9 +19,7 @@ use Rattle.board.specs.block_pool.Units.{IsBlank}
 use Rattle.count_workers.specs.declared.block_workers.desk.Desk.{Desk}
 use Rattle.count_workers.specs.block_workers.Dealing.{round_of}
 use Rattle.count_workers.specs.block_workers.Reading.{IsReady, ReadDone, SameDesk}
-use Rattle.count_workers.specs.block_workers.Working.{DrainsAllRings}
 use Rattle.board.specs.declared.flow.TheConstants.{BLOCKS_PER_WINDOW}
-use Rattle.calibration.specs.declared.limits.TheConstants.{MAX_GAUGES}
 
 -- a lane that had ended: nothing but marks
 pub record NotRead (old new : Desk) : Type 0 where
@@ -80,14 +77,6 @@ module _ {C : Type 0} where
     pub fifo : (d : Taker Item) (e : Feeder Item)
         → fed (slice_index_or r.desk.feeders.items v e) ≡ taken (slice_index_or w.takers.items g d) ++ left
 
-pub record CanWork (w : Worker) : Type 0 where
-  pub takers : vec_len w.takers ≤ MAX_GAUGES
-
-pub record WorkJob (old new : Worker) : Type 0 where
-  pub number : new.number ≡ old.number
-  pub takers : vec_len new.takers ≡ vec_len old.takers
-  pub worked : DrainsAllRings old.takers.items new.takers.items old.back new.back
-
 pub record SameWork (old new : Worker) : Type 0 where
   pub number : new.number ≡ old.number
   pub back : (fed new.back ≡ fed old.back) × IsSameFeeder old.back new.back
@@ -109,9 +98,6 @@ SameSource number before now = option_map number now ≡ option_map number befor
 abbrev pub SameSources : {C : Type 0} → (C → ℕ) → List (Reader C) → List (Reader C) → Type 0
 SameSources number olds news = (g : ℕ) (d : _) → g < length olds
     → SameSource number (slice_index_or olds g d).src (slice_index_or news g d).src
-
-abbrev pub AllWorked : List Worker → List Worker → Type 0
-AllWorked olds news = (v : ℕ) (d : _) → v < length olds → WorkJob (slice_index_or olds v d) (slice_index_or news v d)
 
 -- a ring of each gauge and each worker
 abbrev pub AllRings : {C : Type 0} → List Worker → List (Reader C) → Type 0

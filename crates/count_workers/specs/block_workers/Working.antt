@@ -1,31 +1,29 @@
 -- What a worker does in a round.
-use Rattle.std.specs.Prelude.{◌≡◌, ◌<◌, ℕ, List, [], ◌∷◌, ◌++◌, length, map, drop, slice_index_or}
+--   in_turn                   the lists of the first n gauges, one after another
+--   AreCounts                 the units, counted
+--   return_round              a round of a return ring
+--   GivesCounts               the counts of some units were fed back
+--   CanWork                   a worker that may work
+--   WorkedSoFar               what was taken since a round began, ring after ring, was counted and fed back
+--   WorksOn, EndsWork         the same and more; all of it, and the mark
+--   WorkJob                   a worker's round
+--   AllBegun, AllEnd, AllWorked    the same of each worker, by number
+use Rattle.std.specs.Prelude.{◌≡◌, ◌<◌, ◌≤◌, ℕ, zero, suc, List, [], ◌∷◌, ◌++◌, length, map, slice_index_or, vec_len}
 use Rattle.count_workers.specs.declared.gauge_ring.taker.Taker.{Taker}
 use Rattle.count_workers.specs.declared.gauge_ring.feeder.Feeder.{Feeder}
 use Rattle.count_workers.specs.gauge_ring.Ends.{fed, taken, IsSameFeeder, IsSameTaker}
 use Rattle.board.specs.block_pool.Units.{FilledValue, CountedValue, IsCountOf}
+use Rattle.calibration.specs.declared.limits.TheConstants.{MAX_GAUGES}
 use Rattle.count_workers.specs.declared.block_workers.item.Item.{Item}
-use Rattle.count_workers.specs.declared.block_workers.item.Item.TheVariants.{Block, Mark}
 use Rattle.count_workers.specs.declared.block_workers.item.Back.{Back}
 use Rattle.count_workers.specs.declared.block_workers.item.Back.TheVariants.{Unit, Over}
-use Rattle.count_workers.specs.block_workers.Dealing.{round_of}
+use Rattle.count_workers.specs.declared.block_workers.worker.Worker.{Worker}
+use Rattle.count_workers.specs.block_workers.Dealing.{block_of, round_of}
 
--- the blocks among the items
-abbrev pub blocks_in : List Item → List FilledValue
-blocks_in [] = []
-blocks_in (Block u ∷ l) = u ∷ blocks_in l
-blocks_in (Mark ∷ l) = blocks_in l
+abbrev pub in_turn : {A : Type 0} → ℕ → (ℕ → List A) → List A
+in_turn zero f = []
+in_turn (suc n) f = in_turn n f ++ f n
 
--- the blocks that were taken between the two
-abbrev pub new_blocks : Taker Item → Taker Item → List FilledValue
-new_blocks old new = blocks_in (drop (length (taken old)) (taken new))
-
-abbrev pub all_new : List (Taker Item) → List (Taker Item) → List FilledValue
-all_new [] ns = []
-all_new (o ∷ os) [] = []
-all_new (o ∷ os) (n ∷ ns) = new_blocks o n ++ all_new os ns
-
--- the units, counted
 pub data AreCounts : List FilledValue → List CountedValue → Type 0 where
   nil : AreCounts [] []
   one : {f : FilledValue} {c : CountedValue} {fs : List FilledValue} {cs : List CountedValue} → IsCountOf f c →
@@ -39,10 +37,6 @@ back_of c = Unit c
 abbrev pub return_round : List CountedValue → List Back
 return_round cs = map back_of cs ++ Over ∷ []
 
-pub record TakesBlocks (old new : Taker Item) : Type 0 where
-  pub round : taken new ≡ taken old ++ round_of (new_blocks old new)
-  pub same : IsSameTaker old new
-
 -- the counts of these units were fed back, in order
 pub record GivesCounts (old new : Feeder Back) (fs : List FilledValue) : Type 0 where
   pub units : List CountedValue
@@ -50,14 +44,52 @@ pub record GivesCounts (old new : Feeder Back) (fs : List FilledValue) : Type 0 
   pub fed : fed new ≡ fed old ++ map back_of units
   pub same : IsSameFeeder old new
 
-pub record DrainsRing (old new : Taker Item) (before now : Feeder Back) : Type 0 where
-  pub took : TakesBlocks old new
-  pub gave : GivesCounts before now (new_blocks old new)
+pub record CanWork (w : Worker) : Type 0 where
+  pub takers : vec_len w.takers ≤ MAX_GAUGES
 
--- what was taken from each ring, counted and fed back, and then the mark
-pub record DrainsAllRings (old new : List (Taker Item)) (before now : Feeder Back) : Type 0 where
-  pub took : (g : ℕ) (d : Taker Item) → g < length old → TakesBlocks (slice_index_or old g d) (slice_index_or new g d)
+-- Rings before the one that it is at were taken to their marks, and none behind it was begun.
+pub record WorkedSoFar (old now : Worker) : Type 0 where
+  pub number : now.number ≡ old.number
+  pub takers : vec_len now.takers ≡ vec_len old.takers
+  pub ends : (g : ℕ) (d : Taker Item) →
+      IsSameTaker (slice_index_or old.takers.items g d) (slice_index_or now.takers.items g d)
+  pub blocks : ℕ → List FilledValue
+  pub marked : (g : ℕ) (d : Taker Item) → g < now.gauge → taken (slice_index_or now.takers.items g d)
+      ≡ taken (slice_index_or old.takers.items g d) ++ round_of (blocks g)
+  pub unmarked : (g : ℕ) (d : Taker Item) → now.gauge ≤ g → taken (slice_index_or now.takers.items g d)
+      ≡ taken (slice_index_or old.takers.items g d) ++ map block_of (blocks g)
+  pub later : (g : ℕ) → now.gauge < g → blocks g ≡ []
+  pub within : now.gauge ≤ vec_len old.takers
+  pub ended : now.gauge ≡ vec_len old.takers → blocks now.gauge ≡ []
+  pub gave : GivesCounts old.back now.back (in_turn now.gauge blocks ++ blocks now.gauge)
+
+-- what was taken from each ring, ring after ring, was counted and fed back, and then the mark
+pub record WorkJob (old new : Worker) : Type 0 where
+  pub number : new.number ≡ old.number
+  pub takers : vec_len new.takers ≡ vec_len old.takers
+  pub ends : (g : ℕ) (d : Taker Item) →
+      IsSameTaker (slice_index_or old.takers.items g d) (slice_index_or new.takers.items g d)
+  pub blocks : ℕ → List FilledValue
+  pub took : (g : ℕ) (d : Taker Item) → g < vec_len old.takers → taken (slice_index_or new.takers.items g d)
+      ≡ taken (slice_index_or old.takers.items g d) ++ round_of (blocks g)
   pub units : List CountedValue
-  pub counts : AreCounts (all_new old new) units
-  pub fed : fed now ≡ fed before ++ return_round units
-  pub same : IsSameFeeder before now
+  pub counts : AreCounts (in_turn (vec_len old.takers) blocks) units
+  pub fed : fed new.back ≡ fed old.back ++ return_round units
+  pub same : IsSameFeeder old.back new.back
+
+-- of whatever beginning
+pub record WorksOn (old new : Worker) : Type 0 where
+  pub takers : vec_len new.takers ≡ vec_len old.takers
+  pub on : (first : Worker) → WorkedSoFar first old → WorkedSoFar first new
+
+pub record EndsWork (old new : Worker) : Type 0 where
+  pub to_end : (first : Worker) → WorkedSoFar first old → WorkJob first new
+
+abbrev pub AllBegun : List Worker → List Worker → Type 0
+AllBegun olds news = (v : ℕ) (d : _) → v < length olds → WorkedSoFar (slice_index_or olds v d) (slice_index_or news v d)
+
+abbrev pub AllEnd : List Worker → List Worker → Type 0
+AllEnd olds news = (v : ℕ) (d : _) → v < length olds → EndsWork (slice_index_or olds v d) (slice_index_or news v d)
+
+abbrev pub AllWorked : List Worker → List Worker → Type 0
+AllWorked olds news = (v : ℕ) (d : _) → v < length olds → WorkJob (slice_index_or olds v d) (slice_index_or news v d)

@@ -5,6 +5,7 @@
 --   IsCollectedSoFar  what came from all rings so far: a mix of the workers' units, deposited in this order
 --   CollectsMore      what was collected before, and what came since
 --   IsCollected       the same where the mark of each ring came
+--   CollectsRest      what was collected before, and what came until each ring's mark
 use Rattle.std.specs.Prelude.{◌≡◌, ◌⊎◌, ◌<◌, ℕ, List, [], ◌∷◌, ◌++◌, length, map, slice_index_or, true, false}
 use Rattle.count_workers.specs.gauge_ring.Ends.{taken, IsSameTaker}
 use Rattle.board.specs.block_pool.Units.{CountedValue, PoolValue}
@@ -67,3 +68,7 @@ pub record IsCollected (b c : BoardValue) (p q : PoolValue) (old new : List Retu
   pub units : List CountedValue
   pub mixed : IsMixOf (length old) lists units
   pub deposited : DepositsUnits b c p q units
+
+abbrev pub CollectsRest : BoardValue → BoardValue → PoolValue → PoolValue → List Return → List Return → Type 0
+CollectsRest c d q r before now = (b : BoardValue) (p : PoolValue) (old : List Return) →
+    IsCollectedSoFar b c p q old before → IsCollected b d p r old now

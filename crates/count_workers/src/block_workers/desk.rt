@@ -1,15 +1,14 @@
-ghost use Rattle.std.specs.Prelude.{◌≡◌, ◌≢◌, true, false, ◌-◌, ◌*◌, ◌≤◌, ◌<◌};
+ghost use Rattle.std.specs.Prelude.{◌≡◌, ◌≢◌, true, false, ◌-◌, ◌≤◌, ◌<◌};
 ghost use Rattle.outside.specs.Fault.{CountRose};
 ghost use Rattle.recording.specs.declared.lane_ends.end.End.TheVariants.{More, ReadFault};
 ghost use Rattle.count_workers.specs.block_workers.Jobs.{NotRead};
-ghost use Rattle.count_workers.specs.block_workers.Reading.{OneRead, IsReadSoFar, ReadDone, IsReady, BlocksOfRound};
+ghost use Rattle.count_workers.specs.block_workers.Reading.{OneRead, IsReady};
 ghost use Rattle.board.specs.declared.flow.TheConstants.{BLOCKS_PER_WINDOW};
 
 use crate::block_workers::Item;
 use crate::block_workers::waits::{deal, mark_all};
 use crate::gauge_ring::Feeder;
 use board::block_pool::Blank;
-use board::flow::BLOCKS_PER_WINDOW;
 use calibration::{Gain, Grid, MAX_SAMPLES};
 use outside::Source;
 use recording::lane_ends::{End, read_samples};
@@ -47,8 +46,8 @@ fn may_go_on(end: End) -> bool
     }
 }
 
-// Reads one block and deals it. Answers whether it was a whole one, after which more may follow.
-fn read_block<R: Wait, C: Source>(rt: &R, src: &mut C, desk: &mut Desk, number: u64) -> bool
+/// Reads one block and deals it. Answers whether it was a whole one, after which more may follow.
+pub fn read_block<R: Wait, C: Source>(rt: &R, src: &mut C, desk: &mut Desk, number: u64) -> bool
     requires ready { IsReady desk.old (BLOCKS_PER_WINDOW - number) }
     requires number { number < BLOCKS_PER_WINDOW }
     ensures read { OneRead C.tells (C.left src.old) (C.left src.new)
@@ -73,38 +72,7 @@ fn read_block<R: Wait, C: Source>(rt: &R, src: &mut C, desk: &mut Desk, number: 
     may_go_on(given.end)
 }
 
-// Reads the blocks of a round, and deals them.
-fn read_blocks<R: Wait, C: Source>(rt: &R, src: &mut C, desk: &mut Desk)
-    requires ready { IsReady desk.old BLOCKS_PER_WINDOW }
-    ensures read { IsReadSoFar C.tells (C.left src.old) (C.left src.new) desk.old desk.new
-        (BLOCKS_PER_WINDOW * desk.old.block) (BlocksOfRound desk.old desk.new) }
-    ensures cause { desk.new.end ≡ ReadFault → CountRose (C.faults src.old) (C.faults src.new) }
-    ensures later { C.faults src.old ≤ C.faults src.new }
-    ensures number { C.number src.new ≡ C.number src.old }
-{
-    for number in 0..BLOCKS_PER_WINDOW as u64 {
-        if !read_block(rt, src, desk, number) {
-            return;
-        }
-    }
-}
-
-/// Reads up to 16 blocks of a lane, deals block `b` to the ring of worker `b` mod the number of
-/// workers, and ends the round of each ring by a mark. Only the last block may be shorter than
-/// `block`; `end` tells why fewer came. A sample past the limit of a recording is taken, and not
-/// among the blocks.
-pub fn read_lane<R: Wait, C: Source>(rt: &R, src: &mut C, desk: &mut Desk)
-    requires ready { IsReady desk.old BLOCKS_PER_WINDOW }
-    ensures read { ReadDone C.tells (C.left src.old) (C.left src.new) desk.old desk.new }
-    ensures cause { desk.new.end ≡ ReadFault → CountRose (C.faults src.old) (C.faults src.new) }
-    ensures later { C.faults src.old ≤ C.faults src.new }
-    ensures number { C.number src.new ≡ C.number src.old }
-{
-    read_blocks(rt, src, desk);
-    mark_all(rt, desk.feeders.as_mut_slice());
-}
-
-/// Ends the round of each ring of a lane that is not read.
+/// Ends the round of each ring of a lane.
 pub fn mark_lane<R: Wait>(rt: &R, desk: &mut Desk)
     ensures { NotRead desk.old desk.new }
 {

@@ -1,14 +1,9 @@
 ghost use Rattle.std.specs.Prelude.{◌≡◌, ◌<◌, ◌≤◌, ℕ, length, vec_len, slice_index_or};
-ghost use Rattle.std.specs.List.{All};
-ghost use Rattle.count_workers.specs.block_workers.Jobs.{CanRead, ReadJob, AllRead, SameSource, SameSources, CanWork, WorkJob, AllWorked, SameRead, SameWork, RingAt, AllRings, Fifo, AllFifo};
+ghost use Rattle.count_workers.specs.block_workers.Jobs.{SameRead, SameWork, RingAt, AllRings, Fifo, AllFifo};
 
-use crate::block_workers::desk::{Desk, mark_lane, read_lane};
-use crate::block_workers::worker::{Worker, work};
-use outside::{Gate, Source};
-use recording::lane_ends::End;
-use std::sync::Wait;
-use std::thread;
-use std::thread::Threads;
+use crate::block_workers::desk::Desk;
+use crate::block_workers::worker::Worker;
+use outside::Source;
 
 /// What reads a lane.
 #[derive(Drop)]
@@ -17,93 +12,6 @@ pub struct Reader<C: Source> {
     pub src: Option<C>,
     /// All that it has besides.
     pub desk: Desk,
-}
-
-// The round of one reader. A lane that has ended is not read again.
-fn run_reader<R: Wait, C: Source>(rt: &R, reader: &mut Reader<C>)
-    requires { CanRead reader.old }
-    ensures job { ReadJob C.tells C.left C.faults reader.old reader.new }
-    ensures source { SameSource C.number reader.old.src reader.new.src }
-{
-    let Some(src) = &mut reader.src else {
-        unreachable!()
-    };
-    if reader.desk.end == End::More {
-        read_lane(rt, src, &mut reader.desk);
-    } else {
-        mark_lane(rt, &mut reader.desk);
-    }
-}
-
-// The round of one worker.
-fn run_worker<R: Wait, G: Gate>(rt: &R, gate: &G, worker: &mut Worker)
-    requires { CanWork worker.old }
-    ensures { WorkJob worker.old worker.new }
-{
-    work(
-        rt,
-        gate,
-        worker.number,
-        worker.takers.as_mut_slice(),
-        &mut worker.back,
-    );
-}
-
-// The rounds of all readers, on so many threads at most.
-fn run_readers<R: Threads + Wait + Sync, C: Source + Send>(
-    rt: &R,
-    readers: &mut [Reader<C>],
-    threads: usize,
-)
-    requires ready { All CanRead readers.old }
-    requires threads { 0 < threads }
-    ensures readers { AllRead C.tells C.left C.faults readers.old readers.new }
-    ensures sources { SameSources C.number readers.old readers.new }
-{
-    thread::for_each_mut(
-        rt,
-        readers,
-        threads,
-        &|_, reader|
-            requires { CanRead reader.old }
-        { run_reader(rt, reader) },
-    );
-}
-
-// The rounds of all workers, each on a thread of its own.
-fn run_workers<R: Threads + Wait + Sync, G: Gate + Sync>(rt: &R, gate: &G, workers: &mut [Worker])
-    requires { All CanWork workers.old }
-    ensures { AllWorked workers.old workers.new }
-{
-    if workers.is_empty() {
-        return;
-    }
-    let threads = workers.len();
-    thread::for_each_mut(
-        rt,
-        workers,
-        threads,
-        &|_, worker| run_worker(rt, gate, worker),
-    );
-}
-
-/// The round of all readers, and then of all workers, each time on as many threads as there are
-/// workers. A ring has room for a whole round, so the readers wait for no worker; and when the
-/// workers begin, all that they take is there.
-pub fn run_all<R: Threads + Wait + Sync, C: Source + Send, G: Gate + Sync>(
-    rt: &R,
-    gate: &G,
-    workers: &mut [Worker],
-    readers: &mut [Reader<C>],
-)
-    requires read { All CanRead readers.old }
-    requires work { All CanWork workers.old }
-    ensures readers { AllRead C.tells C.left C.faults readers.old readers.new }
-    ensures sources { SameSources C.number readers.old readers.new }
-    ensures workers { AllWorked workers.old workers.new }
-{
-    run_readers(rt, readers, workers.len().max(1));
-    run_workers(rt, gate, workers);
 }
 
 // Looks at both ends of one ring.

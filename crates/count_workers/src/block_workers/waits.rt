@@ -1,9 +1,9 @@
 ghost use Rattle.std.specs.Prelude.{◌≡◌, ◌<◌, ◌++◌, ◌∷◌, [], length};
-ghost use Rattle.count_workers.specs.gauge_ring.Ends.{fed, taken, IsSameFeeder, IsSameTaker};
+ghost use Rattle.count_workers.specs.gauge_ring.Ends.{fed, IsSameFeeder};
 ghost use Rattle.count_workers.specs.block_workers.Dealing.{FeedsOneRing, MarksAll};
 
 use crate::block_workers::Item;
-use crate::gauge_ring::{Feeder, Taker};
+use crate::gauge_ring::Feeder;
 use std::sync::Wait;
 use std::thread;
 
@@ -17,20 +17,6 @@ pub fn feed_waiting<T>(rt: &impl Wait, feeder: &mut Feeder<T>, item: T)
         match feeder.feed(item) {
             Ok(()) => return,
             Err(back) => item = back,
-        }
-        thread::yield_now();
-    }
-    unreachable!()
-}
-
-/// Takes the next item, however often it has to be tried.
-pub fn take_waiting<T>(rt: &impl Wait, taker: &mut Taker<T>) -> T
-    ensures same { IsSameTaker taker.old taker.new }
-    ensures taken { taken taker.new ≡ taken taker.old ++ result ∷ [] }
-{
-    for _ in rt.forever() {
-        if let Some(item) = taker.take() {
-            return item;
         }
         thread::yield_now();
     }

@@ -1,5 +1,5 @@
 ghost use Rattle.std.specs.Prelude.{◌≡◌, ◌<◌, ℕ, length, slice_index_or, true, false};
-ghost use Rattle.count_workers.specs.collector.Collecting.{AllAwaited, LooksAtRing, CollectsMore, IsCollected};
+ghost use Rattle.count_workers.specs.collector.Collecting.{AllAwaited, LooksAtRing, CollectsMore, CollectsRest, IsCollected};
 
 use crate::block_workers::Back;
 use crate::gauge_ring::Taker;
@@ -40,8 +40,8 @@ fn look(board: &mut Board, pool: &mut Pool, back: &mut Return) -> bool
     }
 }
 
-// Looks once at each return ring, in turn. Answers whether anything came.
-fn look_at_all(board: &mut Board, pool: &mut Pool, returns: &mut [Return]) -> bool
+/// Looks once at each return ring, in turn. Answers whether anything came.
+pub fn look_at_all(board: &mut Board, pool: &mut Pool, returns: &mut [Return]) -> bool
     requires grid { board.old.grid ≡ pool.old.grid }
     ensures more { CollectsMore board.old board.new pool.old pool.new returns.old returns.new }
     ensures grid { board.new.grid ≡ pool.new.grid }
@@ -67,11 +67,19 @@ fn all_marked(returns: &[Return]) -> bool
 }
 
 /// Takes the return rings in turn until each one's mark, deposits each unit as it comes, and gives
-/// it back to the pool. Yields after a turn in which nothing came.
+/// it back to the pool.
 pub fn collect<R: Wait>(rt: &R, board: &mut Board, pool: &mut Pool, returns: &mut [Return])
     requires grid { board.old.grid ≡ pool.old.grid }
     requires awaited { AllAwaited returns.old }
     ensures { IsCollected board.old board.new pool.old pool.new returns.old returns.new }
+{
+    collect_rest(rt, board, pool, returns);
+}
+
+/// The same of rings of which some was taken before. Yields after a turn in which nothing came.
+pub fn collect_rest<R: Wait>(rt: &R, board: &mut Board, pool: &mut Pool, returns: &mut [Return])
+    requires grid { board.old.grid ≡ pool.old.grid }
+    ensures { CollectsRest board.old board.new pool.old pool.new returns.old returns.new }
 {
     for _ in rt.forever() {
         if all_marked(returns) {

@@ -4,10 +4,9 @@ ghost use Rattle.count_workers.specs.lane_loans.Lent.{CanRound};
 ghost use Rattle.count_workers.specs.round_making.Round.{RoundDone, SourcesBack};
 
 use crate::block_workers::{Reader, Worker, settle_all};
-use crate::collector::{Return, run_round, settle_returns};
+use crate::collector::{Depot, Return, settle_returns};
 use crate::lane_loans::{Lane, begin_windows, lend_lanes, return_lanes};
-use board::Board;
-use board::block_pool::Pool;
+use crate::running::run_round;
 use outside::{Gate, Source};
 use std::sync::Wait;
 use std::thread::Threads;
@@ -16,27 +15,29 @@ use std::thread::Threads;
 pub fn make_round<R: Threads + Wait + Sync, C: Source + Send, G: Gate + Sync>(
     rt: &R,
     gate: &G,
-    pool: &mut Pool,
-    board: &mut Board,
+    depot: &mut Depot,
     readers: &mut [Reader<C>],
     workers: &mut [Worker],
     returns: &mut [Return],
     lanes: &mut [Lane<C>],
 )
-    requires resting { IsResting pool.old board.old readers.old workers.old returns.old }
+    requires resting { IsResting depot.old.pool depot.old.board
+        readers.old workers.old returns.old }
     requires long { length lanes.old ≡ length readers.old }
     requires lanes { (g : ℕ) (d : _) → g < length lanes.old
         → CanRound g (slice_index_or lanes.old g d) }
-    ensures resting { IsResting pool.new board.new readers.new workers.new returns.new }
+    ensures resting { IsResting depot.new.pool depot.new.board
+        readers.new workers.new returns.new }
     ensures done { RoundDone C.tells C.left C.faults
-        (value_of pool.old board.old readers.old workers.old)
-        (value_of pool.new board.new readers.new workers.new) lanes.old lanes.new }
+        (value_of depot.old.pool depot.old.board readers.old workers.old)
+        (value_of depot.new.pool depot.new.board readers.new workers.new)
+        lanes.old lanes.new }
     ensures sources { SourcesBack C.number lanes.old lanes.new }
 {
-    begin_windows(board, lanes);
-    lend_lanes(readers, lanes, pool);
-    run_round(rt, gate, board, pool, returns, workers, readers);
+    begin_windows(&mut depot.board, lanes);
+    lend_lanes(readers, lanes, &mut depot.pool);
+    run_round(rt, gate, depot, returns, workers, readers);
     settle_all(workers, readers);
     settle_returns(returns, workers);
-    return_lanes(readers, lanes, pool);
+    return_lanes(readers, lanes, &mut depot.pool);
 }

@@ -27,9 +27,8 @@ settle_all-requires-clause-rings g c κs within = λ v h d e m k.
     let few : h < length c.args.readers.now = omega (arith, k, readers) in
     let mine : v < length c.args.workers.now = omega (arith, m, workers) in
     let l = some_of c.args.lanes.now (omega (arith, few, c.requires.long)) in
-    let wide = (c.requires.resting.each_worker v d mine).takers in
     ring_so_far g.C.Source.tells g.C.Source.left g.C.Source.faults (length c.args.workers.now) h v _ _ _ _ _ _ _ mine
-    (omega (arith, few, wide)) (c.requires.resting.each_reader h e few).feeders (c.lend_lanes.ensures.lent h e l few)
+    (c.requires.resting.each_reader h e few).feeders (c.lend_lanes.ensures.lent h e l few)
     (c.run_round.ensures.readers h e (omega (arith, few, c.lend_lanes.ensures.long.0))) (c.run_round.ensures.workers v d mine)
     (c.requires.resting.rings v h d e mine few).one
 
@@ -43,29 +42,29 @@ settle_returns-requires-clause-rings g c = λ v d e m.
 
 pub return_lanes-requires-clause-fit : goal.return_lanes-requires-clause-fit
 return_lanes-requires-clause-fit g c κs within =
-    fit_all g.C.Source.tells g.C.Source.left g.C.Source.faults c.args.pool.now c.lend_lanes.new.pool c.run_round.new.pool c.args.board.now
-    c.begin_windows.new.board c.run_round.new.board c.args.readers.now c.lend_lanes.new.readers c.run_round.new.readers
+    fit_all g.C.Source.tells g.C.Source.left g.C.Source.faults c.args.depot.now.pool c.lend_lanes.new.pool c.run_round.new.depot.pool c.args.depot.now.board
+    c.begin_windows.new.board c.run_round.new.depot.board c.args.readers.now c.lend_lanes.new.readers c.run_round.new.readers
     c.settle_all.new.readers c.args.workers.now c.run_round.new.workers c.settle_all.new.workers c.settle_returns.new.workers
     c.args.returns.now c.run_round.new.returns c.settle_returns.new.returns c.args.lanes.now c.lend_lanes.new.lanes (search rules)
 
 pub return_lanes-requires-clause-room : goal.return_lanes-requires-clause-room
 return_lanes-requires-clause-room g c κs within =
-    room_all g.C.Source.tells g.C.Source.left g.C.Source.faults c.args.pool.now c.lend_lanes.new.pool c.run_round.new.pool c.args.board.now
-    c.begin_windows.new.board c.run_round.new.board c.args.readers.now c.lend_lanes.new.readers c.run_round.new.readers
+    room_all g.C.Source.tells g.C.Source.left g.C.Source.faults c.args.depot.now.pool c.lend_lanes.new.pool c.run_round.new.depot.pool c.args.depot.now.board
+    c.begin_windows.new.board c.run_round.new.depot.board c.args.readers.now c.lend_lanes.new.readers c.run_round.new.readers
     c.settle_all.new.readers c.args.workers.now c.run_round.new.workers c.settle_all.new.workers c.settle_returns.new.workers
     c.args.returns.now c.run_round.new.returns c.settle_returns.new.returns c.args.lanes.now c.lend_lanes.new.lanes (search rules)
 
 pub returns-clause-resting : goal.returns-clause-resting
-returns-clause-resting g c = rests g.C.Source.tells g.C.Source.left g.C.Source.faults c.args.pool.now c.lend_lanes.new.pool
-    c.run_round.new.pool c.args.board.now c.begin_windows.new.board c.run_round.new.board c.args.readers.now c.lend_lanes.new.readers
+returns-clause-resting g c = rests g.C.Source.tells g.C.Source.left g.C.Source.faults c.args.depot.now.pool c.lend_lanes.new.pool
+    c.run_round.new.depot.pool c.args.depot.now.board c.begin_windows.new.board c.run_round.new.depot.board c.args.readers.now c.lend_lanes.new.readers
     c.run_round.new.readers c.settle_all.new.readers c.args.workers.now c.run_round.new.workers c.settle_all.new.workers
     c.settle_returns.new.workers c.args.returns.now c.run_round.new.returns c.settle_returns.new.returns c.args.lanes.now
     c.lend_lanes.new.lanes (search rules) c.return_lanes.new.pool c.return_lanes.new.readers c.return_lanes.new.lanes
     c.return_lanes.ensures.returned c.return_lanes.ensures.long c.return_lanes.ensures.pool
 
 pub returns-clause-done : goal.returns-clause-done
-returns-clause-done g c = done g.C.Source.tells g.C.Source.left g.C.Source.faults c.args.pool.now c.lend_lanes.new.pool
-    c.run_round.new.pool c.args.board.now c.begin_windows.new.board c.run_round.new.board c.args.readers.now c.lend_lanes.new.readers
+returns-clause-done g c = done g.C.Source.tells g.C.Source.left g.C.Source.faults c.args.depot.now.pool c.lend_lanes.new.pool
+    c.run_round.new.depot.pool c.args.depot.now.board c.begin_windows.new.board c.run_round.new.depot.board c.args.readers.now c.lend_lanes.new.readers
     c.run_round.new.readers c.settle_all.new.readers c.args.workers.now c.run_round.new.workers c.settle_all.new.workers
     c.settle_returns.new.workers c.args.returns.now c.run_round.new.returns c.settle_returns.new.returns c.args.lanes.now
     c.lend_lanes.new.lanes (search rules) c.return_lanes.new.pool c.return_lanes.new.readers c.return_lanes.new.lanes
