@@ -25,7 +25,7 @@ use Rattle.count_command.proofs.FaultTold.{safe_fault, fault_below}
 use Rattle.count_command.proofs.Pacing.{paced_begins, paced_fault}
 use Rattle.count_command.proofs.Resumed.{safe_starts}
 use Rattle.count_command.proofs.Whole.{answers_read, not_write_read, not_disk_read, not_usage_read}
-use Rattle.count_command.proofs.WithoutMemory.{memory_still}
+use Rattle.count_command.proofs.WithoutMemory.{or_still}
 
 asks_unread : (a b : Asked) (names : List (List ℕ)) → AsksNothing a b → (s : Status) → IsRefusal s → CountAsks s a b names
 asks_unread a b names none = by_refusal (λ (s : Status). CountAsks s a b names) (λ f. none) (none_is_first a b names none) (inl none)
@@ -53,12 +53,12 @@ left_unread course before after s is only line told ends written asked means cau
           (truly_fault r first front before.told before.leaves s []
           (truly_begins r first front before.told before.leaves before.clock before.moments before.seen (only k)) (told k)).run;
       paced = λ k c bridge reads first front ends was.
-          paced_fault course bridge first front before.told before.leaves (fault_line s []) (line_for before s) line
-          (paced_begins course bridge first front before.told before.leaves before.clock before.moments before.seen _ (only k)) (told k);
+          paced_fault course s bridge first front ends before.told before.leaves (fault_line s []) (line_for before s) line
+          (paced_begins course s bridge first front ends before.told before.leaves before.clock before.moments before.seen (only k))
+          (told k);
       ended = λ k t c bridge reads a holds. held_early (recordings bridge before.files) after.leaves s early;
       cut = λ k t c bridge reads a holds none. cut_early (recordings bridge before.files) after.leaves s early;
-      memory = λ k t c bridge reads a holds none.
-          memory_still (recordings bridge before.files) after.leaves ([], told k) course s;
+      memory = λ k t c bridge reads a holds none. or_still ([], told k) _ s course;
       prints = λ o k t c bridge reads a holds.
           prints_early bridge (recordings bridge before.files).samples before.written after.written written s early;
       nothing = λ o other. written;
@@ -68,6 +68,7 @@ left_unread course before after s is only line told ends written asked means cau
           done_or_memory s (complete_read (config_of_bytes before.config) bridge reads s is (means c)) (λ e. config (cause e))
           (λ e. absurd (not_write_read s is e)) (λ e. absurd (not_disk_read s is e));
       quiet = λ k leaves. ([], told k);
+      opens = λ k t c. inl ([], told k);
       named = not_usage_read s is;
       refused = λ gauge fault is2. none;
       read = λ e. inl (cause e);

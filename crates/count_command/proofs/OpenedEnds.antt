@@ -6,7 +6,7 @@
 --   opened_untold    all have, and a line of what was seen was not told
 --   opened_printed   all have, what was seen was told, and the report was printed or was not
 --   made_as          what the rounds did, by their answer; held_all: that all is held
-use Rattle.std.proofs.Common.{◌≡◌, ◌≢◌, ◌≤◌, ◌<◌, inl, inr, ℕ, ℤ, List, length, refl, ◌∙◌, subst, arith}
+use Rattle.std.proofs.Common.{◌≡◌, ◌≢◌, ◌≤◌, ◌<◌, inr, ℕ, ℤ, List, length, refl, ◌∙◌, subst, arith}
 use Rattle.std.specs.List.{All}
 use Rattle.std.specs.Prelude.{Some, Result, Ok, Err, slice_index}
 use Rattle.outside.specs.Fault.{CountRose}
@@ -39,39 +39,26 @@ use Rattle.count_command.specs.held_samples.Going.{HoldsSince, IsStored, IsStore
 use Rattle.count_command.specs.held_samples.Pace.{Paced, window_of}
 use Rattle.count_command.specs.held_samples.Told.{Acknowledges}
 use Rattle.count_command.specs.held_rounds.Made.{RoundsMade}
-use Rattle.count_command.specs.watching.Seen.{TellsSeen, TellsOnlySeen}
+use Rattle.count_command.specs.watching.Seen.{TellsSeen, IsSeenLine, TellsOnlySeen}
 use Rattle.count_command.specs.Acknowledging.{AreShort, WhereCounted, TellsAll}
 use Rattle.count_command.specs.Answer.{IsEnding}
-use Rattle.count_command.specs.Holding.{HeldAt, HeldWithoutMemory, LeavesStore}
+use Rattle.count_command.specs.Holding.{HeldAt, LeavesStore, QuietOr}
 use Rattle.count_command.specs.Opened.{IsStill, OpenedRuns}
-use Rattle.count_command.specs.Pacing.{PacedBy}
+use Rattle.count_command.specs.Pacing.{MayTellSeen, PacedBy}
 use Rattle.count_command.specs.Printed.{AllStandFor, Prints}
 use Rattle.count_command.proofs.on_held_samples.Going.{going_starts, stored_beginning, stored_still, rose_since}
 use Rattle.count_command.proofs.on_held_samples.Pace.{paced_starts, paced_where}
 use Rattle.count_command.proofs.on_watching.OnlySeen.{going_seen}
 use Rattle.count_command.proofs.SeenOn.{paced_by, seen_paced}
+use Rattle.count_command.proofs.WithoutMemory.{or_still}
 use Rattle.count_command.proofs.AtEnd.{by_fault, ending, cut_printing, not_write, not_disk, read_lane, same_nothing, end_fault, end_printing, held_fault, held_limited, held_printing, all_held, are_whole, whole_cut, acknowledges, acknowledges_cut, told_starts, stand_for, fault_stored, printing_stored}
 
--- where no memory ran out, and where nothing was stored before it did
-memory_fault : (course : Course) (quiet : Type 0) (r : Recorded) (leaves : Image → Type 0) (g : ℕ) (e : End) (s : Status) →
-    lane_fault g e ≡ Some s → HeldWithoutMemory course s quiet r leaves
-memory_fault Count quiet r leaves g = by_fault (λ (s : Status). HeldWithoutMemory Count s quiet r leaves) g (λ b. tt) tt tt
-memory_fault Watch quiet r leaves g = by_fault (λ (s : Status). HeldWithoutMemory Watch s quiet r leaves) g (λ b. tt) tt tt
+-- where no memory ran out
+no_memory_fault : (course : Course) (P Q : Type 0) (g : ℕ) (e : End) (s : Status) → lane_fault g e ≡ Some s → QuietOr s course P Q
+no_memory_fault course P Q g = by_fault (λ (s : Status). QuietOr s course P Q) g (λ b. tt) tt tt
 
-memory_printing : (course : Course) (quiet : Type 0) (r : Recorded) (leaves : Image → Type 0) (s : Status) → IsPrinting s →
-    HeldWithoutMemory course s quiet r leaves
-memory_printing Count quiet r leaves = by_printing (λ (s : Status). HeldWithoutMemory Count s quiet r leaves) tt tt
-memory_printing Watch quiet r leaves = by_printing (λ (s : Status). HeldWithoutMemory Watch s quiet r leaves) tt tt
-
-memory_disk : (course : Course) (quiet : Type 0) (r : Recorded) (leaves : Image → Type 0) →
-    HeldWithoutMemory course DiskFault quiet r leaves
-memory_disk Count quiet r leaves = tt
-memory_disk Watch quiet r leaves = tt
-
-memory_quiet : (course : Course) (quiet : Type 0) (r : Recorded) (leaves : Image → Type 0) → quiet →
-    HeldWithoutMemory course OutOfMemory quiet r leaves
-memory_quiet Count quiet r leaves is = tt
-memory_quiet Watch quiet r leaves is = inl is
+no_memory_printed : (course : Course) (P Q : Type 0) (s : Status) → IsPrinting s → QuietOr s course P Q
+no_memory_printed course P Q = by_printing (λ (s : Status). QuietOr s course P Q) tt tt
 
 disk_stored : (course : Course) → LeavesStore course DiskFault → ⊥
 disk_stored Count leaves = leaves
@@ -83,36 +70,41 @@ tells_torn Count g b block r n told told2 a = a
 tells_torn Watch g b block r n told told2 a = a
 
 -- what is told and done behind the rounds
-abbrev pub GoesOn : {K : Type 0} → Course → station.Ghosts K → K → K → Type 0
-GoesOn Count v old new = old ≡ new
-GoesOn Watch v old new = TellsOnlySeen v old new
+abbrev pub GoesOn : {K : Type 0} → Course → station.Ghosts K → Config → List ℕ → List ℕ → K → K → Type 0
+GoesOn Count v c starts held old new = old ≡ new
+GoesOn Watch v c starts held old new = TellsOnlySeen v (IsSeenLine c starts held) old new
 
 abbrev pub TellsBy : Course → ℕ → Recorded → List ℕ → Lines → Lines → Type 0
 TellsBy Count block r n told told2 = told ≡ told2
 TellsBy Watch block r n told told2 = TellsSeen block r n told told2
 
-going_on : {K : Type 0} (course : Course) (v : station.Ghosts K) (kept : Kept) (r : Recorded) (a m : List ℕ) (start : ℕ)
-    (past : MomentsSince) (told : Lines) (old new : K) → GoesOn course v old new →
+going_on : {K : Type 0} (course : Course) (v : station.Ghosts K) (c : Config) (starts held : List ℕ) (kept : Kept) (r : Recorded)
+    (a m : List ℕ) (start : ℕ) (past : MomentsSince) (told : Lines) (old new : K) → GoesOn course v c starts held old new →
     HoldsSince kept r a start past told (v.clock old) (v.moments old) (v.told old) (v.leaves old) m →
     HoldsSince kept r a start past told (v.clock new) (v.moments new) (v.told new) (v.leaves new) m
-going_on {K} Count v kept r a m start past told old new same so_far =
+going_on {K} Count v c starts held kept r a m start past told old new same so_far =
     subst (λ (x : K). HoldsSince kept r a start past told (v.clock x) (v.moments x) (v.told x) (v.leaves x) m) same so_far
-going_on Watch v kept r a m start past told old new on so_far = going_seen v on so_far
+going_on Watch v c starts held kept r a m start past told old new on so_far = going_seen v on so_far
 
-paced_on : {K : Type 0} (course : Course) (v : station.Ghosts K) (c : Config) (head : HeadValue) (front : List PartsValue) (start : ℕ)
-    (past : MomentsSince) (told : Lines) (old new : K) (s : StoreValue) (done : Type 0) → GoesOn course v old new →
+paced_on : {K : Type 0} (course : Course) (v : station.Ghosts K) (c : Config) (answer : Status) → MayTellSeen answer Watch →
+    (head : HeadValue) (front : List PartsValue) (starts : List ℕ) (start : ℕ) (past : MomentsSince) (told : Lines) (old new : K)
+    (s : StoreValue) → GoesOn course v c starts (ends_of s.held) old new →
     Paced (name_of c) (window_of c) head front start past told (v.clock old) (v.moments old) (v.told old) (v.seen old) (v.leaves old) s
-    (Unit {0}) → PacedBy course c head front start past told (v.clock new) (v.moments new) (v.told new) (v.leaves new) done
-paced_on {K} Count v c head front start past told old new s done same so_far =
-    subst (λ (x : K). PacedBy Count c head front start past told (v.clock x) (v.moments x) (v.told x) (v.leaves x) done) same
-    (paced_by Count c (paced_where (λ e. tt) so_far))
-paced_on Watch v c head front start past told old new s done on so_far = seen_paced v c on so_far
+    (Unit {0}) → PacedBy course answer c head front starts start past told (v.clock new) (v.moments new) (v.told new) (v.leaves new)
+paced_on {K} Count v c answer may head front starts start past told old new s same so_far =
+    subst (λ (x : K). PacedBy Count answer c head front starts start past told (v.clock x) (v.moments x) (v.told x) (v.leaves x)) same
+    (paced_by Count answer c starts (paced_where (λ e. tt) so_far))
+paced_on Watch v c answer may head front starts start past told old new s on so_far = seen_paced v answer may c starts s on so_far
 
-stored_on : {K : Type 0} (course : Course) (v : station.Ghosts K) (kept : Kept) (s : StoreValue) (old new : K) → GoesOn course v old new →
+may_tell : (s : Status) → IsPrinting s → MayTellSeen s Watch
+may_tell = by_printing (λ (s : Status). MayTellSeen s Watch) tt tt
+
+stored_on : {K : Type 0} (course : Course) (v : station.Ghosts K) (c : Config) (starts held : List ℕ) (kept : Kept) (s : StoreValue)
+    (old new : K) → GoesOn course v c starts held old new →
     IsStoredAs kept s (v.seen old) (v.leaves old) → IsStoredAs kept s (v.seen new) (v.leaves new)
-stored_on {K} Count v kept s old new same stored =
+stored_on {K} Count v c starts held kept s old new same stored =
     subst (λ (x : K). IsStoredAs kept s (v.seen x) (v.leaves x)) same stored
-stored_on Watch v kept s old new on stored = stored_still kept s _ _ _ _ stored on.seen_same on.none_new
+stored_on Watch v c starts held kept s old new on stored = stored_still kept s _ _ _ _ stored on.seen_same on.none_new
 
 -- with `Done`, and with `WriteFault`
 tells_done : (course : Course) (block : ℕ) (r : Recorded) (n : List ℕ) (told told2 told3 : Lines) → Acknowledges block r n told told2 →
@@ -132,10 +124,11 @@ not_disk_printed : (s : Status) → IsPrinting s → s ≢ DiskFault
 not_disk_printed = by_printing (λ (s : Status). s ≢ DiskFault) (λ is. absurd cc) (λ is. absurd cc)
 
 -- what the rounds did, where their answer is this one
-pub made_as : {C K E : Type 0} {t : source.Ghosts C} {v : station.Ghosts K} {c : Config} {old new : StoreValue} {lanes lanes2 : List (Lane C)}
-    {station station2 : K} {r q : Result (Unit {0}) E} → r ≡ q → RoundsMade t v c old new lanes lanes2 station station2 r
-    → RoundsMade t v c old new lanes lanes2 station station2 q
-made_as {E = E} {t = t} {v = v} {c = c} {old = old} {new = new} {lanes = lanes} {lanes2 = lanes2} {station = station} {station2 = station2} is made =
+pub made_as : {C K E : Type 0} {t : source.Ghosts C} {v : station.Ghosts K} {c : Config} {old new : StoreValue}
+    {lanes lanes2 : List (Lane C)} {station station2 : K} {r q : Result (Unit {0}) E} → r ≡ q
+    → RoundsMade t v c old new lanes lanes2 station station2 r → RoundsMade t v c old new lanes lanes2 station station2 q
+made_as {E = E} {t = t} {v = v} {c = c} {old = old} {new = new} {lanes = lanes} {lanes2 = lanes2} {station = station}
+    {station2 = station2} is made =
     subst (λ (x : Result (Unit {0}) E). RoundsMade t v c old new lanes lanes2 station station2 x) is made
 
 -- over a store, lanes and a station at entry
@@ -156,11 +149,11 @@ module _ {C K O : Type 0} (t : source.Ghosts C) (v : station.Ghosts K) (p : sink
         appends = λ tells files front on.
             going_starts (recordings c files) _ _ _ _ _ _ (stored_beginning store front _ _ on) (only tells);
         paced = λ tells front on.
-            paced_by course c (paced_starts (name_of c) (window_of c) store front _ _ _ _ _ _ on (only tells));
+            paced_by course OutOfMemory c (ends_of store.held)
+            (paced_starts (name_of c) (window_of c) store front _ _ _ _ _ _ on (only tells));
         ended = λ tells reads files are stored. tt;
         cut = λ tells reads files are stored none. tt;
-        memory = λ tells reads files are stored none.
-            memory_quiet course (IsStill v station station) (recordings c files) (v.leaves station) (still tells);
+        memory = λ tells reads files are stored none. or_still (still tells) _ OutOfMemory course;
         acknowledged = λ tells reads files are. tt;
         prints = λ shows tells reads files are stored. refl;
         nothing = λ shows other. refl;
@@ -182,10 +175,11 @@ module _ {C K O : Type 0} (t : source.Ghosts C) (v : station.Ghosts K) (p : sink
     opened_failed course e made = record {
       going = made.going;
       appends = made.appends;
-      paced = λ tells front on. paced_by course c (paced_where (λ other. absurd (other refl)) (made.paced tells front on));
+      paced = λ tells front on.
+          paced_by course DiskFault c (ends_of store.held) (paced_where (λ other. absurd (other refl)) (made.paced tells front on));
       ended = λ tells reads files are stored. tt;
       cut = λ tells reads files are stored none. tt;
-      memory = λ tells reads files are stored none. memory_disk course (IsStill v station station2) (recordings c files) (v.leaves station2);
+      memory = λ tells reads files are stored none. tt;
       acknowledged = λ tells reads files are. tt;
       prints = λ shows tells reads files are stored. refl;
       nothing = λ shows other. refl;
@@ -218,14 +212,13 @@ module _ {C K O : Type 0} (t : source.Ghosts C) (v : station.Ghosts K) (p : sink
           record {
             going = made.going;
             appends = made.appends;
-            paced = λ tells front on. paced_by course c (paced_where (λ other. refl) (made.paced tells front on));
+            paced = λ tells front on. paced_by course s c (ends_of store.held) (paced_where (λ other. refl) (made.paced tells front on));
             ended = λ tells reads files are stored.
                 by_fault (λ (x : Status). HeldAt x (recordings c files) (v.leaves station2)) f.0 (λ b. tt) tt tt _ s is;
             cut = λ tells reads files are stored none.
                 held_fault c files lanes2 reads (made.read reads files are) ends2 made.held made.ended many2 store2 _ _
                 (made.stored tells reads files are stored) refl none s f.0 _ is;
-            memory = λ tells reads files are stored none.
-                memory_fault course (IsStill v station station2) (recordings c files) (v.leaves station2) f.0 _ s is;
+            memory = λ tells reads files are stored none. no_memory_fault course _ _ f.0 _ s is;
             acknowledged = λ tells reads files are.
                 let r = recordings c files in
                 let here = made.read reads files are in
@@ -280,23 +273,23 @@ module _ {C K O : Type 0} (t : source.Ghosts C) (v : station.Ghosts K) (p : sink
           (λ k lt. held_all reads files are none k (omega (arith, lt, gauges)))
 
       -- what stands behind the rounds ends at this station
-      module _ (course : Course) (station3 : K) (on : v.tells → GoesOn course v station2 station3)
+      module _ (course : Course) (station3 : K) (on : v.tells → GoesOn course v c (ends_of store.held) ends2 station2 station3)
           (later : v.faults station2 ≤ v.faults station3) where
         pub opened_untold : CountRose (v.faults station2) (v.faults station3) →
             OpenedRuns course t v p c store store2 lanes lanes2 station station3 out out DiskFault
         opened_untold rose = record {
           going = λ tells reads files are stored.
-              going_on course v (recorded (recordings c files)) (recordings c files) (ends_of store.held) ends2 _ _ _ station2 station3
-              (on tells) (made.going tells reads files are stored);
+              going_on course v _ _ _ (recorded (recordings c files)) (recordings c files) (ends_of store.held) ends2 _ _ _ station2
+              station3 (on tells) (made.going tells reads files are stored);
           appends = λ tells files front is.
-              going_on course v (beginning store.head front) (recordings c files) (ends_of store.held) ends2 _ _ _ station2 station3
+              going_on course v _ _ _ (beginning store.head front) (recordings c files) (ends_of store.held) ends2 _ _ _ station2 station3
               (on tells) (made.appends tells files front is);
           paced = λ tells front is.
-              paced_on course v c store.head front _ _ _ station2 station3 store2 (DiskFault ≢ DiskFault) (on tells)
+              paced_on course v c DiskFault tt store.head front _ _ _ _ station2 station3 store2 (on tells)
               (paced_where (λ d. refl) (made.paced tells front is));
           ended = λ tells reads files are stored. tt;
           cut = λ tells reads files are stored none. tt;
-          memory = λ tells reads files are stored none. memory_disk course (IsStill v station station3) (recordings c files) (v.leaves station3);
+          memory = λ tells reads files are stored none. tt;
           acknowledged = λ tells reads files are. tt;
           prints = λ shows tells reads files are stored. refl;
           nothing = λ shows other. refl;
@@ -321,21 +314,20 @@ module _ {C K O : Type 0} (t : source.Ghosts C) (v : station.Ghosts K) (p : sink
             OpenedRuns course t v p c store store2 lanes lanes2 station station3 out out2 s
         opened_printed none gauges seen out2 s kind prints write = record {
           going = λ tells reads files are stored.
-              going_on course v (recorded (recordings c files)) (recordings c files) (ends_of store.held) ends2 _ _ _ station2 station3
-              (on tells) (made.going tells reads files are stored);
+              going_on course v _ _ _ (recorded (recordings c files)) (recordings c files) (ends_of store.held) ends2 _ _ _ station2
+              station3 (on tells) (made.going tells reads files are stored);
           appends = λ tells files front is.
-              going_on course v (beginning store.head front) (recordings c files) (ends_of store.held) ends2 _ _ _ station2 station3
+              going_on course v _ _ _ (beginning store.head front) (recordings c files) (ends_of store.held) ends2 _ _ _ station2 station3
               (on tells) (made.appends tells files front is);
           paced = λ tells front is.
-              paced_on course v c store.head front _ _ _ station2 station3 store2 (s ≢ DiskFault) (on tells)
+              paced_on course v c s (may_tell s kind) store.head front _ _ _ _ station2 station3 store2 (on tells)
               (paced_where (λ d. refl) (made.paced tells front is));
           ended = λ tells reads files are stored.
               held_printing c files lanes2 reads (made.read reads files are) ends2 made.held made.ended many2 store2 _ _
-              (stored_on course v (recorded (recordings c files)) store2 station2 station3 (on tells)
+              (stored_on course v _ _ _ (recorded (recordings c files)) store2 station2 station3 (on tells)
               (made.stored tells reads files are stored)) refl none s kind;
           cut = λ tells reads files are stored unharmed. cut_printing (recordings c files) _ s kind;
-          memory = λ tells reads files are stored unharmed.
-              memory_printing course (IsStill v station station3) (recordings c files) (v.leaves station3) s kind;
+          memory = λ tells reads files are stored none. no_memory_printed course _ _ s kind;
           acknowledged = λ tells reads files are.
               let r = recordings c files in
               let n = ends_of store.held in
@@ -366,7 +358,8 @@ module _ {C K O : Type 0} (t : source.Ghosts C) (v : station.Ghosts K) (p : sink
       opened_unshown = record {
         going = made.going;
         appends = made.appends;
-        paced = λ tells front on. paced_by Watch c (paced_where (λ other. refl) (made.paced tells front on));
+        paced = λ tells front on.
+            paced_by Watch OutOfMemory c (ends_of store.held) (paced_where (λ other. refl) (made.paced tells front on));
         ended = λ tells reads files are stored. tt;
         cut = λ tells reads files are stored none. tt;
         memory = λ tells reads files are stored none.

@@ -44,7 +44,7 @@ use Rattle.count_command.proofs.AtEnd.{run_answers}
 use Rattle.count_command.proofs.Early.{IsEarly, by_opening, opening_early, held_early, cut_early, prints_early, where_early, not_write_early}
 use Rattle.count_command.proofs.Pacing.{paced_quiet}
 use Rattle.count_command.proofs.SeenOn.{paced_by}
-use Rattle.count_command.proofs.WithoutMemory.{memory_still}
+use Rattle.count_command.proofs.WithoutMemory.{or_still}
 use Rattle.count_command.proofs.on_held_samples.Going.{going_starts, stored_beginning, safe_quiet}
 use Rattle.count_command.proofs.on_held_samples.Pace.{paced_starts}
 
@@ -113,22 +113,24 @@ module _ {S Src K O : Type 0} (course : Course) (t : site.Ghosts S Src) (v : sta
   stored_refused store lanes k o answer only opening answers asks cause =
       let r = recordings c (t.files s) in
       let early = opening_early answer opening in
-      let still : v.tells → IsStill v k k = λ tells. quiet_starts (v.clock k) (v.moments k) (v.told k) (v.seen k) (v.leaves k) (only tells) in
+      let still : v.tells → IsStill v k k = λ tells.
+      quiet_starts (v.clock k) (v.moments k) (v.told k) (v.seen k) (v.leaves k) (only tells) in
       record {
         going = λ tells shows stored. going_starts r _ _ _ _ _ _ stored (only tells);
         appends = λ tells files front on.
             going_starts (recordings c files) _ _ _ _ _ _ (stored_beginning store front _ _ on) (only tells);
         paced = λ tells front on.
-            paced_by course c (paced_starts (name_of c) (window_of c) store front _ _ _ _ _ _ on (only tells));
+            paced_by course answer c (ends_of store.held) (paced_starts (name_of c) (window_of c) store front _ _ _ _ _ _ on (only tells));
         ended = λ tells shows stored. held_early r (v.leaves k) answer early;
         cut = λ tells shows stored none. cut_early r (v.leaves k) answer early;
-        memory = λ tells shows stored none. memory_still r (v.leaves k) (still tells) course answer;
+        memory = λ tells shows stored none. or_still (still tells) _ answer course;
         acknowledged = λ tells shows. where_early _ _ answer early;
         prints = λ writes tells shows stored. prints_early c r.samples (p.written o) (p.written o) refl answer early;
         nothing = λ writes other. refl;
         answer_is = λ shows. refused_runs c store.head.heads _ (t.files s) answer opening (answers shows);
         kind = running answer opening;
         quiet = λ tells leaves. still tells;
+        opens = λ tells shows. inl (still tells);
         read = λ is none. cause is;
         write = λ is. absurd (not_write_early answer early is);
         disk = λ is. absurd (not_disk answer opening is);
@@ -159,6 +161,7 @@ module _ {S Src K O : Type 0} (course : Course) (t : site.Ghosts S Src) (v : sta
             (run.answer_is (sources shows) files (are shows));
         kind = ending_runs answer run.kind;
         quiet = run.quiet;
+        opens = λ tells shows. inr (opened shows);
         read = λ is none. absurd (run.read is none);
         write = run.write;
         disk = run.disk;
@@ -176,10 +179,10 @@ module _ {S Src K O : Type 0} (course : Course) (t : site.Ghosts S Src) (v : sta
       record {
         safe = λ tells shows a holds. safe_quiet r a _ _ _ _ _ _ _ _ _ _ holds (still tells);
         appends = λ tells files first front ends reads. truly_quiet (recordings c files) first front _ _ (still tells);
-        paced = λ tells first front ends reads. paced_quiet course c first front _ _ _ (still tells);
+        paced = λ tells first front ends reads. paced_quiet course answer c first front ends _ _ (still tells);
         ended = λ tells shows a holds. held_early r (v.leaves k2) answer early;
         cut = λ tells shows a holds none. cut_early r (v.leaves k2) answer early;
-        memory = λ tells shows a holds none. memory_still r (v.leaves k2) (still tells) course answer;
+        memory = λ tells shows a holds none. or_still (still tells) _ answer course;
         acknowledged = λ tells shows n h. where_early _ _ answer early;
         prints = λ writes tells shows a holds. prints_early c r.samples (p.written o) (p.written o) refl answer early;
         nothing = λ writes other. refl;
@@ -188,6 +191,7 @@ module _ {S Src K O : Type 0} (course : Course) (t : site.Ghosts S Src) (v : sta
         kind = kind;
         refused = λ gauge fault is. none;
         quiet = λ tells leaves. still tells;
+        opens = λ tells shows. inl (still tells);
         read = λ is. absurd (no_read is);
         write = λ is. absurd (not_write_early answer early is);
         disk = disk;

@@ -4,7 +4,7 @@
 --   WhereCounted      what is so with these answers, with `Torn` where this holds
 --   AcknowledgesSeen  the lines of all rounds were told, and then those of what a watcher saw
 --   TellsAll          what was told before the answer's line, by the course of the run
---   AcknowledgesAs    this was told, and with `Done` no other line; else behind them at most this one
+--   AcknowledgesAs    this was told, and behind it no line with `Done`, else at most the answer's
 --   AcknowledgesBy    so it is with these answers
 use Rattle.std.specs.Prelude.{◌≡◌, ◌≤◌, ◌<◌, ◌⊎◌, ◌++◌, ℕ, List, [], ◌∷◌, length}
 use Rattle.calibration.specs.declared.limits.TheConstants.{MAX_SAMPLES}

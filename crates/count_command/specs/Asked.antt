@@ -1,6 +1,6 @@
--- Which files `count` asks its site for, by its answer: none where the configuration or the store is refused, up to the
--- gauge whose recording is refused, and all where it counted. Where a call of the disk fails or memory runs out it is
--- none or all, and where a read fails some first ones.
+-- Which files `count` and `watch` ask their site for, by the answer: none where the configuration or the store is
+-- refused, up to the gauge whose recording is refused, and all where it counted. Where a call of the disk fails or
+-- memory runs out it is none or all, and where a read fails some first ones.
 use Rattle.std.specs.Prelude.{◌⊎◌, ℕ, List}
 use Rattle.outside.specs.Site.{Asked, Asks, AsksNothing}
 use Rattle.site_config.specs.recorded.Asked.{AsksFirst}

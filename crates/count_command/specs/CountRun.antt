@@ -21,8 +21,8 @@ use Rattle.count_command.specs.declared.course.Course.{Course}
 use Rattle.count_command.specs.Acknowledging.{AreShort, AcknowledgesBy}
 use Rattle.count_command.specs.Appending.{HasGrown, TellsTruly}
 use Rattle.count_command.specs.Pacing.{TellsInPace}
-use Rattle.count_command.specs.Holding.{HeldAt, HeldCut, HeldWithoutMemory, LeavesStore}
-use Rattle.count_command.specs.Answer.{CountAnswers}
+use Rattle.count_command.specs.Holding.{HoldLimited, HeldAt, HeldCut, LeavesStore, QuietOr}
+use Rattle.count_command.specs.Answer.{OpensAll, CountAnswers}
 use Rattle.count_command.specs.Asked.{CountAsks}
 use Rattle.count_command.specs.Printed.{Prints}
 use Rattle.status.specs.fault_lines.FaultLine.{fault_line}
@@ -45,11 +45,12 @@ pub record CountRuns (course : Course) (before after : Shown) (answer : Status) 
       Reads first front ends before.seen → Since before.clock before.moments after.clock after.moments
       (TellsTruly (recordings c files) first front before.told before.leaves)
   -- A line is told for each body that is stored, before the next one is, and by the end for all of them, unless the
-  -- disk fails. Behind these come, in `watch`, lines of what was seen, and then at most the answer's line.
+  -- disk fails. In `watch`, where the report follows or the disk fails, lines of what was seen may stand behind these,
+  -- of the gauges and of samples that are held. Then comes at most the answer's line.
   pub paced : before.station_tells → before.config_tells → (c : Config) → config_of_bytes before.config ≡ Ok c →
       (first : HeadValue) (front : List PartsValue) (ends : List ℕ) → Reads first front ends before.seen →
-      TellsInPace course c first front (line_for before answer) before.clock before.moments before.told before.leaves
-      after.clock after.moments after.told after.leaves (answer ≢ DiskFault)
+      TellsInPace course answer c first front ends (line_for before answer) before.clock before.moments before.told
+      before.leaves after.clock after.moments after.told after.leaves
   -- At a good end all samples are held.
   pub ended : before.station_tells → before.site_tells → before.config_tells → (c : Config) →
       config_of_bytes before.config ≡ Ok c → (a : List ℕ) → AllHold (recordings c before.files) a before.leaves →
@@ -63,8 +64,8 @@ pub record CountRuns (course : Course) (before after : Shown) (answer : Status) 
   pub memory : before.station_tells → before.site_tells → before.config_tells → (c : Config) →
       config_of_bytes before.config ≡ Ok c → (a : List ℕ) → AllHold (recordings c before.files) a before.leaves →
       ¬ CountRose before.site_faults after.site_faults →
-      HeldWithoutMemory course answer ((name : List ℕ) × Tells (fault_line answer name) before after)
-      (recordings c before.files) after.leaves
+      QuietOr answer course ((name : List ℕ) × Tells (fault_line answer name) before after)
+      (HoldLimited (recordings c before.files) after.leaves)
   -- With `Done` the report of all samples is printed, with `WriteFault` a front of it.
   pub prints : before.output_tells → before.station_tells → before.site_tells → before.config_tells → (c : Config) →
       config_of_bytes before.config ≡ Ok c → (a : List ℕ) → AllHold (recordings c before.files) a before.leaves →
@@ -90,9 +91,15 @@ pub record CountRuns (course : Course) (before after : Shown) (answer : Status) 
       ¬ CountRose before.config_faults after.config_faults → ¬ CountRose before.site_faults after.site_faults →
       ¬ CountRose before.station_faults after.station_faults → ¬ CountRose before.output_faults after.output_faults →
       (answer ≡ Done) ⊎ (answer ≡ OutOfMemory)
-  -- Where it is refused, or memory ran out in `count`, at most the line of the answer is told, and nothing else changes.
+  -- Where it is refused, or memory ran out in `count`, at most the line of the answer is told, and nothing else
+  -- changes.
   pub quiet : before.station_tells → LeavesStore course answer →
       (name : List ℕ) × Tells (fault_line answer name) before after
+  -- So it is with any answer, unless the configuration is valid, the store was made for it, and each recording can be
+  -- opened.
+  pub opens : before.station_tells → before.site_tells → before.config_tells →
+      ((name : List ℕ) × Tells (fault_line answer name) before after)
+      ⊎ ((c : Config) × (config_of_bytes before.config ≡ Ok c) × OpensAll c before.seen before.files)
   -- It is never `Usage`.
   pub named : answer ≢ Usage
   -- A recording is refused only where no call of the site and of its sources failed.

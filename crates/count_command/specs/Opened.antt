@@ -1,7 +1,7 @@
 -- What rounds over lanes that were opened did, from their entry to their end.
 --   IsStill     nothing of the station changed
 --   OpenedRuns  what they did, by the course of the run
-use Rattle.std.specs.Prelude.{◌≡◌, ◌≢◌, ◌≤◌, List, length}
+use Rattle.std.specs.Prelude.{◌≡◌, ◌≤◌, List, length}
 use Rattle.std.specs.List.{All}
 use Rattle.outside.specs.Fault.{CountRose}
 use Rattle.outside.specs.Site.{Files}
@@ -24,7 +24,7 @@ use Rattle.count_command.specs.held_samples.Kept.{beginning}
 use Rattle.count_command.specs.held_samples.Going.{HoldsSince, HoldsSinceEntry, IsStored}
 use Rattle.count_command.specs.Acknowledging.{AreShort, WhereCounted, TellsAll}
 use Rattle.count_command.specs.Answer.{EndAnswers, IsEnding}
-use Rattle.count_command.specs.Holding.{HeldAt, HeldCut, HeldWithoutMemory, LeavesStore}
+use Rattle.count_command.specs.Holding.{HoldLimited, HeldAt, HeldCut, LeavesStore, QuietOr}
 use Rattle.count_command.specs.Pacing.{PacedBy}
 use Rattle.count_command.specs.Printed.{Prints}
 
@@ -50,8 +50,8 @@ pub record OpenedRuns {C K O : Type 0} (course : Course) (t : source.Ghosts C) (
       (v.leaves station2) (ends_of store2.held)
   -- Each body is told before the next one is stored.
   pub paced : v.tells → (front : List PartsValue) → IsOn store front (v.seen station) (v.leaves station) →
-      PacedBy course bridge store.head front (v.clock station) (v.moments station) (v.told station)
-      (v.clock station2) (v.moments station2) (v.told station2) (v.leaves station2) (answer ≢ DiskFault)
+      PacedBy course answer bridge store.head front (ends_of store.held) (v.clock station) (v.moments station)
+      (v.told station) (v.clock station2) (v.moments station2) (v.told station2) (v.leaves station2)
   -- What is held at the end.
   pub ended : v.tells → t.tells → (files : Files) → AreLanes t.tells t.left (recordings bridge files) lanes →
       IsStored (recordings bridge files) store (v.seen station) (v.leaves station) →
@@ -63,7 +63,7 @@ pub record OpenedRuns {C K O : Type 0} (course : Course) (t : source.Ghosts C) (
   -- Where memory ran out and no source failed.
   pub memory : v.tells → t.tells → (files : Files) → AreLanes t.tells t.left (recordings bridge files) lanes →
       IsStored (recordings bridge files) store (v.seen station) (v.leaves station) → All HasNotFailed lanes2 →
-      HeldWithoutMemory course answer (IsStill v station station2) (recordings bridge files) (v.leaves station2)
+      QuietOr answer course (IsStill v station station2) (HoldLimited (recordings bridge files) (v.leaves station2))
   -- What is told.
   pub acknowledged : v.tells → t.tells → (files : Files) →
       AreLanes t.tells t.left (recordings bridge files) lanes →

@@ -1,7 +1,7 @@
 -- What a run did before its answer's line, by its course.
 --   StoredRuns      over a store that was resumed
 --   ConfiguredRuns  by a configuration
-use Rattle.std.specs.Prelude.{◌≡◌, ◌≢◌, ◌≤◌, ℕ, List, length, slice_index}
+use Rattle.std.specs.Prelude.{◌≡◌, ◌≤◌, ◌⊎◌, ℕ, List, length, slice_index}
 use Rattle.std.specs.List.{All}
 use Rattle.outside.specs.Fault.{CountRose}
 use Rattle.outside.specs.Site.{Files}
@@ -18,7 +18,7 @@ use Rattle.segment_store.specs.Moments.{StoreValue, IsOn}
 use Rattle.site_config.specs.declared.config.Config.{Config}
 use Rattle.site_config.specs.recorded.Recorded.{recordings}
 use Rattle.site_config.specs.recorded.Asked.{file_names}
-use Rattle.site_lanes.specs.Answers.{HeadsFit, AllSound}
+use Rattle.site_lanes.specs.Answers.{HeadsFit, AllOpened, AllSound}
 use Rattle.site_lanes.specs.Lanes.{HasNotFailed}
 use Rattle.status.specs.declared.status.RecordingFault.{RecordingFault}
 use Rattle.status.specs.declared.status.Status.{Status}
@@ -28,10 +28,10 @@ use Rattle.count_command.specs.declared.course.Course.{Course}
 use Rattle.count_command.specs.held_samples.Kept.{beginning}
 use Rattle.count_command.specs.held_samples.Going.{AllHold, HoldsSince, HoldsSinceEntry, RunsBy, Safe, IsStored}
 use Rattle.count_command.specs.Acknowledging.{AreShort, WhereCounted, TellsAll}
-use Rattle.count_command.specs.Answer.{RunAnswers, MayAnswerOver, IsRunning, IsCounting, IsComplete}
+use Rattle.count_command.specs.Answer.{RunAnswers, OpensAll, MayAnswerOver, IsRunning, IsCounting, IsComplete}
 use Rattle.count_command.specs.Appending.{TellsTruly}
 use Rattle.count_command.specs.Asked.{CountAsks}
-use Rattle.count_command.specs.Holding.{HeldAt, HeldCut, HeldWithoutMemory, LeavesStore}
+use Rattle.count_command.specs.Holding.{HoldLimited, HeldAt, HeldCut, LeavesStore, QuietOr}
 use Rattle.count_command.specs.Opened.{IsStill}
 use Rattle.count_command.specs.Pacing.{PacedBy, StoresInPace}
 use Rattle.count_command.specs.Printed.{Prints}
@@ -53,8 +53,8 @@ pub record StoredRuns {S Src K O : Type 0} (course : Course) (t : site.Ghosts S 
       (v.leaves station2) (ends_of store2.held)
   -- Each body is told before the next one is stored.
   pub paced : v.tells → (front : List PartsValue) → IsOn store front (v.seen station) (v.leaves station) →
-      PacedBy course bridge store.head front (v.clock station) (v.moments station) (v.told station)
-      (v.clock station2) (v.moments station2) (v.told station2) (v.leaves station2) (answer ≢ DiskFault)
+      PacedBy course answer bridge store.head front (ends_of store.held) (v.clock station) (v.moments station)
+      (v.told station) (v.clock station2) (v.moments station2) (v.told station2) (v.leaves station2)
   -- What is held at the end.
   pub ended : v.tells → t.tells →
       IsStored (recordings bridge (t.files site)) store (v.seen station) (v.leaves station) →
@@ -64,9 +64,8 @@ pub record StoredRuns {S Src K O : Type 0} (course : Course) (t : site.Ghosts S 
       All HasNotFailed lanes2 → HeldCut answer (recordings bridge (t.files site)) (v.leaves station2)
   pub memory : v.tells → t.tells →
       IsStored (recordings bridge (t.files site)) store (v.seen station) (v.leaves station) →
-      All HasNotFailed lanes2 →
-      HeldWithoutMemory course answer (IsStill v station station2) (recordings bridge (t.files site))
-      (v.leaves station2)
+      All HasNotFailed lanes2 → QuietOr answer course (IsStill v station station2)
+      (HoldLimited (recordings bridge (t.files site)) (v.leaves station2))
   -- What is told and printed.
   pub acknowledged : v.tells → t.tells → WhereCounted answer
       (All HasNotFailed lanes2 × AreShort (recordings bridge (t.files site)))
@@ -81,6 +80,8 @@ pub record StoredRuns {S Src K O : Type 0} (course : Course) (t : site.Ghosts S 
       RunAnswers bridge store.head.heads (slice_index (ends_of store.held)) (t.files site) answer
   pub kind : IsRunning answer
   pub quiet : v.tells → LeavesStore course answer → IsStill v station station2
+  pub opens : v.tells → t.tells → IsStill v station station2
+      ⊎ AllOpened bridge store.head.heads (slice_index (ends_of store.held)) (t.files site) (length bridge.gauges)
   pub read : answer ≡ ReadFault → All HasNotFailed lanes2 → CountRose (t.faults site) (t.faults site2)
   pub write : answer ≡ WriteFault → CountRose (p.faults out) (p.faults out2)
   pub disk : answer ≡ DiskFault → CountRose (v.faults station) (v.faults station2)
@@ -102,9 +103,8 @@ pub record ConfiguredRuns {S Src K O : Type 0} (course : Course) (t : site.Ghost
   -- A line is told for each body that is stored, before the next one is.
   pub paced : v.tells → (first : HeadValue) (front : List PartsValue) (ends : List ℕ) →
       Reads first front ends (v.seen station) →
-      StoresInPace course bridge first front (v.clock station) (v.moments station) (v.told station)
+      StoresInPace course answer bridge first front ends (v.clock station) (v.moments station) (v.told station)
       (v.leaves station) (v.clock station2) (v.moments station2) (v.told station2) (v.leaves station2)
-      (answer ≢ DiskFault)
   -- What is held at the end.
   pub ended : v.tells → t.tells → (a : List ℕ) → AllHold (recordings bridge (t.files site)) a (v.leaves station) →
       HeldAt answer (recordings bridge (t.files site)) (v.leaves station2)
@@ -112,9 +112,8 @@ pub record ConfiguredRuns {S Src K O : Type 0} (course : Course) (t : site.Ghost
       ¬ CountRose (t.faults site) (t.faults site2) →
       HeldCut answer (recordings bridge (t.files site)) (v.leaves station2)
   pub memory : v.tells → t.tells → (a : List ℕ) → AllHold (recordings bridge (t.files site)) a (v.leaves station) →
-      ¬ CountRose (t.faults site) (t.faults site2) →
-      HeldWithoutMemory course answer (IsStill v station station2) (recordings bridge (t.files site))
-      (v.leaves station2)
+      ¬ CountRose (t.faults site) (t.faults site2) → QuietOr answer course (IsStill v station station2)
+      (HoldLimited (recordings bridge (t.files site)) (v.leaves station2))
   -- What is told and printed.
   pub acknowledged : v.tells → t.tells → (n : List ℕ) →
       Holds bridge.setup (recordings bridge (t.files site)).samples n (v.seen station) → WhereCounted answer
@@ -136,6 +135,7 @@ pub record ConfiguredRuns {S Src K O : Type 0} (course : Course) (t : site.Ghost
   pub refused : (gauge : ℕ) (fault : RecordingFault) → answer ≡ Recording gauge fault →
       t.faults site2 ≡ t.faults site
   pub quiet : v.tells → LeavesStore course answer → IsStill v station station2
+  pub opens : v.tells → t.tells → IsStill v station station2 ⊎ OpensAll bridge (v.seen station) (t.files site)
   pub read : answer ≡ ReadFault → CountRose (t.faults site) (t.faults site2)
   pub write : answer ≡ WriteFault → CountRose (p.faults out) (p.faults out2)
   pub disk : answer ≡ DiskFault → CountRose (v.faults station) (v.faults station2)

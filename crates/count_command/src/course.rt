@@ -1,3 +1,5 @@
+use site_config::Config;
+
 /// What a run does besides counting and storing.
 #[derive(Clone, Copy)]
 pub enum Course {
@@ -7,9 +9,20 @@ pub enum Course {
     Watch,
 }
 
-/// How a run works.
+/// What a run is asked for.
 #[derive(Clone, Copy)]
-pub struct Work {
+pub struct Asked {
+    pub course: Course,
+    /// How many threads count, unless the configuration shall say it.
+    pub workers: Option<u8>,
+}
+
+/// What a run goes by, which stays the same to its end.
+#[derive(Drop)]
+pub struct Run<'a, R, G> {
+    pub rt: &'a R,
+    pub gate: &'a G,
+    pub bridge: &'a Config,
     pub course: Course,
     /// How many threads count.
     pub workers: u8,

@@ -3,9 +3,9 @@
 //! round filled, while the next one fills the other board.
 //!
 //! `specs/held_rounds/Made.antt` says what all rounds do, `specs/held_rounds/Telling.antt` which
-//! lines were told after so many, `specs/held_rounds/Beside.antt` how a board leads from what is held
-//! to where the lanes are. What is true at every moment is said by the module `held_samples`, from
-//! the entry of each call on. The hook of the puts runs in the caller's thread.
+//! lines were told after so many, `specs/held_rounds/Beside.antt` how a board leads from what is
+//! held to where the lanes are. What is true at every moment is said by the module `held_samples`,
+//! from the entry of each call on. The hook of the puts runs in the caller's thread.
 //!
 //! Cost: a thread for the rounds beside the caller's. No call here takes memory, unless its hook
 //! does.

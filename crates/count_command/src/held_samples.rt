@@ -6,9 +6,9 @@
 //! at entry, and no line acknowledges more than it holds. `specs/held_samples/Told.antt` has the
 //! lines, and `specs/held_samples/Pace.antt` says that each comes before the next put.
 //!
-//! Between a put and its line a [`PutHook`] is shown what is then held of the gauge. What it says of
-//! itself by `follows` holds of the store after each call, whatever the call answers. `count` does
-//! nothing there: [`NoHook`].
+//! Between a put and its line a [`PutHook`] is handed what is then held of the gauge. What it says
+//! of itself by `follows` holds of the store after each call, whatever the call answers. `count`
+//! does nothing there: [`NoHook`].
 //!
 //! Cost: four station calls and a line for each front that is not empty. No call but
 //! [`HeldLine::new`] takes memory, unless its hook does.
@@ -20,4 +20,4 @@ mod storing;
 pub use hook::{Behind, NoHook, PutHook};
 pub use line::HeldLine;
 pub use std::alloc::AllocError as OutOfMemory;
-pub use storing::{store_front, store_fronts};
+pub use storing::store_fronts;

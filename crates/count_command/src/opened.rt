@@ -10,6 +10,7 @@ ghost use Rattle.count_command.specs.held_rounds.Ready.{AreOpenedLanes};
 ghost use Rattle.count_command.specs.Opened.{OpenedRuns};
 ghost use Rattle.count_command.specs.Printed.{AllStandFor, Prints};
 
+use crate::course::Run;
 use crate::held_rounds::count_rounds;
 use crate::held_samples::{Behind, HeldLine, NoHook};
 use crate::rooms::{Rooms, take_rooms};
@@ -55,22 +56,19 @@ pub fn count_opened<
     O: Sink,
     G: Gate + Sync,
 >(
-    rt: &R,
-    workers: u8,
-    bridge: &Config,
+    run: &Run<'_, R, G>,
     store: &mut Store,
     lanes: &mut [Lane<C>],
     station: &mut K,
     out: &mut O,
-    gate: &G,
 ) -> Status
-    requires workers { (1 ≤ workers) × (workers ≤ MAX_WORKERS) }
-    requires opened { AreOpenedLanes ⟦<C as Source>⟧ ⟦<K as Station>⟧ bridge.now store.old
+    requires workers { (1 ≤ run.now.workers) × (run.now.workers ≤ MAX_WORKERS) }
+    requires opened { AreOpenedLanes ⟦<C as Source>⟧ ⟦<K as Station>⟧ run.now.bridge.now store.old
         lanes.old station.old }
-    ensures run { OpenedRuns Count ⟦<C as Source>⟧ ⟦<K as Station>⟧ ⟦<O as Sink>⟧ bridge.now
+    ensures run { OpenedRuns Count ⟦<C as Source>⟧ ⟦<K as Station>⟧ ⟦<O as Sink>⟧ run.now.bridge.now
         store.old store.new lanes.old lanes.new station.old station.new out.old out.new result }
 {
-    let Ok(rooms) = take_rooms(rt.alloc(), workers, bridge) else {
+    let Ok(rooms) = take_rooms(run.rt.alloc(), run.workers, run.bridge) else {
         return Status::OutOfMemory;
     };
     let Rooms {
@@ -78,19 +76,17 @@ pub fn count_opened<
         board,
         mut report,
     } = rooms;
-    let Ok(line) = HeldLine::new(rt.alloc()) else {
+    let Ok(line) = HeldLine::new(run.rt.alloc()) else {
         return Status::OutOfMemory;
     };
     let mut behind = Behind { line, hook: NoHook };
     match count_rounds(
-        rt,
+        run,
         &mut prepared,
         board,
         lanes,
-        bridge,
         store,
         station,
-        gate,
         &mut behind,
     ) {
         Ok(()) => {}
@@ -98,6 +94,6 @@ pub fn count_opened<
     }
     match first_fault(lanes) {
         Some(status) => status,
-        None => print_held(bridge, store, &mut report, out),
+        None => print_held(run.bridge, store, &mut report, out),
     }
 }

@@ -19,7 +19,7 @@ pub struct Rooms<C: Source> {
     pub report: Report,
 }
 
-/// Takes it.
+/// Takes all the memory that rounds by so many workers need, and that of the report behind them.
 pub fn take_rooms<C: Source>(
     alloc: Global,
     workers: u8,

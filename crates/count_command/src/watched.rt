@@ -4,6 +4,7 @@ ghost use Rattle.count_command.specs.declared.course.Course.TheVariants.{Watch a
 ghost use Rattle.count_command.specs.held_rounds.Ready.{AreOpenedLanes};
 ghost use Rattle.count_command.specs.Opened.{OpenedRuns};
 
+use crate::course::Run;
 use crate::opened::print_held;
 use crate::rooms::{Rooms, take_rooms};
 use crate::watching::{Watch, Watched, tell_seen, watch_rounds};
@@ -11,7 +12,6 @@ use count_workers::lane_loans::Lane;
 use outside::station::Station;
 use outside::{Gate, Sink, Source};
 use segment_store::Store;
-use site_config::Config;
 use site_lanes::first_fault;
 use status::Status;
 use std::sync::Wait;
@@ -27,22 +27,19 @@ pub fn watch_opened<
     O: Sink,
     G: Gate + Sync,
 >(
-    rt: &R,
-    workers: u8,
-    bridge: &Config,
+    run: &Run<'_, R, G>,
     store: &mut Store,
     lanes: &mut [Lane<C>],
     station: &mut K,
     out: &mut O,
-    gate: &G,
 ) -> Status
-    requires workers { (1 ≤ workers) × (workers ≤ MAX_WORKERS) }
-    requires opened { AreOpenedLanes ⟦<C as Source>⟧ ⟦<K as Station>⟧ bridge.now store.old
+    requires workers { (1 ≤ run.now.workers) × (run.now.workers ≤ MAX_WORKERS) }
+    requires opened { AreOpenedLanes ⟦<C as Source>⟧ ⟦<K as Station>⟧ run.now.bridge.now store.old
         lanes.old station.old }
-    ensures run { OpenedRuns Watching ⟦<C as Source>⟧ ⟦<K as Station>⟧ ⟦<O as Sink>⟧ bridge.now
+    ensures run { OpenedRuns Watching ⟦<C as Source>⟧ ⟦<K as Station>⟧ ⟦<O as Sink>⟧ run.now.bridge.now
         store.old store.new lanes.old lanes.new station.old station.new out.old out.new result }
 {
-    let Ok(rooms) = take_rooms(rt.alloc(), workers, bridge) else {
+    let Ok(rooms) = take_rooms(run.rt.alloc(), run.workers, run.bridge) else {
         return Status::OutOfMemory;
     };
     let Rooms {
@@ -50,13 +47,11 @@ pub fn watch_opened<
         board,
         mut report,
     } = rooms;
-    let gauges = bridge.gauges.as_slice().len() as u16;
-    let Ok(watch) = Watch::new(rt, &bridge.setup.grid, gauges, store) else {
+    let gauges = run.bridge.gauges.as_slice().len() as u16;
+    let Ok(watch) = Watch::new(run.rt, &run.bridge.setup.grid, gauges, store) else {
         return Status::OutOfMemory;
     };
-    let (done, watched) = watch_rounds(
-        rt, prepared, board, lanes, bridge, store, station, gate, watch,
-    );
+    let (done, watched) = watch_rounds(run, prepared, board, lanes, store, station, watch);
     let Watched {
         mut line,
         ends,
@@ -72,8 +67,8 @@ pub fn watch_opened<
     if let Some(status) = first_fault(lanes) {
         return status;
     }
-    match tell_seen(bridge, store, station, &mut line, &ends) {
-        Ok(()) => print_held(bridge, store, &mut report, out),
+    match tell_seen(run.bridge, store, station, &mut line, &ends) {
+        Ok(()) => print_held(run.bridge, store, &mut report, out),
         Err(_) => Status::DiskFault,
     }
 }

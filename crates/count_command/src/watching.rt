@@ -6,8 +6,9 @@
 //! it saw. `specs/watching/Seen.antt` says which lines these are.
 //!
 //! The watcher sleeps between its looks: each show rings a bell, and it looks behind a ring.
-//! Nothing waits for the watcher but a show that comes while it copies the view, and that no clause
-//! speaks of: neither that the watcher runs beside the puts, nor how often it looks.
+//! Nothing waits for the watcher but a show that comes while it copies the view, and the end of the
+//! rounds, for one look at most. No clause says that the watcher runs beside the puts, nor how
+//! often it looks.
 //!
 //! Cost: a show, a wake and a look for each put, which is a passing over the pairs of levels of a
 //! gauge and a copy of all rows. No call but [`Watch::new`] and a show takes memory.

@@ -209,7 +209,8 @@ module _ (kept : Kept) (r : Recorded) (s : StoreValue) (seen : Image) (leaves : 
     }
 
 -- a line that acknowledges no more than is held, told or not
-pub line_going : {kept : Kept} (r : Recorded) (a m : List ℕ) (start now next : ℕ) (past since later : MomentsSince) (told told2 told3 : Lines)
+pub line_going : {kept : Kept} (r : Recorded) (a m : List ℕ) (start now next : ℕ) (past since later : MomentsSince)
+    (told told2 told3 : Lines)
     (leaves leaves2 : Image → Type 0) → HoldsSince kept r a start past told now since told2 leaves m
     → (line : List ℕ) → IsBelow r m line → Elapses now next since later told3 leaves2 → SameImages leaves leaves2 →
     (told3 ≡ told2 ++ line ∷ []) ⊎ (told3 ≡ told2) → HoldsSince kept r a start past told next later told3 leaves2 m

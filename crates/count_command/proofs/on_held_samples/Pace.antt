@@ -4,7 +4,7 @@
 --   told_pace      a put with Ok, and then its line
 --   paced_then     a run after a run that is level at its end
 --   paced_where    where less is asked of the end; no_done: a call that failed has not done what it does
---   level_now      what is there at an end that is level
+--   level_now      what is there at an end that is level; reads_now: what a store that is on its station reads as
 use Rattle.std.proofs.Common.{◌≡◌, ◌≤◌, ◌+◌, inl, inr, ⊎_elim, ℕ, List, [], ◌∷◌, ◌++◌, append_assoc, refl, sym, ◌∙◌, ap, subst}
 use Rattle.std.specs.Prelude.{Result, Ok, Err, IsOk, IsErr}
 use Rattle.std.proofs.lemmas.List.{append-nil}
@@ -23,7 +23,7 @@ lines_both : (names : ℕ → List ℕ) (ps qs : List PartsValue) → body_lines
 lines_both names [] qs = refl
 lines_both names (p ∷ ps) qs = ap (λ (l : Lines). body_line names p ∷ l) (lines_both names ps qs)
 
-reads_now : (s : StoreValue) (bodies : List PartsValue) (seen : Image) (leaves : Image → Type 0) → IsOn s bodies seen leaves →
+pub reads_now : (s : StoreValue) (bodies : List PartsValue) (seen : Image) (leaves : Image → Type 0) → IsOn s bodies seen leaves →
     (head : HeadValue) → s.head ≡ head → (c : Image) → leaves c → Reads head bodies (ends_of s.held) c
 reads_now s bodies seen leaves on head same c has =
     subst (λ (h : HeadValue). Reads h bodies (ends_of s.held) c) same

@@ -13,6 +13,7 @@ use Rattle.std.proofs.Math.Seq.{get_or-append_seam}
 use Rattle.outside.specs.station.Station.{Lines}
 use Rattle.board.specs.declared.flow.TheConstants.{BLOCKS_PER_WINDOW}
 use Rattle.site_config.specs.recorded.Recorded.{Recorded}
+use Rattle.count_command.specs.declared.watching.ends.TheConstants.{MOST_ENDS, MOST_ENDS_BESIDE}
 use Rattle.count_command.specs.held_samples.Told.{seen_line}
 use Rattle.count_command.proofs.on_held_samples.Going.{same_lines}
 use Rattle.count_command.specs.watching.Seen.{IsHeldNumber, AreSeenOf, TellsSeen, seen_lines}
@@ -46,20 +47,22 @@ all_one P x here (suc k) d lt = absurd (omega (arith, lt))
 all_last : {X : Type 0} (P : X → Type 0) (xs : List X) (x : X) → All P xs → P x → All P (xs ++ x ∷ [])
 all_last P xs x all here = All-append P xs (x ∷ []) all (all_one P x here)
 
--- the steps of a gauge that were told so far, all below `least`
-pub record StepsSoFar (name : List ℕ) (start step held least : ℕ) (told told2 : Lines) : Type 0 where
+-- the steps of a gauge that were told so far, all below `least`, and at most so many
+pub record StepsSoFar (name : List ℕ) (start step held least most : ℕ) (told told2 : Lines) : Type 0 where
   pub ns : List ℕ
   pub ascend : IsStrictlyIncreasing ns
   pub each : All (IsStep start step held) ns
   pub below : All (λ m. m < least) ns
+  pub few : length ns ≤ most
   pub grew : told2 ≡ told ++ map (seen_line name) ns
 
-pub steps_start : (name : List ℕ) (start step held least : ℕ) (told : Lines) → StepsSoFar name start step held least told told
+pub steps_start : (name : List ℕ) (start step held least : ℕ) (told : Lines) → StepsSoFar name start step held least 0 told told
 steps_start name start step held least told = record {
   ns = [];
   ascend = λ k lt. absurd (omega (arith, lt));
   each = λ k d lt. absurd (omega (arith, lt));
   below = λ k d lt. absurd (omega (arith, lt));
+  few = omega arith;
   grew = same_lines told;
 }
 
@@ -70,27 +73,29 @@ told_more name ns m told told2 told3 so_far here =
     ∙ append_assoc told (map (seen_line name) ns) (seen_line name m ∷ [])
     ∙ ap (λ (l : Lines). told ++ l) (sym (map-append (seen_line name) ns (m ∷ [])))
 
-pub steps_more : (name : List ℕ) (start step held least m : ℕ) (told told2 told3 : Lines)
-    → StepsSoFar name start step held least told told2 → IsStep start step held m → least ≤ m
-    → told3 ≡ told2 ++ seen_line name m ∷ [] → StepsSoFar name start step held (m + 1) told told3
-steps_more name start step held least m told told2 told3 s is le here = record {
+pub steps_more : (name : List ℕ) (start step held least most m : ℕ) (told told2 told3 : Lines)
+    → StepsSoFar name start step held least most told told2 → IsStep start step held m → least ≤ m
+    → told3 ≡ told2 ++ seen_line name m ∷ [] → StepsSoFar name start step held (m + 1) (most + 1) told told3
+steps_more name start step held least most m told told2 told3 s is le here = record {
   ns = s.ns ++ m ∷ [];
   ascend = ascend_more s.ns m s.ascend (λ k d lt. omega (arith, s.below k d lt, le));
   each = all_last (IsStep start step held) s.ns m s.each is;
   below = all_last (λ (n : ℕ). n < m + 1) s.ns m (λ k d lt. omega (arith, s.below k d lt, le)) (omega arith);
+  few = omega (arith, s.few, length-append s.ns (m ∷ []));
   grew = told_more name s.ns m told told2 told3 s.grew here;
 }
 
-pub steps_told : (name : List ℕ) (start step held least : ℕ) (told told2 told3 : Lines)
-    → StepsSoFar name start step held least told told2 → told3 ≡ told2 ++ seen_line name held ∷ []
+pub steps_told : (name : List ℕ) (start step held least most : ℕ) (told told2 told3 : Lines)
+    → StepsSoFar name start step held least most told told2 → most ≤ MOST_ENDS_BESIDE → told3 ≡ told2 ++ seen_line name held ∷ []
     → TellsSteps name start step held told told3
-steps_told name start step held least told told2 told3 s here = record {
+steps_told name start step held least most told told2 told3 s le here = record {
   ns = s.ns ++ held ∷ [];
   steps = record {
     before = s.ns;
     are = refl;
     ascend = ascend_more s.ns held s.ascend (λ k d lt. (s.each k d lt).below);
     each = s.each;
+    few = omega (arith, s.few, le);
   };
   grew = told_more name s.ns held told told2 told3 s.grew here;
 }
@@ -169,6 +174,7 @@ seen_of block r n g held ns some all s =
       each = subst (All (IsHeldNumber block r n g)) (sym s.are) each;
       before = s.before;
       last = s.are ∙ ap (λ (m : ℕ). s.before ++ m ∷ []) all;
+      few = omega (arith, s.few, ap length s.are, length-append s.before (held ∷ []));
     }
 
 pub seen_all : (block : ℕ) (r : Recorded) (n ends : List ℕ) (k : ℕ) (told told2 : Lines) → 1 ≤ block → k ≡ r.gauges

@@ -1,4 +1,4 @@
--- What is true at every moment of a run of `count`.
+-- What is true at every moment of a run of `count` or `watch`.
 --   HoldsAtLeast     the image keeps what it must, and holds at least these numbers of samples
 --   AllHold          each image that a crash may leave stands for the recordings and does
 --   KeepsAs          and no line of this call acknowledges more than the image holds
@@ -43,9 +43,8 @@ KeepsTold r a told lines c = KeepsAs (recorded r) r a told lines c
 
 -- start, past and told: the clock, the moments and the lines at entry, where n are held; since and told2: those of now,
 -- where m are held
-pub record HoldsSince (kept : Kept) (r : Recorded) (n : List ℕ) (start : ℕ) (past : MomentsSince) (told : Lines) (now : ℕ)
-    (since : MomentsSince)
-    (told2 : Lines) (leaves : Image → Type 0) (m : List ℕ) : Type 0 where
+pub record HoldsSince (kept : Kept) (r : Recorded) (n : List ℕ) (start : ℕ) (past : MomentsSince) (told : Lines)
+    (now : ℕ) (since : MomentsSince) (told2 : Lines) (leaves : Image → Type 0) (m : List ℕ) : Type 0 where
   pub run : Since start past now since (KeepsAs kept r n told)
   pub new : Lines
   pub grew : told2 ≡ told ++ new

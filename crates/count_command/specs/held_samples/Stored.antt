@@ -21,8 +21,8 @@ pub record Stores {K E : Type 0} (v : station.Ghosts K) (bridge : Config) (board
   -- Every moment is kept, whatever it answers.
   pub going : v.tells → (files : Files) (kept : Kept) → IsStoredAs kept old (v.seen station) (v.leaves station) →
       FrontsFollow kept (length bridge.gauges) board →
-      HoldsSince kept (recordings bridge files) (ends_of old.held) (v.clock station) (v.moments station) (v.told station)
-      (v.clock station2) (v.moments station2) (v.told station2) (v.leaves station2) (ends_of new.held)
+      HoldsSince kept (recordings bridge files) (ends_of old.held) (v.clock station) (v.moments station)
+      (v.told station) (v.clock station2) (v.moments station2) (v.told station2) (v.leaves station2) (ends_of new.held)
   pub stored : v.tells → (kept : Kept) → IsStoredAs kept old (v.seen station) (v.leaves station) →
       FrontsFollow kept (length bridge.gauges) board →
       OnOk result (IsStoredAs kept new (v.seen station2) (v.leaves station2))

@@ -1,4 +1,4 @@
--- The lines that acknowledge.
+-- The lines that tell how far a gauge is: those of `count` and `watch` that acknowledge, and those of what `watch` saw.
 --   line_of       a word with a space, a name, and a number
 --   held_line     the first n samples of a gauge are held
 --   seen_line     a watcher saw so much of it; it acknowledges nothing

@@ -4,17 +4,21 @@
 --   seen_lines     the lines of the gauges below k, in order of gauge and number
 --   AreSeen        the lines of all gauges
 --   TellsSeen      what was told is these
---   IsSeenLine     a line of this kind
---   BehindSeen     such lines and nothing else stand behind lines and an image that have the property
---   TellsOnlySeen  a run that told such lines and did nothing else
-use Rattle.std.specs.Prelude.{◌≡◌, ◌<◌, ◌⊎◌, ℕ, zero, suc, List, [], ◌∷◌, ◌++◌, length, map, slice_index}
+--   IsSeenLine     a line of a gauge of the configuration and a number of samples that are held of it
+--   BehindTold     lines of a kind and nothing else stand behind those that were told, and no image is new
+--   TellsOnlySeen  a run that told lines of a kind and did nothing else
+use Rattle.std.specs.Prelude.{◌≡◌, ◌<◌, ◌≤◌, ◌⊎◌, ℕ, zero, suc, List, [], ◌∷◌, ◌++◌, length, map, slice_index}
 use Rattle.std.specs.List.{All, AllByRecursion}
 use Rattle.std.specs.List.Sorted.{IsStrictlyIncreasing}
-use Rattle.outside.specs.station.Station.{Image, Lines, IsMoment, Since, NoNew}
+use Rattle.outside.specs.station.Station.{Image, Lines, Since, NoNew}
 use Rattle.outside.specs.declared.station.station.Station as station
-use Rattle.segment_store.specs.Moments.{InNoWrite}
+use Rattle.site_config.specs.declared.config.Config.{Config}
+use Rattle.site_config.specs.Valid.{name_of}
 use Rattle.site_config.specs.recorded.Recorded.{Recorded}
+use Rattle.count_command.specs.declared.watching.ends.TheConstants.{MOST_ENDS}
+use Rattle.count_command.specs.held_samples.Pace.{window_of}
 use Rattle.count_command.specs.held_samples.Told.{held_after, seen_line}
+use Rattle.count_command.specs.watching.Steps.{IsSeenLineOf}
 
 -- n were held before the rounds
 abbrev pub IsHeldNumber : ℕ → Recorded → List ℕ → ℕ → ℕ → Type 0
@@ -25,6 +29,7 @@ pub record AreSeenOf (block : ℕ) (r : Recorded) (n : List ℕ) (g : ℕ) (ns :
   pub each : All (IsHeldNumber block r n g) ns
   pub before : List ℕ
   pub last : ns ≡ before ++ length (r.samples g) ∷ []
+  pub few : length ns ≤ MOST_ENDS
 
 abbrev pub seen_lines : (ℕ → List ℕ) → (ℕ → List ℕ) → ℕ → Lines
 seen_lines names ns zero = []
@@ -40,22 +45,28 @@ pub record TellsSeen (block : ℕ) (r : Recorded) (n : List ℕ) (told told2 : L
   pub grew : told2 ≡ told ++ lines
   pub seen : AreSeen block r n lines
 
-abbrev pub IsSeenLine : List ℕ → Type 0
-IsSeenLine line = (name : List ℕ) × ((n : ℕ) × (line ≡ seen_line name n))
+-- starts: how many were held of each gauge before the rounds; held: how many are. The number is that of what is held,
+-- or of so many whole rounds.
+pub record IsSeenLine (bridge : Config) (starts held : List ℕ) (line : List ℕ) : Type 0 where
+  pub gauge : ℕ
+  pub known : gauge < length bridge.gauges
+  pub of : IsSeenLineOf (name_of bridge gauge) (slice_index starts gauge) (window_of bridge) (slice_index held gauge)
+      line
 
-pub record BehindSeen (P : IsMoment) (lines : Lines) (c : Image) : Type 0 where
-  pub before : Lines
+pub record BehindTold (P : List ℕ → Type 0) (told : Lines) (leaves : Image → Type 0) (lines : Lines)
+    (c : Image) : Type 0 where
   pub seen : Lines
-  pub are : lines ≡ before ++ seen
-  pub lines_seen : AllByRecursion IsSeenLine seen
-  pub has : P before c
+  pub are : lines ≡ told ++ seen
+  pub each : AllByRecursion P seen
+  pub has : leaves c
 
 -- over the station at entry and at the end
-pub record TellsOnlySeen {K : Type 0} (v : station.Ghosts K) (station station2 : K) : Type 0 where
+pub record TellsOnlySeen {K : Type 0} (v : station.Ghosts K) (P : List ℕ → Type 0) (station station2 : K)
+    : Type 0 where
   pub run : Since (v.clock station) (v.moments station) (v.clock station2) (v.moments station2)
-      (BehindSeen (InNoWrite (v.told station) (v.leaves station)))
+      (BehindTold P (v.told station) (v.leaves station))
   pub new : Lines
   pub grew : v.told station2 ≡ v.told station ++ new
-  pub lines_seen : AllByRecursion IsSeenLine new
+  pub each : AllByRecursion P new
   pub seen_same : v.seen station2 ≡ v.seen station
   pub none_new : NoNew (v.leaves station) (v.leaves station2)

@@ -13,6 +13,7 @@ ghost use Rattle.count_command.specs.held_rounds.Made.{RoundsMade};
 ghost use Rattle.count_command.specs.held_rounds.Ready.{AreOpenedLanes, AreRoundsFor};
 ghost use Rattle.count_command.specs.held_samples.Stored.{Stores};
 
+use crate::course::Run;
 use crate::held_samples::{Behind, PutHook, store_fronts};
 use board::Board;
 use count_workers::Prepared;
@@ -20,7 +21,6 @@ use count_workers::lane_loans::Lane;
 use outside::station::Station;
 use outside::{Failed, Gate, Source};
 use segment_store::Store;
-use site_config::Config;
 use site_lanes::have_ended;
 use std::sync::Wait;
 use std::thread::{Threads, join_mut};
@@ -28,35 +28,34 @@ use std::thread::{Threads, join_mut};
 // A round in a new thread, or last where none can be made, and the puts of the round before in this
 // one.
 fn both<R: Threads + Wait + Sync, C: Source + Send, K: Station, G: Gate + Sync, H: PutHook>(
-    rt: &R,
+    run: &Run<'_, R, G>,
     board: &Board,
     prepared: &mut Prepared<C>,
     lanes: &mut [Lane<C>],
-    bridge: &Config,
     store: &mut Store,
     station: &mut K,
-    gate: &G,
     behind: &mut Behind<H>,
 ) -> Result<(), Failed>
     requires usable { store.old.shut ≡ false }
     requires follows { H.follows behind.old.hook store.old.head.setup.grid
         (ends_of store.old.held) }
-    requires bridge { IsConfig bridge.now }
-    requires gauges { (length store.old.held ≡ length bridge.now.gauges)
+    requires bridge { IsConfig run.now.bridge.now }
+    requires gauges { (length store.old.held ≡ length run.now.bridge.now.gauges)
         × (length lanes.old ≡ prepared.old.gauges)
-        × (length board.now.rows ≡ length bridge.now.gauges) }
-    requires setup { store.old.head.setup ≡ bridge.now.setup }
+        × (length board.now.rows ≡ length run.now.bridge.now.gauges) }
+    requires setup { store.old.head.setup ≡ run.now.bridge.now.setup }
     requires fronts { AreFronts store.old.head.setup (ends_of store.old.held) board.now
-        (length bridge.now.gauges) }
+        (length run.now.bridge.now.gauges) }
     requires lanes { AreReady lanes.old }
     requires on { K.tells → IsThere store.old (K.seen station.old) (K.leaves station.old) }
     ensures round { RoundDone C.tells C.left C.faults
         prepared.old prepared.new lanes.old lanes.new }
-    ensures stores { Stores ⟦<K as Station>⟧ bridge.now board.now store.old store.new
+    ensures stores { Stores ⟦<K as Station>⟧ run.now.bridge.now board.now store.old store.new
         station.old station.new result }
     ensures follows { H.follows behind.new.hook store.new.head.setup.grid
         (ends_of store.new.held) }
 {
+    let (rt, gate, bridge) = (run.rt, run.gate, run.bridge);
     let (_, stored) = join_mut(
         rt,
         &mut ||
@@ -72,48 +71,44 @@ fn both<R: Threads + Wait + Sync, C: Source + Send, K: Station, G: Gate + Sync, 
 
 // The puts and lines of the last round, of which this is the board, and beside them the next round.
 fn round_beside<R: Threads + Wait + Sync, C: Source + Send, K: Station, G: Gate + Sync, H: PutHook>(
-    rt: &R,
+    run: &Run<'_, R, G>,
     board: &Board,
     prepared: &mut Prepared<C>,
     lanes: &mut [Lane<C>],
-    bridge: &Config,
     store: &mut Store,
     station: &mut K,
-    gate: &G,
     behind: &mut Behind<H>,
 ) -> Result<(), Failed>
     requires usable { store.old.shut ≡ false }
     requires follows { H.follows behind.old.hook store.old.head.setup.grid
         (ends_of store.old.held) }
-    requires bridge { IsConfig bridge.now }
-    requires gauges { (length store.old.held ≡ length bridge.now.gauges)
-        × (prepared.old.gauges ≡ length bridge.now.gauges)
-        × (length lanes.old ≡ length bridge.now.gauges)
-        × (length board.now.rows ≡ length bridge.now.gauges) }
-    requires setup { store.old.head.setup ≡ bridge.now.setup }
-    requires grid { prepared.old.grid ≡ bridge.now.setup.grid }
+    requires bridge { IsConfig run.now.bridge.now }
+    requires gauges { (length store.old.held ≡ length run.now.bridge.now.gauges)
+        × (prepared.old.gauges ≡ length run.now.bridge.now.gauges)
+        × (length lanes.old ≡ length run.now.bridge.now.gauges)
+        × (length board.now.rows ≡ length run.now.bridge.now.gauges) }
+    requires setup { store.old.head.setup ≡ run.now.bridge.now.setup }
+    requires grid { prepared.old.grid ≡ run.now.bridge.now.setup.grid }
     requires leads { Leads store.old.head.setup (ends_of store.old.held) board.now lanes.old }
     requires lanes { AreReady lanes.old }
     requires on { K.tells → IsThere store.old (K.seen station.old) (K.leaves station.old) }
     // Of the running round nothing is said here.
-    ensures stores { Stores ⟦<K as Station>⟧ bridge.now board.now store.old store.new
+    ensures stores { Stores ⟦<K as Station>⟧ run.now.bridge.now board.now store.old store.new
         station.old station.new result }
     // The gauges are held up to where the lanes were, and the next board leads on from there.
     ensures held { OnOk result (AreHeldTo (ends_of store.new.held) lanes.old) }
     ensures leads { OnOk result (Leads store.new.head.setup (ends_of store.new.held)
         prepared.new.board lanes.new) }
     ensures stand { C.tells → (files : Files) →
-        AreLanes C.tells C.left (recordings bridge.now files) lanes.old → OnOk result
-        (AreLanes C.tells C.left (recordings bridge.now files) lanes.new
-        × FrontsStand (recordings bridge.now files) prepared.new.board) }
+        AreLanes C.tells C.left (recordings run.now.bridge.now files) lanes.old → OnOk result
+        (AreLanes C.tells C.left (recordings run.now.bridge.now files) lanes.new
+        × FrontsStand (recordings run.now.bridge.now files) prepared.new.board) }
     ensures round { RoundDone C.tells C.left C.faults
         prepared.old prepared.new lanes.old lanes.new }
     ensures follows { H.follows behind.new.hook store.new.head.setup.grid
         (ends_of store.new.held) }
 {
-    both(
-        rt, board, prepared, lanes, bridge, store, station, gate, behind,
-    )
+    both(run, board, prepared, lanes, store, station, behind)
 }
 
 /// Rounds until each lane has ended, each beside the puts and lines of the round before. `board` is
@@ -126,35 +121,31 @@ pub fn count_rounds<
     G: Gate + Sync,
     H: PutHook,
 >(
-    rt: &R,
+    run: &Run<'_, R, G>,
     prepared: &mut Prepared<C>,
     board: Board,
     lanes: &mut [Lane<C>],
-    bridge: &Config,
     store: &mut Store,
     station: &mut K,
-    gate: &G,
     behind: &mut Behind<H>,
 ) -> Result<(), Failed>
-    requires opened { AreOpenedLanes ⟦<C as Source>⟧ ⟦<K as Station>⟧ bridge.now store.old
+    requires opened { AreOpenedLanes ⟦<C as Source>⟧ ⟦<K as Station>⟧ run.now.bridge.now store.old
         lanes.old station.old }
-    requires rounds { AreRoundsFor bridge.now prepared.old board }
+    requires rounds { AreRoundsFor run.now.bridge.now prepared.old board }
     requires follows { H.follows behind.old.hook store.old.head.setup.grid
         (ends_of store.old.held) }
-    ensures made { RoundsMade ⟦<C as Source>⟧ ⟦<K as Station>⟧ bridge.now store.old store.new
+    ensures made { RoundsMade ⟦<C as Source>⟧ ⟦<K as Station>⟧ run.now.bridge.now store.old store.new
         lanes.old lanes.new station.old station.new result }
     ensures follows { H.follows behind.new.hook store.new.head.setup.grid
         (ends_of store.new.held) }
 {
-    prepared.round(rt, lanes, gate);
+    prepared.round(run.rt, lanes, run.gate);
     let mut board = prepared.exchange(board);
-    for _ in rt.forever() {
+    for _ in run.rt.forever() {
         if have_ended(lanes) {
-            return store_fronts(&board, bridge, store, station, behind);
+            return store_fronts(&board, run.bridge, store, station, behind);
         }
-        round_beside(
-            rt, &board, prepared, lanes, bridge, store, station, gate, behind,
-        )?;
+        round_beside(run, &board, prepared, lanes, store, station, behind)?;
         board = prepared.exchange(board);
     }
     unreachable!()

@@ -7,10 +7,12 @@ use status::line_room::LineRoom;
 use std::alloc::Global;
 use std::marker::Model;
 
-// The most bytes of a line: two words, the longest name, and a number of 20 digits.
+// The most bytes of a line: a word with a space, the longest name and a space, and a number of 20
+// digits with the end of the line.
 const MAX_LINE_BYTES: usize = 59;
 
-/// Room for one line that says how far a gauge is, 59 bytes. Its value is the bytes that stand in it.
+/// Room for one line that says how far a gauge is, 59 bytes. Its value is the bytes that stand in
+/// it.
 #[derive(Debug, Drop)]
 pub struct HeldLine {
     line: LineRoom,

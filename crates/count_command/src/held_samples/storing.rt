@@ -38,8 +38,8 @@ use segment::Segment;
 use segment_store::Store;
 use site_config::Config;
 
-/// Stores the front of a gauge, and acknowledges it.
-pub fn store_front<K: Station, H: PutHook>(
+// Stores the front of a gauge, and acknowledges it.
+fn store_front<K: Station, H: PutHook>(
     store: &mut Store,
     station: &mut K,
     front: &Segment,

@@ -41,7 +41,8 @@ impl Bell {
 
     /// Sleeps until it is rung once more than so often. It may also return for no reason.
     pub fn wait<R: Wait>(&self, rt: &R, rings: u64) {
-        // A sleep compares the lower half of the count.
+        // A sleep compares the lower half of the count. So 2^32 rings, or a multiple, that came
+        // since the count was read would not end it, and the next ring would.
         self.rings.park(rt, (rings % (1 << 32)) as u32);
     }
 }

@@ -32,6 +32,7 @@ impl Lookout {
     fn look(&mut self, most: usize)
         ensures { self.new ≡ self.old }
     {
+        // While the shower lives each look is true; one that isn't leaves the copy as it was.
         let _shown = self.watcher.look(&mut self.copy);
         self.ends.keep(&self.copy, most);
     }

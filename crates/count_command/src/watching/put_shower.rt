@@ -6,13 +6,16 @@ use std::alloc::Global;
 use std::marker::{Brand, PhantomData};
 use std::sync::Wait;
 
-/// Which live view it is whose shows are made behind puts. A call picks it.
+/// Which live view it is whose shows are made behind puts. It is said in types alone, and each call
+/// of the rounds picks one.
 pub trait OneView {
     ghost use Rattle.logbook.specs.Pages.{Book};
 
     ghost book: { Book };
 }
 
+// Any number serves here: the proof of a call that is handed a live view puts that one in its
+// place.
 impl OneView for Brand {
     ghost book = { record { number = 0; log_name = 0; cells_name = 0 } };
 }

@@ -5,6 +5,7 @@ ghost use Rattle.count_command.specs.held_rounds.Made.{RoundsMade};
 ghost use Rattle.count_command.specs.held_rounds.Ready.{AreOpened, AreOpenedLanes, AreRoundsFor};
 ghost use Rattle.count_command.specs.watching.Watching.{ShowsAtMost};
 
+use crate::course::Run;
 use crate::held_rounds::count_rounds;
 use crate::held_samples::{Behind, PutHook};
 use crate::watching::bell::Bell;
@@ -17,7 +18,6 @@ use count_workers::lane_loans::Lane;
 use outside::station::Station;
 use outside::{Failed, Gate, Source};
 use segment_store::Store;
-use site_config::Config;
 use std::alloc::AllocGlobal;
 use std::marker::{Brand, PhantomData};
 use std::sync::Wait;
@@ -53,22 +53,20 @@ fn rounds_and_end<
     G: Gate + Sync,
     H: PutHook + Rings,
 >(
-    rt: &R,
+    run: &Run<'_, R, G>,
     rounds: &mut RoundsToMake<C>,
     lanes: &mut [Lane<C>],
-    bridge: &Config,
     store: &mut Store,
     station: &mut K,
-    gate: &G,
     behind: &mut Behind<H>,
 ) -> Result<(), Failed>
-    requires opened { AreOpenedLanes ⟦<C as Source>⟧ ⟦<K as Station>⟧ bridge.now store.old
+    requires opened { AreOpenedLanes ⟦<C as Source>⟧ ⟦<K as Station>⟧ run.now.bridge.now store.old
         lanes.old station.old }
     requires rounds { MatchOption rounds.old.board ⊥
-        (λ b. AreRoundsFor bridge.now rounds.old.prepared b) }
+        (λ b. AreRoundsFor run.now.bridge.now rounds.old.prepared b) }
     requires follows { H.follows behind.old.hook store.old.head.setup.grid
         (ends_of store.old.held) }
-    ensures made { RoundsMade ⟦<C as Source>⟧ ⟦<K as Station>⟧ bridge.now store.old store.new
+    ensures made { RoundsMade ⟦<C as Source>⟧ ⟦<K as Station>⟧ run.now.bridge.now store.old store.new
         lanes.old lanes.new station.old station.new result }
     ensures follows { H.follows behind.new.hook store.new.head.setup.grid
         (ends_of store.new.held) }
@@ -77,14 +75,12 @@ fn rounds_and_end<
         unreachable!()
     };
     let done = count_rounds(
-        rt,
+        run,
         &mut rounds.prepared,
         board,
         lanes,
-        bridge,
         store,
         station,
-        gate,
         behind,
     );
     behind.hook.end();
@@ -99,28 +95,27 @@ fn rounds_beside<
     G: Gate + Sync,
     H: PutHook + Rings,
 >(
-    rt: &R,
+    run: &Run<'_, R, G>,
     rounds: &mut RoundsToMake<C>,
     lanes: &mut [Lane<C>],
-    bridge: &Config,
     store: &mut Store,
     station: &mut K,
-    gate: &G,
     behind: &mut Behind<H>,
     looking: &mut Looking<'_>,
 ) -> Result<(), Failed>
-    requires opened { AreOpenedLanes ⟦<C as Source>⟧ ⟦<K as Station>⟧ bridge.now store.old
+    requires opened { AreOpenedLanes ⟦<C as Source>⟧ ⟦<K as Station>⟧ run.now.bridge.now store.old
         lanes.old station.old }
     requires rounds { MatchOption rounds.old.board ⊥
-        (λ b. AreRoundsFor bridge.now rounds.old.prepared b) }
+        (λ b. AreRoundsFor run.now.bridge.now rounds.old.prepared b) }
     requires follows { H.follows behind.old.hook store.old.head.setup.grid
         (ends_of store.old.held) }
-    ensures made { RoundsMade ⟦<C as Source>⟧ ⟦<K as Station>⟧ bridge.now store.old store.new
+    ensures made { RoundsMade ⟦<C as Source>⟧ ⟦<K as Station>⟧ run.now.bridge.now store.old store.new
         lanes.old lanes.new station.old station.new result }
     ensures follows { H.follows behind.new.hook store.new.head.setup.grid
         (ends_of store.new.held) }
     ensures lookout { looking.new.lookout ≡ looking.old.lookout }
 {
+    let rt = run.rt;
     let (_, done) = join_mut(
         rt,
         &mut ||
@@ -129,12 +124,12 @@ fn rounds_beside<
         { look_beside(rt, looking) },
         &mut ||
             requires { IsSync R.row × IsSync G.row × IsSend C.row
-                × AreOpened K.tells C.faults bridge.now store.now lanes.now
+                × AreOpened K.tells C.faults run.now.bridge.now store.now lanes.now
                 (K.seen station.now) (K.leaves station.now)
                 × MatchOption rounds.now.board ⊥
-                (λ b. AreRoundsFor bridge.now rounds.now.prepared b)
+                (λ b. AreRoundsFor run.now.bridge.now rounds.now.prepared b)
                 × H.follows behind.now.hook store.now.head.setup.grid (ends_of store.now.held) }
-        { rounds_and_end(rt, rounds, lanes, bridge, store, station, gate, behind) },
+        { rounds_and_end(run, rounds, lanes, store, station, behind) },
     );
     done
 }
@@ -147,22 +142,20 @@ fn rounds_watched<
     G: Gate + Sync,
     V: OneView,
 >(
-    rt: &R,
+    run: &Run<'_, R, G>,
     prepared: Prepared<C>,
     board: Board,
     lanes: &mut [Lane<C>],
-    bridge: &Config,
     store: &mut Store,
     station: &mut K,
-    gate: &G,
     watch: Watch,
 ) -> (Result<(), Failed>, Watched)
-    requires opened { AreOpenedLanes ⟦<C as Source>⟧ ⟦<K as Station>⟧ bridge.now store.old
+    requires opened { AreOpenedLanes ⟦<C as Source>⟧ ⟦<K as Station>⟧ run.now.bridge.now store.old
         lanes.old station.old }
-    requires rounds { AreRoundsFor bridge.now prepared board }
+    requires rounds { AreRoundsFor run.now.bridge.now prepared board }
     requires shows { ShowsAtMost watch.shown store.old.head.setup.grid (ends_of store.old.held) }
     requires one { watch.of ≡ V.book }
-    ensures made { RoundsMade ⟦<C as Source>⟧ ⟦<K as Station>⟧ bridge.now store.old store.new
+    ensures made { RoundsMade ⟦<C as Source>⟧ ⟦<K as Station>⟧ run.now.bridge.now store.old store.new
         lanes.old lanes.new station.old station.new result.0 }
     ensures starts { result.1.ends ≡ watch.starts }
 {
@@ -183,8 +176,8 @@ fn rounds_watched<
     let mut behind = Behind {
         line,
         hook: PutShower::<'_, R, V> {
-            rt,
-            alloc: rt.alloc(),
+            rt: run.rt,
+            alloc: run.rt.alloc(),
             bell: &bell,
             shower,
             refused: false,
@@ -192,13 +185,11 @@ fn rounds_watched<
         },
     };
     let done = rounds_beside(
-        rt,
+        run,
         &mut rounds,
         lanes,
-        bridge,
         store,
         station,
-        gate,
         &mut behind,
         &mut looking,
     );
@@ -215,7 +206,7 @@ fn rounds_watched<
         lookout,
         bell: _rung,
     } = looking;
-    let ends = lookout.end(rt, shower);
+    let ends = lookout.end(run.rt, shower);
     (
         done,
         Watched {
@@ -235,25 +226,21 @@ pub fn watch_rounds<
     K: Station,
     G: Gate + Sync,
 >(
-    rt: &R,
+    run: &Run<'_, R, G>,
     prepared: Prepared<C>,
     board: Board,
     lanes: &mut [Lane<C>],
-    bridge: &Config,
     store: &mut Store,
     station: &mut K,
-    gate: &G,
     watch: Watch,
 ) -> (Result<(), Failed>, Watched)
-    requires opened { AreOpenedLanes ⟦<C as Source>⟧ ⟦<K as Station>⟧ bridge.now store.old
+    requires opened { AreOpenedLanes ⟦<C as Source>⟧ ⟦<K as Station>⟧ run.now.bridge.now store.old
         lanes.old station.old }
-    requires rounds { AreRoundsFor bridge.now prepared board }
+    requires rounds { AreRoundsFor run.now.bridge.now prepared board }
     requires shows { ShowsAtMost watch.shown store.old.head.setup.grid (ends_of store.old.held) }
-    ensures made { RoundsMade ⟦<C as Source>⟧ ⟦<K as Station>⟧ bridge.now store.old store.new
+    ensures made { RoundsMade ⟦<C as Source>⟧ ⟦<K as Station>⟧ run.now.bridge.now store.old store.new
         lanes.old lanes.new station.old station.new result.0 }
     ensures starts { result.1.ends ≡ watch.starts }
 {
-    rounds_watched::<R, C, K, G, Brand>(
-        rt, prepared, board, lanes, bridge, store, station, gate, watch,
-    )
+    rounds_watched::<R, C, K, G, Brand>(run, prepared, board, lanes, store, station, watch)
 }

@@ -6,11 +6,11 @@ ghost use Rattle.segment_store.specs.Held.{ends_of};
 ghost use Rattle.site_config.specs.declared.limits.TheConstants.{MAX_NAME_BYTES};
 ghost use Rattle.site_config.specs.Valid.{IsConfig};
 ghost use Rattle.site_config.specs.recorded.Recorded.{recordings};
-ghost use Rattle.count_command.specs.watching.Seen.{TellsOnlySeen, TellsSeen};
-ghost use Rattle.count_command.specs.watching.Steps.{IsStep, TellsSteps};
+ghost use Rattle.count_command.specs.watching.Seen.{IsSeenLine, TellsOnlySeen, TellsSeen};
+ghost use Rattle.count_command.specs.watching.Steps.{IsSeenLineOf, IsStep, TellsSteps};
 
 use crate::held_samples::HeldLine;
-use crate::watching::ends::SeenEnds;
+use crate::watching::ends::{MOST_ENDS_BESIDE, SeenEnds};
 use board::flow::BLOCKS_PER_WINDOW;
 use outside::Failed;
 use outside::station::Station;
@@ -27,6 +27,7 @@ fn is_step(start: u64, step: u64, held: u64, least: u64, end: u64) -> bool
 }
 
 // Tells the ends of a gauge that are those of whole rounds and ascend, and then what is held of it.
+// Of so many as are kept of looks beside the puts, since the last look sees what is held.
 fn tell_gauge<K: Station>(
     station: &mut K,
     line: &mut HeldLine,
@@ -38,13 +39,15 @@ fn tell_gauge<K: Station>(
 ) -> Result<(), Failed>
     requires short { length name.now ≤ MAX_NAME_BYTES }
     requires step { 1 ≤ step }
-    ensures only { K.tells → TellsOnlySeen ⟦<K as Station>⟧ station.old station.new }
+    ensures only { K.tells → TellsOnlySeen ⟦<K as Station>⟧
+        (IsSeenLineOf name.now start step held) station.old station.new }
     ensures told { K.tells → OnOk result
         (TellsSteps name.now start step held (K.told station.old) (K.told station.new)) }
     ensures cause { HasCause (K.faults station.old) (K.faults station.new) result }
 {
     let mut least = 0;
-    for i in 0..ends.len() {
+    let most = ends.len().min(MOST_ENDS_BESIDE);
+    for i in 0..most {
         let end = ends[i];
         if !is_step(start, step, held, least, end) {
             continue;
@@ -67,7 +70,8 @@ pub fn tell_seen<K: Station>(
 ) -> Result<(), Failed>
     requires bridge { IsConfig bridge.now }
     requires gauges { length store.now.held ≡ length bridge.now.gauges }
-    ensures only { K.tells → TellsOnlySeen ⟦<K as Station>⟧ station.old station.new }
+    ensures only { K.tells → TellsOnlySeen ⟦<K as Station>⟧
+        (IsSeenLine bridge.now ends.now (ends_of store.now.held)) station.old station.new }
     // Where all samples are held.
     ensures told { K.tells → (files : Files) → ((g : ℕ) → g < length bridge.now.gauges →
         slice_index (ends_of store.now.held) g ≡ length ((recordings bridge.now files).samples g)) →

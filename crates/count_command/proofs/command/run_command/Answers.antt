@@ -1,4 +1,4 @@
-use Rattle.std.proofs.Common.{◌≡◌, ◌≢◌, ◌⊎◌, ℕ, List, refl, sym, subst, ⊎_elim, inl, inr, ◌++◌, [], ◌∷◌, ◌∙◌, length, ap}
+use Rattle.std.proofs.Common.{◌≡◌, ◌⊎◌, ℕ, List, refl, sym, subst, ⊎_elim, inl, inr, ◌++◌, [], ◌∷◌, ◌∙◌, length, ap}
 use Rattle.std.specs.Prelude.{Result, Err}
 use Rattle.outside.specs.Fault.{CountRose}
 use Rattle.outside.specs.station.Station.{Since}
@@ -10,7 +10,7 @@ use Rattle.site_config.specs.recorded.Asked.{names_in}
 use Rattle.segment_store.specs.Holds.{Holds}
 use Rattle.site_lanes.specs.Answers.{HeadsFit, AllSound}
 use Rattle.status.specs.config_reading.Reading.{IsRefusal}
-use Rattle.status.specs.declared.status.Status.TheVariants.{DiskFault, OutOfMemory}
+use Rattle.status.specs.declared.status.Status.TheVariants.{OutOfMemory}
 use Rattle.status.specs.fault_lines.FaultLine.{fault_line, name_by}
 use Rattle.status.specs.Shown.{shown_by, Tells}
 use Rattle.status.proofs.on_fault_lines.Telling.{quiet_tells}
@@ -18,7 +18,7 @@ use Rattle.status.proofs.on_fault_lines.Refused.{line_same}
 use Rattle.count_command.specs.Acknowledging.{AcknowledgesBy, AreShort}
 use Rattle.count_command.specs.Appending.{TellsTruly}
 use Rattle.count_command.specs.Asked.{CountAsks}
-use Rattle.count_command.specs.Holding.{HeldAt, HeldCut, HeldWithoutMemory}
+use Rattle.count_command.specs.Holding.{HoldLimited, HeldAt, HeldCut, QuietOr}
 use Rattle.count_command.specs.Opened.{IsStill}
 use Rattle.count_command.specs.Pacing.{TellsInPace}
 use Rattle.count_command.specs.Printed.{Prints}
@@ -31,7 +31,7 @@ use Rattle.count_command.proofs.CountRun.{left_unread}
 use Rattle.count_command.proofs.FaultTold.{safe_fault, fault_below}
 use Rattle.count_command.proofs.Pacing.{paced_fault}
 use Rattle.count_command.proofs.Whole.{held_fewer, cut_fewer, not_usage_counting}
-use Rattle.count_command.proofs.WithoutMemory.{memory_both}
+use Rattle.count_command.proofs.WithoutMemory.{or_both}
 use Rattle.outside.proofs.Faults.{rose_more, rose_before}
 use Rattle.lemmas.proofs.Outcomes.{same_ok}
 use Rattle.count_command.proofs.command.run_command.Goals as goal
@@ -42,7 +42,7 @@ returns-in_default-clause-run g c =
     let before = shown_by g.C.Source g.T.Site g.K.Station g.O.Sink c.args.config.now c.args.site.now c.args.station.now c.args.out.now in
     let after = shown_by g.C.Source g.T.Site g.K.Station g.O.Sink c.args.config.now c.args.site.now c.tell_no_memory.new.station
     c.args.out.now in
-    left_unread c.args.course before after OutOfMemory tt (λ tells. g.met.K.Station.only_now tells c.args.station.now) refl
+    left_unread c.args.asked.course before after OutOfMemory tt (λ tells. g.met.K.Station.only_now tells c.args.station.now) refl
     c.tell_no_memory.ensures.tells
     (λ tells. ⊎_elim (λ rose. inl rose) (λ is. inr (g.K.Station.told c.args.station.now, is)) (c.tell_no_memory.ensures.last tells))
     refl (λ names has. has) (λ reads. tt) (λ is. absurd cc) refl
@@ -55,7 +55,7 @@ returns-in-Err-clause-run g c =
     let before = shown_by g.C.Source g.T.Site g.K.Station g.O.Sink c.args.config.now c.args.site.now c.args.station.now c.args.out.now in
     let after = shown_by g.C.Source g.T.Site g.K.Station g.O.Sink c.read_config.new.config c.args.site.now c.tell_fault.new.station
     c.args.out.now in
-    left_unread c.args.course before after s c.in-Err.ensures.refusal (λ tells. g.met.K.Station.only_now tells c.args.station.now)
+    left_unread c.args.asked.course before after s c.in-Err.ensures.refusal (λ tells. g.met.K.Station.only_now tells c.args.station.now)
     (line_same s c.in-Err.ensures.refusal [] (name_by (config_of_bytes (g.C.Source.left c.args.config.now)) s))
     c.tell_fault.ensures.tells
     (λ tells. ⊎_elim (λ rose. inl rose) (λ is. inr (told c.args.station.now, is))
@@ -69,7 +69,7 @@ returns-clause-run g c =
     let files = g.T.Site.files c.args.site.now in
     let asked = g.T.Site.names_asked in
     let written = g.O.Sink.written in
-    let course = c.args.course in
+    let course = c.args.asked.course in
     let old = c.args.station.now in
     let mid = c.count_by-status.new.station in
     let new = c.tell_fault-2.new.station in
@@ -81,6 +81,9 @@ returns-clause-run g c =
     let after = shown_by g.C.Source g.T.Site g.K.Station g.O.Sink c.read_config.new.config c.count_by-status.new.site new
     c.count_by-status.new.out in
     let name = name_by (config_of_bytes (g.C.Source.left c.args.config.now)) s in
+    let quiet = (name : List ℕ) × Tells (fault_line s name) before after in
+    let spoken : k.tells → IsStill k old mid → quiet = λ tells still.
+    (c.name_in.result.now, quiet_tells _ _ _ _ _ _ _ _ _ _ _ _ _ _ _ _ still (end.tells tells)) in
     let rose = CountRose (g.T.Site.faults c.args.site.now) (g.T.Site.faults c.count_by-status.new.site) in
     let line : g.C.Source.tells → fault_line s c.name_in.result.now ≡ fault_line s name = λ reads. ap (fault_line s) (c.name_in.ensures
     ∙ ap (λ (x : Result Config ConfigFault). name_by x s) (sym (means reads))) in
@@ -101,9 +104,9 @@ returns-clause-run g c =
           (TellsTruly (recordings x files) first front (k.told old) (k.leaves old))) (same_ok (means reads) is)
           (truly_fault r first front _ _ s c.name_in.result.now (run.appends tells files first front ends was) (end.tells tells)).run;
       paced = λ tells reads bridge is first front ends was.
-          subst (λ (x : Config). TellsInPace course x first front (fault_line s name) (k.clock old) (k.moments old) (k.told old)
-          (k.leaves old) (k.clock new) (k.moments new) (k.told new) (k.leaves new) (s ≢ DiskFault)) (same_ok (means reads) is)
-          (paced_fault course c.in-Ok-read_config.bridge first front _ _ (fault_line s c.name_in.result.now) (fault_line s name)
+          subst (λ (x : Config). TellsInPace course s x first front ends (fault_line s name) (k.clock old) (k.moments old) (k.told old)
+          (k.leaves old) (k.clock new) (k.moments new) (k.told new) (k.leaves new)) (same_ok (means reads) is)
+          (paced_fault course s c.in-Ok-read_config.bridge first front ends _ _ (fault_line s c.name_in.result.now) (fault_line s name)
           (line reads) (run.paced tells first front ends was) (end.tells tells));
       ended = λ tells shows reads bridge is a holds.
           subst (λ (x : Config). AllHold (recordings x files) a (k.leaves old) → HeldAt s (recordings x files) (k.leaves new))
@@ -112,12 +115,10 @@ returns-clause-run g c =
           subst (λ (x : Config). AllHold (recordings x files) a (k.leaves old) → HeldCut s (recordings x files) (k.leaves new))
           (same_ok (means reads) is) (λ all. cut_fewer _ _ _ (end.tells tells).none_new s (run.cut tells shows a all none)) holds;
       memory = λ tells shows reads bridge is a holds none.
-          subst (λ (x : Config). AllHold (recordings x files) a (k.leaves old) → HeldWithoutMemory course s
-          ((name : List ℕ) × Tells (fault_line s name) before after) (recordings x files) (k.leaves new)) (same_ok (means reads) is)
-          (λ all. memory_both {P = IsStill k old mid} {Q = (name : List ℕ) × Tells (fault_line s name) before after}
-          (recordings c.in-Ok-read_config.bridge files) {leaves = k.leaves mid} {leaves2 = k.leaves new}
-          (λ still. (c.name_in.result.now, quiet_tells _ _ _ _ _ _ _ _ _ _ _ _ _ _ _ _ still (end.tells tells)))
-          (end.tells tells).none_new course s (run.memory tells shows a all none)) holds;
+          subst (λ (x : Config). AllHold (recordings x files) a (k.leaves old) → QuietOr s course quiet
+          (HoldLimited (recordings x files) (k.leaves new))) (same_ok (means reads) is)
+          (λ all. or_both (spoken tells) (λ held f has. held f ((end.tells tells).none_new f has)) s course
+          (run.memory tells shows a all none)) holds;
       prints = λ writes tells shows reads bridge is a holds.
           subst (λ (x : Config). AllHold (recordings x files) a (k.leaves old) → Prints s x (recordings x files).samples
           (written c.args.out.now) (written c.count_by-status.new.out)) (same_ok (means reads) is)
@@ -143,10 +144,10 @@ returns-clause-run g c =
           let here = by c.in-Ok-read_config.bridge (sym (same_ok (means reads) is)) in
           done_or_memory s (run.complete tells shows n here.0 here.1 here.2)
           (λ e. site (run.read e)) (λ e. out (run.write e)) (λ e. station (rose_more _ _ _ (run.disk e) end.later));
-      quiet = λ tells leaves. (
-        c.name_in.result.now,
-        quiet_tells _ _ _ _ _ _ _ _ _ _ _ _ _ _ _ _ (run.quiet tells leaves) (end.tells tells),
-      );
+      quiet = λ tells leaves. spoken tells (run.quiet tells leaves);
+      opens = λ tells shows reads.
+          ⊎_elim (λ still. inl (spoken tells still)) (λ opened. inr (c.in-Ok-read_config.bridge, means reads, opened))
+          (run.opens tells shows);
       named = not_usage_counting s run.kind;
       refused = run.refused;
       read = λ is. inr (run.read is);
