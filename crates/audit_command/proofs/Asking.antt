@@ -1,5 +1,4 @@
 -- Which files were asked for, by what an answer comes of.
---   unread_asks, refused_asks    the configuration or the store is refused
 --   recounting_asks, other_asks  a recording, or a difference
 --   recounted_own                a gauge's refusal is its own
 use Rattle.std.proofs.Common.{◌≡◌, ℕ, List, refl, sym, subst}
@@ -7,31 +6,12 @@ use Rattle.std.specs.Prelude.{Err}
 use Rattle.outside.specs.Site.{Asked, Asks}
 use Rattle.recount.specs.declared.count.RecountFault.{RecountFault}
 use Rattle.recount.specs.declared.count.RecountFault.TheVariants as recount
-use Rattle.segment_store.specs.declared.fault.ResumeFault.{ResumeFault}
-use Rattle.site_config.specs.recorded.Asked.{AsksFirst}
-use Rattle.site_config.proofs.on_recorded.Asking.{none_is_first}
 use Rattle.site_lanes.specs.Asked.{IsOfGauge, OpeningAsks}
-use Rattle.status.specs.Refused.{store_status}
-use Rattle.status.specs.config_reading.Reading.{IsRefusal}
 use Rattle.status.specs.declared.status.Status.{Status}
-use Rattle.status.proofs.AnswerCases.{by_store_status}
-use Rattle.status.proofs.on_config_reading.Refusing.{by_refusal}
 use Rattle.audit_command.specs.Asked.{AuditAsks}
 use Rattle.audit_command.specs.Audited.{IsOther}
 use Rattle.audit_command.specs.Recounted.{IsRecounting, recounted_status}
 use Rattle.audit_command.proofs.Ended.{by_recounting, by_other}
-
--- nothing was asked for
-module _ (a : Asked) (names : List (List ℕ)) where
-  pub none_first : AsksFirst a a names
-  none_first = none_is_first a a names (λ before has. has)
-
-  pub unread_asks : (s : Status) → IsRefusal s → AuditAsks s a a names
-  unread_asks = by_refusal (λ (x : Status). AuditAsks x a a names) (λ f before has. has) none_first none_first
-
-  pub refused_asks : (s : Status) (f : ResumeFault) → s ≡ store_status f → AuditAsks s a a names
-  refused_asks s f is = subst (λ (x : Status). AuditAsks x a a names) (sym is)
-      (by_store_status (λ (x : Status). AuditAsks x a a names) (λ fault before has. has) (λ before has. has) none_first f)
 
 module _ (a b : Asked) (names : List (List ℕ)) where
   pub recounting_asks : (s : Status) → IsRecounting s → OpeningAsks (Err s) a b names → AuditAsks s a b names

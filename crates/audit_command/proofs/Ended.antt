@@ -1,7 +1,5 @@
 -- What each answer of `audit` says.
 use Rattle.std.proofs.Common.{◌≡◌, ◌≢◌, ◌<◌, ◌≤◌, ◌⊎◌, inl, inr, ℕ, ℤ, List, length, take, get_or, refl, sym, ap, subst, ◌∙◌, arith}
-use Rattle.std.proofs.lemmas.Bool.{cases_lt}
-use Rattle.std.proofs.lemmas.List.{get_or_past}
 use Rattle.std.specs.Prelude.{slice_index, Result, Ok, Err}
 use Rattle.outside.specs.Site.{Files}
 use Rattle.outside.specs.station.Station.{Image}
@@ -20,12 +18,7 @@ use Rattle.segment_store.specs.Image.{Reads, IsStoreOf}
 use Rattle.segment_store.specs.Moments.{IsOn, StoreValue}
 use Rattle.segment_store.proofs.HeldKeep.{held_keep}
 use Rattle.segment_store.proofs.HeldStand.{held_stand}
-use Rattle.site_config.specs.Valid.{IsConfig, name_of, no_gauge}
 use Rattle.site_config.specs.declared.config.Config.{Config}
-use Rattle.site_config.specs.declared.config.Gauge.{Gauge}
-use Rattle.site_config.specs.declared.limits.TheConstants.{MAX_NAME_BYTES}
-use Rattle.site_config.proofs.Named.{short_name}
-use Rattle.status.specs.fault_lines.FaultLine.{name_for}
 use Rattle.site_config.specs.declared.fault.ConfigFault.{ConfigFault}
 use Rattle.site_config.specs.recorded.Recorded.{recordings}
 use Rattle.site_lanes.specs.Answers.{AllOpened, OpenAnswers}
@@ -38,7 +31,7 @@ use Rattle.status.specs.Printing.{IsPrinting}
 use Rattle.status.proofs.on_config_reading.Refusing.{by_refusal}
 use Rattle.audit_command.specs.Recounted.{IsRecounting}
 use Rattle.audit_command.specs.Audited.{SegmentChoice, IsItem, HasKept, IsStanding, IsOther, AllSame, FindsDifference}
-use Rattle.audit_command.specs.Answers.{HeldAnswers, CountedAnswers, MayAnswerOver, AuditAnswers, IsSound, IsAuditing}
+use Rattle.audit_command.specs.Answers.{HeldAnswers, CountedAnswers, AuditAnswers, IsSound, IsAuditing}
 use Rattle.audit_command.specs.Printing.{Prints}
 use Rattle.audit_command.proofs.Audits.{differ_clash, finds_by}
 
@@ -131,12 +124,13 @@ finds_of c heads meant ends files s is a =
     by_auditing P (λ b. b.1) (λ b. b.1) (by_recounting P (λ g f b. tt) (λ b. tt) (λ b. tt)) (by_other P (λ g w x y b. b.1)) s is a
 
 -- over a store that was read, by the setup of the configuration
-pub answers_over : (c : Config) (image : Image) (files : Files) (r : IsStoreOf c.setup image) (s : Status) → IsAuditing s
-    → HeldAnswers c r.head.heads (HasKept r.bodies) r.ends files s → MayAnswerOver c image files s
-answers_over c image files r s is a =
-    let P : Status → Type 0 = λ x. HeldAnswers c r.head.heads (HasKept r.bodies) r.ends files x → MayAnswerOver c image files x in
-    by_auditing P (λ b. (r, b)) (λ b. (r, b)) (by_recounting P (λ g f b. (r, b)) (λ b. (r, b)) (λ b. tt))
-    (by_other P (λ g w x y b. (r, b))) s is a
+pub answers_over : (read : Result Config ConfigFault) (c : Config) (image : Image) (files : Files) → read ≡ Ok c →
+    (r : IsStoreOf c.setup image) (s : Status) → IsAuditing s → HeldAnswers c r.head.heads (HasKept r.bodies) r.ends files s →
+    AuditAnswers read image files s
+answers_over read c image files is r s kind a =
+    let P : Status → Type 0 = λ x. HeldAnswers c r.head.heads (HasKept r.bodies) r.ends files x → AuditAnswers read image files x in
+    by_auditing P (λ b. (c, is, (r, b))) (λ b. (c, is, (r, b))) (by_recounting P (λ g f b. (c, is, (r, b))) (λ b. tt) (λ b. tt))
+    (by_other P (λ g w x y b. (c, is, (r, b)))) s kind a
 
 module _ (c : Config) (heads : List Head) (from to : SegmentChoice) (ends : List ℕ) (files : Files)
     (leads : (g : ℕ) (v : SegmentValue) → g < length c.gauges → from g v → to g v) where
@@ -146,9 +140,6 @@ module _ (c : Config) (heads : List Head) (from to : SegmentChoice) (ends : List
       let found = finds_by c from to (held_of (recordings c files).samples ends) leads in
       by_auditing P (λ b. (b.0, found Done b.1)) (λ b. (b.0, found WriteFault b.1)) (by_recounting P (λ g f b. b) (λ b. tt) (λ b. tt))
       (by_other P (λ g v x y b. (b.0, found (Differs g v x y) b.1))) s is a
-
-pub finds_unread : (c : Config) (meant : SegmentChoice) (w : ℕ → List ℤ) (s : Status) → IsRefusal s → FindsDifference c meant w s
-finds_unread c meant w = by_refusal (FindsDifference c meant w) (λ f. tt) tt tt
 
 -- the held segments, by the bodies of a store that is on its station
 module _ (s : StoreValue) (bodies : List PartsValue) (seen : Image) (leaves : Image → Type 0) (on : IsOn s bodies seen leaves) where
@@ -171,45 +162,24 @@ module _ (s : StoreValue) (bodies : List PartsValue) (seen : Image) (leaves : Im
     reads = subst (Reads s.head bodies (ends_of s.held)) same on.reads;
   }
 
-pub held_complete : (c : Config) (heads : List Head) (bodies : List PartsValue) (ends : List ℕ) (files : Files) (s : Status)
+pub held_complete : (c : Config) (heads : List Head) (bodies : List PartsValue) (ends : List ℕ) (files : Files) (s : Status) → IsAuditing s
     → HeldAnswers c heads (HasKept bodies) ends files s → AllOpened c heads (slice_index ends) files (length c.gauges)
     → AllSame c (HasKept bodies) (held_of (recordings c files).samples ends) (length c.gauges) → s ≢ ReadFault → s ≢ WriteFault
     → (s ≡ Done) ⊎ (s ≡ OutOfMemory)
-held_complete c heads bodies ends files Done a opened same r w = inl refl
-held_complete c heads bodies ends files OutOfMemory a opened same r w = inr refl
-held_complete c heads bodies ends files ReadFault a opened same r w = absurd (r refl)
-held_complete c heads bodies ends files WriteFault a opened same r w = absurd (w refl)
-held_complete c heads bodies ends files (Recording g f) a opened same r w =
-    absurd (not_both c heads (slice_index ends) files g f (opened g a.0) a.2)
-held_complete c heads bodies ends files (Differs g x y z) a opened same r w =
-    let other = a.1.2 in
-    let none = same g a.1.0 in
+held_complete c heads bodies ends files s kind a opened same r w =
+    let P : Status → Type 0 = λ x. HeldAnswers c heads (HasKept bodies) ends files x → x ≢ ReadFault → x ≢ WriteFault →
+    (x ≡ Done) ⊎ (x ≡ OutOfMemory) in
+    by_auditing P (λ b r w. inl refl) (λ b r w. absurd (w refl))
+    (by_recounting P (λ g f b r w. absurd (not_both c heads (slice_index ends) files g f (opened g b.0) b.2)) (λ b r w. absurd (r refl))
+    (λ b r w. inr refl))
+    (by_other P (λ g x y z b r w.
+    let other = b.1.2 in
+    let none = same g b.1.0 in
     absurd (differ_clash other.0 none.0 (bodies_of g bodies) c.setup.grid
     (kinds_of c.setup.grid (gain_at c.setup g) (held_of (recordings c files).samples ends g))
     (three_point (history c.setup.grid (gain_at c.setup g) (held_of (recordings c files).samples ends g)))
-    (record { what = x; held = y; found = z }) other.1 none.1 other.2 none.2 other.3 none.3)
-held_complete c heads bodies ends files Usage a opened same r w = absurd a
-held_complete c heads bodies ends files (BadConfig f) a opened same r w = absurd a
-held_complete c heads bodies ends files (BadStore f) a opened same r w = absurd a
-held_complete c heads bodies ends files (Torn g b) a opened same r w = absurd a
-held_complete c heads bodies ends files DiskFault a opened same r w = absurd a
-held_complete c heads bodies ends files (TooLong g) a opened same r w = absurd a
-
--- an answer over a configuration that was read
-pub over_config : (bridge : Result Config ConfigFault) (c : Config) (image : Image) (files : Files) → bridge ≡ Ok c → (s : Status)
-    → MayAnswerOver c image files s → AuditAnswers bridge image files s
-over_config bridge c image files is Done a = (c, is, a)
-over_config bridge c image files is WriteFault a = (c, is, a)
-over_config bridge c image files is (BadStore f) a = (c, is, a)
-over_config bridge c image files is DiskFault a = (c, is, a)
-over_config bridge c image files is OutOfMemory a = tt
-over_config bridge c image files is ReadFault a = tt
-over_config bridge c image files is (Recording g f) a = (c, is, a)
-over_config bridge c image files is (Differs g x y z) a = (c, is, a)
-over_config bridge c image files is Usage a = (c, is, a)
-over_config bridge c image files is (BadConfig f) a = absurd a.1
-over_config bridge c image files is (Torn g b) a = (c, is, a)
-over_config bridge c image files is (TooLong g) a = (c, is, a)
+    (record { what = x; held = y; found = z }) other.1 none.1 other.2 none.2 other.3 none.3)))
+    s kind a r w
 
 pub unread_answer : (bridge : Result Config ConfigFault) (image : Image) (files : Files) (s : Status) → IsRefusal s → MeansAs bridge (Err s)
     → AuditAnswers bridge image files s
@@ -227,41 +197,8 @@ unread_complete bridge image files s is m sound read =
     clash : {f : ConfigFault} {c : Config} → ◌≡◌ {A = Result Config ConfigFault} (Err f) (Ok c) → ⊥
     clash e = absurd cc
 
-pub unread_unprinted : (s : Status) → IsRefusal s → (c : Config) (old : List ℕ) → Prints s c old old
-unread_unprinted s is c old = by_refusal (λ (x : Status). Prints x c old old) (λ f. refl) refl refl s is
-
--- there is room for the name of each gauge; of a gauge that a configuration doesn't have it is empty
-name_of_short : (bridge : Config) → IsConfig bridge → (g : ℕ) → length (name_of bridge g) ≤ MAX_NAME_BYTES
-name_of_short bridge is g = elim (cases_lt g (length bridge.gauges)) [
-  | inl lt ↦ short_name (name_of bridge g) (is.names g lt)
-  | inr past ↦ let e : length (name_of bridge g) ≡ 0 = ap (λ (x : Gauge). length x.name) (get_or_past bridge.gauges g no_gauge past) in
-      omega (arith, e)
-]
-
-pub name_short : (bridge : Config) → IsConfig bridge → (s : Status) → length (name_for bridge s) ≤ MAX_NAME_BYTES
-name_short bridge is Done = omega arith
-name_short bridge is Usage = omega arith
-name_short bridge is (BadConfig f) = omega arith
-name_short bridge is (BadStore f) = omega arith
-name_short bridge is (Recording g f) = name_of_short bridge is g
-name_short bridge is (Torn g b) = name_of_short bridge is g
-name_short bridge is ReadFault = omega arith
-name_short bridge is WriteFault = omega arith
-name_short bridge is DiskFault = omega arith
-name_short bridge is OutOfMemory = omega arith
-name_short bridge is (TooLong g) = name_of_short bridge is g
-name_short bridge is (Differs g w x y) = name_of_short bridge is g
-
-pub not_printed : (s : Status) (c : Config) (old new : List ℕ) → (IsPrinting s → ⊥) → Prints s c old new → new ≡ old
-not_printed Done c old new not p = absurd (not tt)
-not_printed WriteFault c old new not p = absurd (not tt)
-not_printed Usage c old new not p = p
-not_printed (BadConfig f) c old new not p = p
-not_printed (BadStore f) c old new not p = p
-not_printed (Recording g f) c old new not p = p
-not_printed (Torn g b) c old new not p = p
-not_printed ReadFault c old new not p = p
-not_printed DiskFault c old new not p = p
-not_printed OutOfMemory c old new not p = p
-not_printed (TooLong g) c old new not p = p
-not_printed (Differs g w x y) c old new not p = p
+pub not_printed : (c : Config) (old new : List ℕ) (s : Status) → IsAuditing s → (IsPrinting s → ⊥) → Prints s c old new → new ≡ old
+not_printed c old new =
+    let P : Status → Type 0 = λ x. (IsPrinting x → ⊥) → Prints x c old new → new ≡ old in
+    by_auditing P (λ no p. absurd (no tt)) (λ no p. absurd (no tt)) (by_recounting P (λ g f no p. p) (λ no p. p) (λ no p. p))
+    (by_other P (λ g w x y no p. p))

@@ -1,6 +1,6 @@
-mod AnswerKinds
 mod Asking
 mod Audits
 mod Ended
 mod Opened
 mod Recounts
+pub mod AuditRun

@@ -3,3 +3,4 @@ pub mod Audited
 pub mod Answers
 pub mod Asked
 pub mod Printing
+pub mod AuditRun

@@ -4,3 +4,4 @@ mod OneSummary
 mod Rounds
 mod Summing
 mod Sums
+pub mod WithoutMemory

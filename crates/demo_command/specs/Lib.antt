@@ -2,3 +2,4 @@ pub mod Made
 pub mod Totals
 pub mod Summary
 pub mod Answer
+pub mod DemoRun

@@ -1,12 +1,11 @@
-ghost use Rattle.std.specs.Prelude.{◌≡◌, ◌≢◌, ◌≤◌, ◌++◌, List, ℕ};
+ghost use Rattle.std.specs.Prelude.{◌≡◌, ◌≤◌, ◌++◌};
 ghost use Rattle.outside.specs.Fault.{CountRose};
 ghost use Rattle.outside.specs.Sink.{AppendsPrefix};
-ghost use Rattle.demo_command.specs.Summary.{IsSummary};
 ghost use Rattle.status.specs.Printing.{IsPrinting};
-ghost use Rattle.demo_command.specs.Answer.{IsDemoAnswer};
-ghost use Rattle.demo_command.specs.declared.TheConstants.{MAX_SEED, MAX_DEMO_SAMPLES};
-ghost use Rattle.calibration.specs.declared.limits.TheConstants.{MAX_WORKERS};
 ghost use Rattle.status.specs.declared.status.Status.TheVariants.{Done, WriteFault};
+ghost use Rattle.calibration.specs.declared.limits.TheConstants.{MAX_WORKERS};
+ghost use Rattle.demo_command.specs.DemoRun.{DemoRuns};
+ghost use Rattle.demo_command.specs.declared.TheConstants.{MAX_SEED, MAX_DEMO_SAMPLES};
 
 use crate::counting::count_made;
 use crate::text::summary_text;
@@ -30,16 +29,9 @@ pub fn demo_command<R: AllocGlobal + Threads + Wait + Sync, O: Sink, G: Gate + S
     requires seed { seed ≤ MAX_SEED }
     requires samples { (1 ≤ samples) × (samples ≤ MAX_DEMO_SAMPLES) }
     requires workers { (1 ≤ workers) × (workers ≤ MAX_WORKERS) }
-    ensures done { O.tells → result ≡ Done → (text : List ℕ) → IsSummary seed samples text →
-        O.written out.new ≡ O.written out.old ++ text }
-    ensures front { O.tells → result ≡ WriteFault → (text : List ℕ) → IsSummary seed samples text →
-        AppendsPrefix (O.written out.old) (O.written out.new) text }
-    ensures nothing { O.tells → result ≢ Done → result ≢ WriteFault →
-        O.written out.new ≡ O.written out.old }
-    // There is such a text.
-    ensures some { IsPrinting result → (text : List ℕ) × IsSummary seed samples text }
-    ensures answer { IsDemoAnswer result }
-    ensures cause { result ≡ WriteFault → CountRose (O.faults out.old) (O.faults out.new) }
+    // What it did, by what the output shows before and after: `specs/DemoRun.antt`.
+    ensures run { DemoRuns seed samples O.tells (O.written out.old) (O.written out.new)
+        (O.faults out.old) (O.faults out.new) result }
     ensures later { O.faults out.old ≤ O.faults out.new }
 {
     let Ok(totals) = count_made(rt, seed, samples, workers, gate) else {

@@ -1,5 +1,6 @@
 mod Asking
 mod Reading
-mod StoreMade
+mod AnswerCases
 mod Lines
-pub mod MakingMoments
+mod MakingMoments
+pub mod InitRun

@@ -4,7 +4,6 @@
 --   told_made    its line was told or was not, of the new store
 --   then_last    and then the line of the answer
 --   last_alone   that line alone, over an empty station
---   by_read      by the configuration that was read
 use Rattle.std.proofs.Common.{◌≡◌, ◌⊎◌, inl, inr, ⊎_elim, ℕ, List, [], ◌∷◌, ◌++◌, length, refl, sym, ◌∙◌, ap, subst, arith}
 use Rattle.std.specs.Prelude.{Result, Ok, Err}
 use Rattle.outside.specs.Site.{Files}
@@ -80,13 +79,3 @@ module _ (c : Config) (files : Files) (told : Lines) (last : List ℕ) where
   last_alone start now past since leaves none run =
       entails start now past since (InMaking c files told last) (InFault last told leaves) run
       (λ lines image h. inl (h.0, inl (omega (arith, none image h.1))))
-
-pub by_read : (read : Result Config ConfigFault) (c c2 : Config) (files : Files) (told : Lines) (s : Status) (start now : ℕ)
-    (past since : MomentsSince) → read ≡ Ok c → read ≡ Ok c2
-    → Since start past now since (InMaking c files told (fault_line s (name_for c s)))
-    → Since start past now since (InMaking c2 files told (fault_line s (name_by read s)))
-by_read read c c2 files told s start now past since is is2 run =
-    let same : c ≡ c2 = cc in
-    let named : name_for c2 s ≡ name_by read s = sym (ap (λ (r : Result Config ConfigFault). name_by r s) is2) in
-    subst (λ (name : List ℕ). Since start past now since (InMaking c2 files told (fault_line s name))) named
-    (subst (λ (x : Config). Since start past now since (InMaking x files told (fault_line s (name_for x s)))) same run)

@@ -12,9 +12,40 @@ use Rattle.recording.specs.declared.head.HeadFault.TheVariants as head
 use Rattle.site_config.specs.declared.config.Config.{Config}
 use Rattle.site_config.specs.declared.config.Gauge.{Gauge}
 use Rattle.site_config.specs.Valid.{no_gauge, file_of}
+use Rattle.status.specs.declared.status.RecordingFault.{RecordingFault}
 use Rattle.status.specs.declared.status.Status.{Status}
 use Rattle.status.specs.declared.status.Status.TheVariants.{Done, Usage, Config as BadConfig, Store, Recording, Torn, ReadFault, WriteFault, DiskFault, OutOfMemory, TooLong, Differs}
-use Rattle.init_command.specs.Heads.{HasHead, AreHeadsBelow, AreSound, AreHeads, HeadAnswer, HeadsAnswer, HasFault, IsHeadStatus, head_status}
+use Rattle.init_command.specs.Heads.{HasHead, AreHeadsBelow, AreSound, AreHeads, HeadAnswer, HeadsAnswer, HasFault, IsHeadStatus, IsHeadsStatus, head_status}
+
+-- of each answer of reading the heads
+pub by_heads : (P : Status → Type 0) → ((g : ℕ) (f : RecordingFault) → P (Recording g f)) → P ReadFault → P OutOfMemory → (s : Status)
+    → IsHeadsStatus s → P s
+by_heads P f r m (Recording g fault) is = f g fault
+by_heads P f r m ReadFault is = r
+by_heads P f r m OutOfMemory is = m
+by_heads P f r m Done is = absurd is
+by_heads P f r m Usage is = absurd is
+by_heads P f r m (BadConfig fault) is = absurd is
+by_heads P f r m (Store fault) is = absurd is
+by_heads P f r m (Torn g bytes) is = absurd is
+by_heads P f r m WriteFault is = absurd is
+by_heads P f r m DiskFault is = absurd is
+by_heads P f r m (TooLong g) is = absurd is
+by_heads P f r m (Differs g what held found) is = absurd is
+
+pub heads_status : (g : ℕ) (s : Status) → IsHeadStatus g s → IsHeadsStatus s
+heads_status g (Recording h f) is = tt
+heads_status g ReadFault is = tt
+heads_status g Done is = absurd is
+heads_status g Usage is = absurd is
+heads_status g (BadConfig f) is = absurd is
+heads_status g (Store f) is = absurd is
+heads_status g (Torn h bytes) is = absurd is
+heads_status g WriteFault is = absurd is
+heads_status g DiskFault is = absurd is
+heads_status g OutOfMemory is = absurd is
+heads_status g (TooLong h) is = absurd is
+heads_status g (Differs h what held found) is = absurd is
 
 no_head : Head
 no_head = record { id = []; period_us = 0 }
@@ -54,24 +85,14 @@ module _ (c : Config) (files : Files) where
   heads_sound k heads each g lt = (get_or heads g no_head, each g no_head lt)
 
   -- the first that is refused
-  pub heads_refused : (k : ℕ) (heads : List Head) (s : Status) → k < length c.gauges → AreHeadsBelow c files k heads
+  pub heads_refused : (k : ℕ) (heads : List Head) (s : Status) → IsHeadStatus k s → k < length c.gauges → AreHeadsBelow c files k heads
       → HeadAnswer (files (file_of c k)) k (Err s) → HeadsAnswer c files (Err s)
-  heads_refused k heads (Recording g fault) lt each has = (
-    subst (λ (n : ℕ). n < length c.gauges) (sym has.0) lt,
-    subst (λ (n : ℕ). AreSound c files n) (sym has.0) (heads_sound k heads each),
-    subst (λ (n : ℕ). HasFault c files n fault) (sym has.0) has.1,
-  )
-  heads_refused k heads Done lt each has = absurd has
-  heads_refused k heads Usage lt each has = absurd has
-  heads_refused k heads (BadConfig f) lt each has = absurd has
-  heads_refused k heads (Store f) lt each has = absurd has
-  heads_refused k heads (Torn g b) lt each has = absurd has
-  heads_refused k heads ReadFault lt each has = tt
-  heads_refused k heads WriteFault lt each has = absurd has
-  heads_refused k heads DiskFault lt each has = absurd has
-  heads_refused k heads OutOfMemory lt each has = absurd has
-  heads_refused k heads (TooLong g) lt each has = absurd has
-  heads_refused k heads (Differs g w h f) lt each has = absurd has
+  heads_refused k heads s kind lt each = by_heads (λ x. HeadAnswer (files (file_of c k)) k (Err x) → HeadsAnswer c files (Err x))
+      (λ g fault has. (
+        subst (λ (n : ℕ). n < length c.gauges) (sym has.0) lt,
+        subst (λ (n : ℕ). AreSound c files n) (sym has.0) (heads_sound k heads each),
+        subst (λ (n : ℕ). HasFault c files n fault) (sym has.0) has.1,
+      )) (λ has. tt) (λ has. tt) s (heads_status k s kind)
 
 pub head_kind : (g : ℕ) (f : HeadFault) → IsHeadStatus g (head_status g f)
 head_kind g head.Short = refl

@@ -2,9 +2,5 @@ pub mod TableRun
 pub mod RecordingRead
 pub mod Left
 pub mod NoMemory
-pub mod AuditLeft
-pub mod RepeatLeft
-pub mod SheetLeft
-pub mod StoreLeft
 pub mod Runs
 pub mod Numerals

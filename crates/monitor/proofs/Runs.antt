@@ -3,6 +3,7 @@
 --   is_run              a run that did what its command says
 --   back_of, files_of   what stays in a run of a task
 --   refused, not_done   words that are no command
+--   not_usage           no answer of a command over the store
 --   left_run            memory ran out while the words were read
 use Rattle.std.proofs.Common.{◌≡◌, ◌≢◌, ◌⊎◌, inl, inr, ℕ, List, [], sym, ◌∙◌, ap, subst, append-nil, map, string_bytes, refl}
 use Rattle.std.specs.Prelude.{Option, Some, None, String}
@@ -14,17 +15,18 @@ use Rattle.file_commands.specs.column_command.Task.{column_task}
 use Rattle.file_commands.specs.file_tasks.Run.{Outside, Task, Runs, usage_task, no_memory_task}
 use Rattle.status.specs.declared.status.Status.{Status}
 use Rattle.status.specs.declared.status.Status.TheVariants.{Done, Usage, ReadFault, WriteFault, OutOfMemory}
+use Rattle.status.specs.Printing.{IsReporting}
+use Rattle.file_commands.proofs.on_sheet_command.Answered.{left_unread as sheet_unread}
+use Rattle.init_command.specs.InitRun.{without_output}
+use Rattle.init_command.proofs.InitRun.{left_unread as init_unread}
+use Rattle.audit_command.proofs.AuditRun.{left_unread as audit_unread}
 use Rattle.count_command.specs.declared.course.Course.TheVariants as course
 use Rattle.monitor.specs.Task.{table_task}
 use Rattle.status.specs.Shown.{Shown}
 use Rattle.monitor.specs.Outside.{outside_in}
 use Rattle.monitor.specs.Run.{TaskRuns, CommandRuns, AnswersWords, IsRun}
 use Rattle.monitor.proofs.Left.{Untouched, LeftEarly}
-use Rattle.monitor.proofs.NoMemory.{answer_without_memory, init_without_memory, count_without_memory, report_without_memory, demo_without_memory}
-use Rattle.monitor.proofs.AuditLeft.{audit_without_memory}
-use Rattle.monitor.proofs.RepeatLeft.{repeat_without_memory}
-use Rattle.monitor.proofs.SheetLeft.{sheet_without_memory}
-use Rattle.monitor.proofs.StoreLeft.{window_without_memory, compact_without_memory}
+use Rattle.monitor.proofs.NoMemory.{answer_without_memory, count_without_memory, store_without_memory, demo_without_memory}
 
 -- as the reader of the words gives it, behind `Ok(Some(..))`
 pub of_words : {words : Option Command} {read : Option Named} {inner named : Named} → meaning_of read ≡ words → read ≡ Some inner →
@@ -83,6 +85,9 @@ pub not_done : {s : Status} → (s ≡ Usage) ⊎ (s ≡ OutOfMemory) → s ≢ 
 not_done (inl is) = λ done. cc
 not_done (inr is) = λ done. cc
 
+pub not_usage : {s : Status} → IsReporting s → s ≢ Usage
+not_usage kind is = subst (λ (x : Status). IsReporting x) is kind
+
 left_task : (task : Task) (name : List ℕ) (same_config : Type 0) (before after : Shown) → same_config → LeftEarly before after →
     TaskRuns task name same_config before after OutOfMemory
 left_task task name same_config before after unread left = record {
@@ -96,20 +101,27 @@ left_command : (meant : Option Command) (same_config : Type 0) (before after : S
 left_command None same_config before after unread left = left_task usage_task [] same_config before after unread left
 left_command (Some (Table file)) same_config before after unread left =
     left_task (table_task file before.files) file same_config before after unread left
-left_command (Some Init) same_config before after unread left = init_without_memory before after left
+left_command (Some Init) same_config before after unread left = (
+  init_unread (without_output before) (without_output after) OutOfMemory tt left.counts left.tells left.last left.same.asked (λ reads. tt)
+      (λ no. absurd cc) left.same.faults,
+  λ tells. left.same.written,
+)
 left_command (Some (Count workers)) same_config before after unread left = count_without_memory course.Count before after left
-left_command (Some Report) same_config before after unread left = report_without_memory before after left
-left_command (Some Audit) same_config before after unread left = audit_without_memory before after left
+left_command (Some Report) same_config before after unread left = store_without_memory before after left
+left_command (Some Audit) same_config before after unread left =
+    audit_unread before after OutOfMemory tt left.tells left.last left.same.written left.same.asked left.same.faults (λ reads. tt)
+    (λ no. absurd cc)
 left_command (Some (Demo seed samples workers)) same_config before after unread left =
     demo_without_memory seed samples same_config before after unread left
-left_command (Some Repeat) same_config before after unread left = repeat_without_memory before after left
+left_command (Some Repeat) same_config before after unread left = store_without_memory before after left
 left_command (Some (Column file name id period)) same_config before after unread left =
     left_task (column_task file name (record { id = id; period_us = period }) before.files) file same_config before after
     unread left
-left_command (Some Sheet) same_config before after unread left = sheet_without_memory before after left
-left_command (Some (Window start from to)) same_config before after unread left =
-    window_without_memory (record { start = start; from = from; to = to }) before after left
-left_command (Some Compact) same_config before after unread left = compact_without_memory before after left
+left_command (Some Sheet) same_config before after unread left =
+    sheet_unread before after OutOfMemory tt left.tells left.last left.same.written left.same.asked (λ reads. tt) (λ no. absurd cc)
+    left.same.faults
+left_command (Some (Window start from to)) same_config before after unread left = store_without_memory before after left
+left_command (Some Compact) same_config before after unread left = store_without_memory before after left
 left_command (Some (Watch workers)) same_config before after unread left = count_without_memory course.Watch before after left
 
 left_usage : (meant : Option Command) (s : Status) → s ≡ OutOfMemory → AnswersWords meant s

@@ -2,13 +2,5 @@ pub mod Figures
 pub mod Printed
 pub mod Task
 pub mod Outside
-pub mod InitRun
-pub mod ReportRun
-pub mod RepeatRun
-pub mod SheetRun
-pub mod AuditRun
 pub mod DemoRun
-pub mod StoreRun
-pub mod WindowRun
-pub mod CompactRun
 pub mod Run

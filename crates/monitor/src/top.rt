@@ -4,7 +4,7 @@ ghost use Rattle.status.specs.Shown.{shown_by};
 
 use crate::column::told_column;
 use crate::demo::told_demo;
-use crate::refused::{no_memory, usage};
+use crate::refused::usage;
 use crate::table::told_table;
 use audit_command::audit_command;
 use command_words::{Command, read_words};
@@ -20,6 +20,7 @@ use report_command::report_command;
 use report_command::window_command::window_command;
 use report_command::window_counts::Times;
 use status::Status;
+use status::fault_lines::tell_no_memory;
 use std::sync::Wait;
 use std::thread::Threads;
 
@@ -102,6 +103,9 @@ pub fn monitor<
             watch_command(rt, workers, config, site, station, out, gate)
         }
         Ok(None) => usage(rt.alloc(), station),
-        Err(_) => no_memory(station),
+        Err(_) => {
+            tell_no_memory(station);
+            Status::OutOfMemory
+        }
     }
 }

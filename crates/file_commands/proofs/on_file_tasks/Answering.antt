@@ -41,34 +41,26 @@ complete g DiskFault state may r w = own g DiskFault state may r
 complete g (Differs gauge what held found) state may r w = own g (Differs gauge what held found) state may r
 
 -- of a sound recording that was printed, or was to be
+pub by_printed : (P : Status → Type 0) → P Done → P WriteFault → P OutOfMemory → (answer : Status) → IsPrintingOrNoMemory answer → P answer
+by_printed P d w m Done p = d
+by_printed P d w m WriteFault p = w
+by_printed P d w m OutOfMemory p = m
+by_printed P d w m Usage p = absurd p
+by_printed P d w m ReadFault p = absurd p
+by_printed P d w m (Recording gauge fault) p = absurd p
+by_printed P d w m (Torn gauge bytes) p = absurd p
+by_printed P d w m (TooLong gauge) p = absurd p
+by_printed P d w m (Config fault) p = absurd p
+by_printed P d w m (Store fault) p = absurd p
+by_printed P d w m DiskFault p = absurd p
+by_printed P d w m (Differs gauge what held found) p = absurd p
+
 pub printing_may : (gauge : ℕ) (answer : Status) (state : FileState) → IsPrintingOrNoMemory answer → state ≡ Sound →
     MayAnswer gauge answer state
-printing_may g Done state p is = sym (ap (answer_for g) is)
-printing_may g WriteFault state p is = is
-printing_may g OutOfMemory state p is = λ none. absurd (cc)
-printing_may g Usage state p is = absurd p
-printing_may g ReadFault state p is = absurd p
-printing_may g (Recording gauge fault) state p is = absurd p
-printing_may g (Torn gauge bytes) state p is = absurd p
-printing_may g (TooLong gauge) state p is = absurd p
-printing_may g (Config fault) state p is = absurd p
-printing_may g (Store fault) state p is = absurd p
-printing_may g DiskFault state p is = absurd p
-printing_may g (Differs gauge what held found) state p is = absurd p
+printing_may g answer state p is = by_printed (λ s. MayAnswer g s state) (sym (ap (answer_for g) is)) is (λ none. absurd (cc)) answer p
 
 pub printing_no_read : (answer : Status) → IsPrintingOrNoMemory answer → answer ≢ ReadFault
-printing_no_read Done p is = cc
-printing_no_read WriteFault p is = cc
-printing_no_read OutOfMemory p is = cc
-printing_no_read Usage p is = p
-printing_no_read ReadFault p is = p
-printing_no_read (Recording gauge fault) p is = p
-printing_no_read (Torn gauge bytes) p is = p
-printing_no_read (TooLong gauge) p is = p
-printing_no_read (Config fault) p is = p
-printing_no_read (Store fault) p is = p
-printing_no_read DiskFault p is = p
-printing_no_read (Differs gauge what held found) p is = p
+printing_no_read = by_printed (λ s. s ≢ ReadFault) (λ is. cc) (λ is. cc) (λ is. cc)
 
 -- of a recording that was refused
 pub refusal_no_done : (gauge : ℕ) (r : Refusal) → refused_status gauge r ≢ Done

@@ -11,15 +11,10 @@ use Rattle.segment_store.specs.Holds.{Holds, AllStand}
 use Rattle.segment_store.specs.Moments.{StoreValue}
 use Rattle.segment_store.specs.declared.compacting.CompactFault.{CompactFault}
 use Rattle.segment_store.specs.declared.compacting.CompactFault.TheVariants as faults
-use Rattle.segment_store.specs.declared.fault.ResumeFault.{ResumeFault}
 use Rattle.store_bytes.specs.store_head.Head.{HeadValue}
 use Rattle.site_config.specs.declared.config.Config.{Config}
-use Rattle.status.specs.config_reading.Reading.{IsRefusal}
-use Rattle.status.proofs.on_config_reading.Refusing.{by_refusal}
 use Rattle.status.specs.declared.status.Status.{Status}
 use Rattle.status.specs.declared.status.Status.TheVariants.{Done, Usage, Config as BadConfig, Store as BadStore, Recording, Torn, ReadFault, WriteFault, DiskFault, OutOfMemory, TooLong, Differs}
-use Rattle.status.specs.Refused.{store_status}
-use Rattle.status.proofs.AnswerCases.{by_store_status}
 use Rattle.report_command.specs.Answers.{MayAnswerOver}
 use Rattle.segment_store.specs.Image.{IsStoreOf}
 use Rattle.status.specs.Printing.{IsReporting}
@@ -36,12 +31,6 @@ compact_by s bodies c = record {
 }
 
 module _ (head : HeadValue) (bodies : List PartsValue) (ends old new : List ℕ) where
-  pub unread_copies : (s : Status) → IsRefusal s → Copies s head bodies ends old old
-  unread_copies s is = by_refusal (λ (x : Status). Copies x head bodies ends old old) (λ f. refl) refl refl s is
-
-  pub refused_copies : (f : ResumeFault) → Copies (store_status f) head bodies ends old old
-  refused_copies f = by_store_status (λ (x : Status). Copies x head bodies ends old old) (λ s. refl) refl refl f
-
   -- what is copied holds what is held
   pub copy_holds : (s : Status) (setup : Setup) (w : ℕ → List ℤ) → head.setup ≡ setup → AllStand setup w bodies → s ≡ Done
       → Copies s head bodies ends old new → (image : Image) × Holds setup w ends image × (new ≡ old ++ image)

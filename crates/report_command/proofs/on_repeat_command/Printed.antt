@@ -1,8 +1,7 @@
--- What is printed by each answer, and the text of a gauge.
---   refused_prints, unread_prints   nothing, where the store or the configuration is refused
---   count_is                        the text of a count is that of the cycles that it has
---   gauge_is                        the text of a gauge, by the grid and the name that are at hand
-use Rattle.std.proofs.Common.{◌≡◌, ◌≤◌, ℕ, ℤ, List, refl, sym, ap, ◌∙◌}
+-- The text of a gauge.
+--   count_is   the text of a count is that of the cycles that it has
+--   gauge_is   the text of a gauge, by the grid and the name that are at hand
+use Rattle.std.proofs.Common.{◌≡◌, ◌≤◌, ℕ, ℤ, List, sym, ap, ◌∙◌}
 use Rattle.calibration.specs.Grid.{GridValue}
 use Rattle.calibration.specs.History.{history}
 use Rattle.tally.specs.Counts.{count_of}
@@ -11,21 +10,9 @@ use Rattle.repeating.specs.Value.{RepeatingValue}
 use Rattle.report.specs.Repeat.{repeat_text}
 use Rattle.report.proofs.Repeats.{repeat_text-same}
 use Rattle.segment_store.specs.Holds.{gain_at}
-use Rattle.segment_store.specs.declared.fault.ResumeFault.{ResumeFault}
 use Rattle.site_config.specs.Valid.{name_of}
 use Rattle.site_config.specs.declared.config.Config.{Config}
-use Rattle.status.specs.config_reading.Reading.{IsRefusal}
-use Rattle.status.proofs.on_config_reading.Refusing.{by_refusal}
-use Rattle.status.specs.declared.status.Status.{Status}
-use Rattle.status.specs.Refused.{store_status}
-use Rattle.status.proofs.AnswerCases.{by_store_status}
-use Rattle.report_command.specs.repeat_command.Printing.{Prints, cycles_by, text_of_gauge}
-
-pub refused_prints : (f : ResumeFault) (c : Config) (w : ℕ → List ℤ) (old : List ℕ) → Prints (store_status f) c w old old
-refused_prints f c w old = by_store_status (λ (x : Status). Prints x c w old old) (λ s. refl) refl refl f
-
-pub unread_prints : (s : Status) → IsRefusal s → (c : Config) (w : ℕ → List ℤ) (old : List ℕ) → Prints s c w old old
-unread_prints s is c w old = by_refusal (λ (x : Status). Prints x c w old old) (λ f. refl) refl refl s is
+use Rattle.report_command.specs.repeat_command.Printing.{cycles_by, text_of_gauge}
 
 pub count_is : (v : RepeatingValue) (grid : GridValue) (name : List ℕ) (cycles : ℕ → ℕ → ℕ) → v.grid ≡ grid → 1 ≤ v.grid.classes
     → ((lo hi : ℕ) → count_of v.tally.cells lo hi ≡ cycles lo hi) →

@@ -1,5 +1,5 @@
 -- The figures of the joined segments.
-use Rattle.std.proofs.Common.{◌≡◌, ◌<◌, ℕ, ℤ, ◌-◌, List, [], length, get_or, refl, sym, ap, subst, ◌∙◌}
+use Rattle.std.proofs.Common.{◌≡◌, ◌<◌, ℕ, ℤ, ◌-◌, List, length, get_or, refl, sym, ap, subst, ◌∙◌}
 use Rattle.std.specs.Prelude.{sum_by}
 use Rattle.std.proofs.lemmas.List.{get_or-map, get_or_default}
 use Rattle.calibration.specs.Grid.{GridValue}
@@ -13,20 +13,14 @@ use Rattle.segment.specs.Segment.{SegmentValue, Stands, empty_at}
 use Rattle.segment.specs.Figures.{halves_of}
 use Rattle.segment_store.specs.Holds.{AllStand, gain_at}
 use Rattle.segment_store.specs.Keeps.{kept_halves}
-use Rattle.segment_store.specs.declared.fault.ResumeFault.{ResumeFault}
 use Rattle.report.specs.Figures.{Agree, Figures, figures, figures_of}
 use Rattle.report.proofs.SegmentFigures.{figures_stand}
 use Rattle.segment.proofs.Counted.{same_counts}
-use Rattle.status.specs.config_reading.Reading.{IsRefusal}
-use Rattle.status.proofs.on_config_reading.Refusing.{by_refusal}
 use Rattle.site_config.specs.declared.config.Config.{Config}
 use Rattle.report_command.specs.site_report.Report.{Agrees, names_of}
-use Rattle.status.specs.declared.status.Status.{Status}
-use Rattle.status.specs.Refused.{store_status}
-use Rattle.status.proofs.AnswerCases.{by_store_status}
 use Rattle.report_command.specs.declared.window_counts.counting.Times.{Times}
 use Rattle.report_command.specs.window_counts.Counted.{AreCounted, pair_of}
-use Rattle.report_command.specs.window_command.Printing.{AreWindowFigures, Prints, PrintsWindow, PrintsKept, bodies_in, figures_in, samples_in, window_at}
+use Rattle.report_command.specs.window_command.Printing.{AreWindowFigures, bodies_in, figures_in, samples_in, window_at}
 
 same_pair : (a b c d : ℕ) → a ≡ c → b ≡ d → pair_of a b ≡ pair_of c d
 same_pair a b c d e f = ap (λ x. pair_of x b) e ∙ ap (pair_of c) f
@@ -102,27 +96,3 @@ module _ (c : Config) (t : Times) (heads : List Head) (bodies : List PartsValue)
       agree_in c.setup.grid (get_or joined g d) (get_or joined g (empty_at c.setup.grid 0 0 1)) (window_at t heads bodies g)
       (bodies_in t heads bodies g) (get_or_default joined g d (empty_at c.setup.grid 0 0 1) lt) k.grid k.name k.used k.missing k.refused
       (k.halves rules)
-
--- where nothing is printed
-module _ (c : Config) (t : Times) (heads : List Head) (bodies : List PartsValue) (old : List ℕ) where
-  pub unprinted : (s : Status) (w : ℕ → List ℤ) → ((windows : ℕ → ℕ × ℕ) (figures : ℕ → Figures) → Prints s c windows figures old old)
-      → PrintsWindow s c t heads bodies w old old
-  unprinted s w p = (window_at t heads bodies, (λ g lt. refl), p _ _)
-
-  pub kept_unprinted : (s : Status) → ((windows : ℕ → ℕ × ℕ) (figures : ℕ → Figures) → Prints s c windows figures old old)
-      → PrintsKept s c t heads bodies old old
-  kept_unprinted s p = (
-    window_at t heads bodies,
-    (λ g lt. refl),
-    (kept_figures c t heads bodies [], (λ g lt. are_kept c t heads bodies [] (window_at t heads bodies g) g refl), p _ _),
-  )
-
-pub refused_prints : (f : ResumeFault) (c : Config) (old : List ℕ) (windows : ℕ → ℕ × ℕ) (figures : ℕ → Figures)
-    → Prints (store_status f) c windows figures old old
-refused_prints f c old windows figures =
-    by_store_status (λ (x : Status). Prints x c windows figures old old) (λ s. refl) refl refl f
-
-pub unread_prints : (s : Status) → IsRefusal s → (c : Config) (old : List ℕ) (windows : ℕ → ℕ × ℕ) (figures : ℕ → Figures)
-    → Prints s c windows figures old old
-unread_prints s is c old windows figures =
-    by_refusal (λ (x : Status). Prints x c windows figures old old) (λ f. refl) refl refl s is

@@ -3,15 +3,17 @@
 --   text_of_gauge   the text of a gauge
 --   repeat_texts    the texts of all gauges, in order
 --   Prints          what a command has written whose text they are
+--   WritesRepeats   what `repeat` writes
 --   AllHeldStand    the held segment of each gauge stands for its samples
 use Rattle.std.specs.Prelude.{◌≡◌, ◌<◌, ◌++◌, ℕ, ℤ, List, length, slice_index_or}
 use Rattle.outside.specs.Sink.{AppendsPrefix}
+use Rattle.outside.specs.station.Station.{Image}
 use Rattle.calibration.specs.History.{history}
 use Rattle.repeating.specs.Repeating.{repeating_cycles}
 use Rattle.report.specs.Lines.{lines_from}
 use Rattle.report.specs.Repeat.{repeat_text}
 use Rattle.segment.specs.Segment.{SegmentValue, Stands}
-use Rattle.segment_store.specs.Holds.{gain_at}
+use Rattle.segment_store.specs.Holds.{Holds, gain_at, held_of}
 use Rattle.site_config.specs.Valid.{name_of}
 use Rattle.site_config.specs.declared.config.Config.{Config}
 use Rattle.status.specs.declared.status.Status.{Status}
@@ -30,6 +32,11 @@ abbrev pub Prints : Status → Config → (ℕ → List ℤ) → List ℕ → Li
 Prints Done c w old new = new ≡ old ++ repeat_texts c w
 Prints WriteFault c w old new = AppendsPrefix old new (repeat_texts c w)
 Prints status c w old new = new ≡ old
+
+pub record WritesRepeats (c : Config) (seen : Image) (answer : Status) (old new : List ℕ) : Type 0 where
+  -- Of the samples of which a read of the store holds the first so many, the cycles of each gauge's level history, as
+  -- one that repeats, or a front of that text.
+  pub prints : (w : ℕ → List ℤ) (n : List ℕ) → Holds c.setup w n seen → Prints answer c (held_of w n) old new
 
 abbrev pub AllHeldStand : Config → List SegmentValue → (ℕ → List ℤ) → Type 0
 AllHeldStand c held w =

@@ -8,12 +8,16 @@
 --   Prints            what a command has written whose text is the report of these windows and figures
 --   PrintsWindow      of the samples that the bodies stand for
 --   PrintsKept        of what the bodies keep
+--   WritesWindow      what `window` writes
 use Rattle.std.specs.Prelude.{◌≡◌, ◌<◌, ◌-◌, ◌++◌, ℕ, ℤ, List, drop, length, take, sum_by}
 use Rattle.outside.specs.Sink.{AppendsPrefix}
+use Rattle.outside.specs.station.Station.{Image}
 use Rattle.recording.specs.declared.head.Head.{Head}
 use Rattle.turning_points.specs.three_point.Sums.{sum_at_range}
 use Rattle.segment.specs.segment_rules.Parts.{PartsValue}
-use Rattle.segment_store.specs.Holds.{gain_at}
+use Rattle.store_bytes.specs.store_head.Head.{HeadValue}
+use Rattle.segment_store.specs.Holds.{Holds, gain_at}
+use Rattle.segment_store.specs.Image.{Reads}
 use Rattle.segment_store.specs.Keeps.{kept_halves}
 use Rattle.report.specs.Figures.{Figures, figures}
 use Rattle.site_config.specs.declared.config.Config.{Config}
@@ -65,3 +69,13 @@ PrintsKept status c t heads bodies old new = (windows : ℕ → ℕ × ℕ) × A
     × ((figures : ℕ → Figures) × ((g : ℕ) → g < length c.gauges
     → AreWindowFigures c.setup.grid.classes (windows g) (bodies_in t heads bodies g) (figures g))
     × Prints status c windows figures old new)
+
+-- The instants are nanoseconds.
+pub record WritesWindow (times : Times) (c : Config) (seen : Image) (answer : Status) (old new : List ℕ) : Type 0 where
+  -- Of samples of which a read of the store holds the first so many: for each gauge the line of its window, and the
+  -- text of the samples that it names.
+  pub prints : (w : ℕ → List ℤ) (n : List ℕ) → (h : Holds c.setup w n seen) →
+      PrintsWindow answer c times h.head.heads h.bodies w old new
+  -- Whatever the bodies stand for: the samples, the pairs and the ranges are what those that lie inside keep.
+  pub kept : (head : HeadValue) (bodies : List PartsValue) (ends : List ℕ) → head.setup ≡ c.setup →
+      Reads head bodies ends seen → PrintsKept answer c times head.heads bodies old new

@@ -1,18 +1,14 @@
-ghost use Rattle.std.specs.Prelude.{◌≡◌, ◌≤◌, ◌++◌, ℕ, ℤ, List, Ok};
+ghost use Rattle.std.specs.Prelude.{◌≡◌, List};
 ghost use Rattle.outside.specs.Fault.{CountRose};
 ghost use Rattle.outside.specs.station.Station.{Image};
 ghost use Rattle.segment.specs.segment_rules.Parts.{PartsValue};
-ghost use Rattle.store_bytes.specs.store_head.Head.{HeadValue};
 ghost use Rattle.segment_store.specs.Held.{AreHeld, ends_of};
-ghost use Rattle.segment_store.specs.Holds.{Holds};
 ghost use Rattle.segment_store.specs.Image.{Reads};
-ghost use Rattle.site_config.specs.Configuration.{config_of_bytes};
 ghost use Rattle.site_config.specs.Valid.{IsConfig};
-ghost use Rattle.site_config.specs.declared.config.Config.{Config};
-ghost use Rattle.status.specs.declared.status.Status.TheVariants.{Done, WriteFault};
+ghost use Rattle.status.specs.declared.status.Status.TheVariants.{WriteFault};
 ghost use Rattle.status.specs.Printing.{IsPrinting};
-ghost use Rattle.report_command.specs.OverStore.{IsOverStore, IsUntold};
-ghost use Rattle.report_command.specs.compact_command.Copying.{Copies, IsCopying};
+ghost use Rattle.report_command.specs.StoreRun.{StoreRuns, IsUntold, store_shown};
+ghost use Rattle.report_command.specs.compact_command.Copying.{Copies, IsCopying, WritesCopy};
 
 use outside::station::Station;
 use outside::{Sink, Source};
@@ -31,21 +27,12 @@ pub fn compact_command<C: Source, K: Station, O: Sink>(
     station: &mut K,
     out: &mut O,
 ) -> Status
-    // A copy of the bodies that a read of the store gives.
-    ensures copies { O.tells → K.tells → C.tells → (bridge : Config) →
-        config_of_bytes (C.left config.old) ≡ Ok bridge → (head : HeadValue)
-        (bodies : List PartsValue) (ends : List ℕ) → head.setup ≡ bridge.setup →
-        Reads head bodies ends (K.seen station.old) →
-        Copies result head bodies ends (O.written out.old) (O.written out.new) }
-    // It holds the samples that the store holds.
-    ensures holds { O.tells → K.tells → C.tells → (bridge : Config) →
-        config_of_bytes (C.left config.old) ≡ Ok bridge → (w : ℕ → List ℤ) (n : List ℕ) →
-        Holds bridge.setup w n (K.seen station.old) → result ≡ Done →
-        ((image : Image) × Holds bridge.setup w n image ×
-        (O.written out.new ≡ O.written out.old ++ image)) }
-    // Besides, it tells at most the line of its answer, and each answer has its cause.
-    ensures run { IsOverStore ⟦<C as Source>⟧ ⟦<K as Station>⟧ ⟦<O as Sink>⟧
-        config.old config.new station.old station.new out.old out.new result }
+    // What it did, by what is shown before and after: `specs/StoreRun.antt`; what it writes:
+    // `specs/compact_command/Copying.antt`.
+    ensures run { StoreRuns WritesCopy
+        (store_shown ⟦<C as Source>⟧ ⟦<K as Station>⟧ ⟦<O as Sink>⟧ config.old station.old out.old)
+        (store_shown ⟦<C as Source>⟧ ⟦<K as Station>⟧ ⟦<O as Sink>⟧ config.new station.new out.new)
+        result }
 {
     let Ok(mut line) = FaultLine::new(alloc, MAX_NAME_BYTES) else {
         tell_no_memory(station);
@@ -72,11 +59,7 @@ fn compact_by<K: Station, O: Sink>(
     out: &mut O,
 ) -> Status
     requires bridge { IsConfig bridge.now }
-    ensures copies { O.tells → K.tells → (head : HeadValue)
-        (bodies : List PartsValue) (ends : List ℕ) → head.setup ≡ bridge.now.setup →
-        Reads head bodies ends (K.seen station.old) →
-        Copies result head bodies ends (O.written out.old) (O.written out.new) }
-    ensures run { IsUntold ⟦<K as Station>⟧ ⟦<O as Sink>⟧ bridge.now
+    ensures run { IsUntold WritesCopy ⟦<K as Station>⟧ ⟦<O as Sink>⟧ bridge.now
         station.old station.new out.old out.new result }
 {
     match Store::resume(alloc, station, &bridge.setup) {

@@ -1,10 +1,6 @@
-ghost use Rattle.std.specs.Prelude.{◌≡◌, ℕ, ℤ, List, Ok};
-ghost use Rattle.segment_store.specs.Holds.{Holds, held_of};
-ghost use Rattle.site_config.specs.Configuration.{config_of_bytes};
 ghost use Rattle.site_config.specs.Valid.{IsConfig};
-ghost use Rattle.site_config.specs.declared.config.Config.{Config};
-ghost use Rattle.report_command.specs.OverStore.{IsOverStore, IsUntold};
-ghost use Rattle.report_command.specs.repeat_command.Printing.{Prints};
+ghost use Rattle.report_command.specs.StoreRun.{StoreRuns, IsUntold, store_shown};
+ghost use Rattle.report_command.specs.repeat_command.Printing.{WritesRepeats};
 
 use crate::repeat_command::printing::print_held;
 use outside::station::Station;
@@ -26,14 +22,12 @@ pub fn repeat_command<C: Source, K: Station, O: Sink>(
     station: &mut K,
     out: &mut O,
 ) -> Status
-    // Of samples of which a read of the store holds the first so many.
-    ensures prints { O.tells → K.tells → C.tells → (bridge : Config) →
-        config_of_bytes (C.left config.old) ≡ Ok bridge → (w : ℕ → List ℤ) (n : List ℕ) →
-        Holds bridge.setup w n (K.seen station.old) →
-        Prints result bridge (held_of w n) (O.written out.old) (O.written out.new) }
-    // Besides, it tells at most the line of its answer, and each answer has its cause.
-    ensures run { IsOverStore ⟦<C as Source>⟧ ⟦<K as Station>⟧ ⟦<O as Sink>⟧
-        config.old config.new station.old station.new out.old out.new result }
+    // What it did, by what is shown before and after: `specs/StoreRun.antt`; what it writes:
+    // `specs/repeat_command/Printing.antt`.
+    ensures run { StoreRuns WritesRepeats
+        (store_shown ⟦<C as Source>⟧ ⟦<K as Station>⟧ ⟦<O as Sink>⟧ config.old station.old out.old)
+        (store_shown ⟦<C as Source>⟧ ⟦<K as Station>⟧ ⟦<O as Sink>⟧ config.new station.new out.new)
+        result }
 {
     let Ok(mut line) = FaultLine::new(alloc, MAX_NAME_BYTES) else {
         tell_no_memory(station);
@@ -60,10 +54,7 @@ fn repeat_by<K: Station, O: Sink>(
     out: &mut O,
 ) -> Status
     requires bridge { IsConfig bridge.now }
-    ensures prints { O.tells → K.tells → (w : ℕ → List ℤ) (n : List ℕ) →
-        Holds bridge.now.setup w n (K.seen station.old) →
-        Prints result bridge.now (held_of w n) (O.written out.old) (O.written out.new) }
-    ensures run { IsUntold ⟦<K as Station>⟧ ⟦<O as Sink>⟧ bridge.now
+    ensures run { IsUntold WritesRepeats ⟦<K as Station>⟧ ⟦<O as Sink>⟧ bridge.now
         station.old station.new out.old out.new result }
 {
     let Ok(mut page) = Page::new(alloc, bridge.setup.grid.classes()) else {

@@ -1,20 +1,14 @@
-ghost use Rattle.std.specs.Prelude.{◌≡◌, ◌≤◌, ℕ, ℤ, List, length, Ok};
+ghost use Rattle.std.specs.Prelude.{◌≡◌, ℕ, length};
 ghost use Rattle.outside.specs.Fault.{CountRose};
 ghost use Rattle.report.specs.Figures.{Figures};
-ghost use Rattle.segment.specs.segment_rules.Parts.{PartsValue};
-ghost use Rattle.store_bytes.specs.store_head.Head.{HeadValue};
-ghost use Rattle.segment_store.specs.Holds.{Holds};
-ghost use Rattle.segment_store.specs.Image.{Reads};
-ghost use Rattle.site_config.specs.Configuration.{config_of_bytes};
 ghost use Rattle.site_config.specs.Valid.{IsConfig};
-ghost use Rattle.site_config.specs.declared.config.Config.{Config};
 ghost use Rattle.status.specs.declared.status.Status.TheVariants.{WriteFault};
 ghost use Rattle.status.specs.Printing.{IsPrinting};
 ghost use Rattle.report_command.specs.site_report.Report.{Agrees, AreOver, names_of};
 ghost use Rattle.report_command.specs.site_report.Room.{HasRoom};
-ghost use Rattle.report_command.specs.OverStore.{IsOverStore, IsUntold};
+ghost use Rattle.report_command.specs.StoreRun.{StoreRuns, IsUntold, store_shown};
 ghost use Rattle.report_command.specs.window_counts.Windows.{AreInstants};
-ghost use Rattle.report_command.specs.window_command.Printing.{Prints, PrintsWindow, PrintsKept};
+ghost use Rattle.report_command.specs.window_command.Printing.{Prints, WritesWindow};
 
 use crate::site_report::Report;
 use crate::window_counts::{Times, count_windows};
@@ -37,21 +31,12 @@ pub fn window_command<C: Source, K: Station, O: Sink>(
     out: &mut O,
 ) -> Status
     requires times { AreInstants times }
-    // Of samples that the bodies stand for, in the window of each gauge.
-    ensures prints { O.tells → K.tells → C.tells → (bridge : Config) →
-        config_of_bytes (C.left config.old) ≡ Ok bridge → (w : ℕ → List ℤ) (n : List ℕ) →
-        (h : Holds bridge.setup w n (K.seen station.old)) →
-        PrintsWindow result bridge times h.head.heads h.bodies w
-        (O.written out.old) (O.written out.new) }
-    // Whatever the bodies stand for: the samples, the pairs and the ranges are what they keep.
-    ensures kept { O.tells → K.tells → C.tells → (bridge : Config) →
-        config_of_bytes (C.left config.old) ≡ Ok bridge → (head : HeadValue)
-        (bodies : List PartsValue) (ends : List ℕ) → head.setup ≡ bridge.setup →
-        Reads head bodies ends (K.seen station.old) →
-        PrintsKept result bridge times head.heads bodies (O.written out.old) (O.written out.new) }
-    // Besides, it tells at most the line of its answer, and each answer has its cause.
-    ensures run { IsOverStore ⟦<C as Source>⟧ ⟦<K as Station>⟧ ⟦<O as Sink>⟧
-        config.old config.new station.old station.new out.old out.new result }
+    // What it did, by what is shown before and after: `specs/StoreRun.antt`; what it writes:
+    // `specs/window_command/Printing.antt`.
+    ensures run { StoreRuns (WritesWindow times)
+        (store_shown ⟦<C as Source>⟧ ⟦<K as Station>⟧ ⟦<O as Sink>⟧ config.old station.old out.old)
+        (store_shown ⟦<C as Source>⟧ ⟦<K as Station>⟧ ⟦<O as Sink>⟧ config.new station.new out.new)
+        result }
 {
     let Ok(mut line) = FaultLine::new(alloc, MAX_NAME_BYTES) else {
         tell_no_memory(station);
@@ -80,16 +65,7 @@ fn window_by<K: Station, O: Sink>(
 ) -> Status
     requires bridge { IsConfig bridge.now }
     requires times { AreInstants times }
-    ensures prints { O.tells → K.tells → (w : ℕ → List ℤ) (n : List ℕ) →
-        (h : Holds bridge.now.setup w n (K.seen station.old)) →
-        PrintsWindow result bridge.now times h.head.heads h.bodies w
-        (O.written out.old) (O.written out.new) }
-    ensures kept { O.tells → K.tells → (head : HeadValue)
-        (bodies : List PartsValue) (ends : List ℕ) → head.setup ≡ bridge.now.setup →
-        Reads head bodies ends (K.seen station.old) →
-        PrintsKept result bridge.now times head.heads bodies (O.written out.old)
-        (O.written out.new) }
-    ensures run { IsUntold ⟦<K as Station>⟧ ⟦<O as Sink>⟧ bridge.now
+    ensures run { IsUntold (WritesWindow times) ⟦<K as Station>⟧ ⟦<O as Sink>⟧ bridge.now
         station.old station.new out.old out.new result }
 {
     let Ok(mut report) = Report::new(alloc, bridge) else {

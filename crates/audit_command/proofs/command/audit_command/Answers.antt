@@ -1,163 +1,118 @@
-use Rattle.std.proofs.Common.{◌≡◌, ◌⊎◌, inl, ℕ, List, [], ◌∷◌, ◌++◌, length, sym, ◌∙◌, ap, subst, arith}
-use Rattle.std.specs.Prelude.{Result, Err}
-use Rattle.outside.specs.Fault.{CountRose}
+use Rattle.std.proofs.Common.{◌≡◌, ◌≢◌, ◌⊎◌, inr, ℕ, List, [], ◌∷◌, ◌++◌, length, sym, ◌∙◌, ap, subst, arith, refl}
+use Rattle.std.specs.Prelude.{Err}
 use Rattle.outside.proofs.Faults.{rose_more}
-use Rattle.segment_store.specs.Holds.{Holds, held_of}
-use Rattle.site_config.specs.Configuration.{config_of_bytes}
-use Rattle.site_config.specs.declared.config.Config.{Config}
-use Rattle.site_config.specs.declared.fault.ConfigFault.{ConfigFault}
-use Rattle.site_config.specs.recorded.Recorded.{recordings}
-use Rattle.site_config.specs.recorded.Asked.{names_in}
-use Rattle.status.specs.fault_lines.FaultLine.{fault_line, name_by}
-use Rattle.status.specs.fault_lines.Room.{FaultLineValue}
-use Rattle.status.specs.fault_lines.Telling.{TellsAtMost}
-use Rattle.status.proofs.on_fault_lines.Refused.{line_same}
-use Rattle.status.proofs.on_fault_lines.Telling.{quiet_tells}
-use Rattle.status.proofs.on_config_reading.Refusing.{unread_other}
 use Rattle.outside.proofs.on_station.Told.{last_after}
-use Rattle.audit_command.specs.Answers.{IsAudited}
-use Rattle.audit_command.specs.Asked.{AuditAsks}
-use Rattle.audit_command.specs.Audited.{FindsDifference, IsStanding}
-use Rattle.audit_command.specs.Printing.{Prints}
-use Rattle.audit_command.proofs.Asking.{none_first, unread_asks}
-use Rattle.audit_command.proofs.Ended.{finds_unread, name_short, not_printed, over_config, unread_answer, unread_complete, unread_unprinted}
-use Rattle.audit_command.proofs.AnswerKinds.{unread_named}
-use Rattle.audit_command.proofs.command.audit_command.Goals as goal
 use Rattle.lemmas.proofs.Outcomes.{same_ok}
+use Rattle.segment_store.specs.Held.{ends_of}
+use Rattle.segment_store.specs.Holds.{Holds, held_of}
+use Rattle.segment_store.specs.Moments.{StoreValue}
+use Rattle.store_bytes.specs.store_head.Head.{HeadValue}
+use Rattle.site_config.specs.declared.config.Config.{Config}
+use Rattle.site_config.specs.recorded.Recorded.{recordings}
+use Rattle.status.specs.config_reading.Reading.{IsRefusal}
+use Rattle.status.specs.fault_lines.FaultLine.{fault_line}
+use Rattle.status.proofs.on_fault_lines.Telling.{quiet_tells}
+use Rattle.status.proofs.Refusals.{refused_complete}
+use Rattle.audit_command.specs.Answers.{HeldAnswers, IsAudited, IsAuditing}
+use Rattle.audit_command.specs.Audited.{FindsDifference, HasKept, IsItem, IsStanding}
+use Rattle.audit_command.proofs.AuditRun.{IsEarly, left_early, left_unread, by_refused, store_early, store_not_read, store_disk}
+use Rattle.audit_command.proofs.Audits.{finds_by}
+use Rattle.audit_command.proofs.Ended.{answers_by, answers_over, auditing_no_disk, finds_of, held_complete, items_keep, items_stand, not_printed, read_as}
+use Rattle.audit_command.proofs.command.audit_command.Goals as goal
+
+-- before the configuration was read
+pub returns-in_default-clause-run : goal.returns-in_default-clause-run
+returns-in_default-clause-run g c = left_unread _ _ _ tt c.tell_no_memory.ensures.tells c.tell_no_memory.ensures.last refl
+    (λ names has. has) refl (λ reads. tt) (λ is. absurd cc)
 
 -- a configuration that is refused
-pub returns-clause-answer : goal.returns-clause-answer
-returns-clause-answer g c = λ tells shows reads.
-    unread_answer (config_of_bytes (g.C.Source.left c.args.config.now)) (g.K.Station.seen c.args.station.now)
-    (g.T.Site.files c.args.site.now)
-    c.in-Err.status c.in-Err.ensures.refusal (c.in-Err.ensures.meaning reads)
+pub returns-in-Err-clause-run : goal.returns-in-Err-clause-run
+returns-in-Err-clause-run g c =
+    let refused = c.in-Err.ensures in
+    left_unread _ _ _ refused.refusal c.tell_fault.ensures.tells
+    (λ tells. c.tell_fault.ensures.last tells (λ done. subst IsRefusal done refused.refusal)) refl (λ names has. has) refl
+    refused.meaning (λ is. refused.cause (ap Err is))
 
-pub returns-clause-stands : goal.returns-clause-stands
-returns-clause-stands g c = λ tells shows reads bridge is w n h.
-    finds_unread bridge (IsStanding bridge (held_of w n)) (held_of (recordings bridge (g.T.Site.files c.args.site.now)).samples n)
-    c.in-Err.status
-    c.in-Err.ensures.refusal
+-- a store that is refused
+pub returns-in-Err-resume-clause-run : goal.returns-in-Err-resume-clause-run
+returns-in-Err-resume-clause-run g c =
+    let f = c.in-Err-resume.fault in
+    let refused = c.in-Err-resume.ensures in
+    let is = c.status_of-status.ensures in
+    let end = c.tell_fault-in-Err-resume.ensures in
+    let quiet = c.resume.ensures.quiet in
+    let means = c.in-Ok-read_config.ensures.meaning in
+    let early = subst IsEarly (sym is) (store_early f) in
+    left_early _ _ _ early (λ tells. quiet_tells _ _ _ _ _ _ _ _ _ _ _ _ _ _ _ _ (quiet tells) (end.tells tells))
+    (λ tells. last_after _ _ _ _ _ _ (fault_line c.status_of-status.result []) c.resume.ensures.later (quiet tells).told_same
+    (end.last tells (λ done. subst IsEarly done early)))
+    refl (λ names has. has) refl
+    (λ tells reads. rw is (by_refused _ c.in-Ok-read_config.bridge (means reads) (g.K.Station.seen c.args.station.now) (g.T.Site.files c.args.site.now)
+    (λ (store : StoreValue). (store.place, ends_of store.held)) f (refused.answer tells)))
+    (λ tells reads sound config station.
+    let r = subst (λ (x : Config). IsAudited x (g.K.Station.seen c.args.station.now) (g.T.Site.files c.args.site.now))
+    (same_ok sound.1 (means reads)) sound.2 in
+    rw is (refused_complete StoreValue f _ _ _ (refused.unharmed tells r.0.head r.0.bodies r.0.ends r.0.of_setup r.0.reads)
+    refused.cause end.later station))
+    (λ e. absurd (store_not_read f (sym is ∙ e)))
+    (λ e. rose_more _ _ _ (refused.cause (ap Err (store_disk f (sym is ∙ e)))) end.later)
 
-pub returns-clause-complete : goal.returns-clause-complete
-returns-clause-complete g c = λ tells shows reads sound config site station out.
-    unread_complete (config_of_bytes (g.C.Source.left c.args.config.now)) (g.K.Station.seen c.args.station.now)
-    (g.T.Site.files c.args.site.now)
-    c.in-Err.status c.in-Err.ensures.refusal (c.in-Err.ensures.meaning reads) sound (λ is. config (c.in-Err.ensures.cause (ap Err is)))
-
-pub returns-clause-prints : goal.returns-clause-prints
-returns-clause-prints g c = λ writes reads bridge is.
-    unread_unprinted c.in-Err.status c.in-Err.ensures.refusal bridge (g.O.Sink.written c.args.out.now)
-
-pub returns-clause-quiet : goal.returns-clause-quiet
-returns-clause-quiet g c = λ tells reads.
+-- a store that was audited
+pub returns-clause-run : goal.returns-clause-run
+returns-clause-run g c =
     let k = g.K.Station in
-    subst (λ (l : List ℕ). TellsAtMost l (k.clock c.args.station.now) (k.moments c.args.station.now)
-    (k.clock c.tell_fault-in-Err.new.station)
-    (k.moments c.tell_fault-in-Err.new.station) (k.told c.args.station.now) (k.told c.tell_fault-in-Err.new.station)
-    (k.seen c.args.station.now)
-    (k.seen c.tell_fault-in-Err.new.station) (k.leaves c.args.station.now) (k.leaves c.tell_fault-in-Err.new.station))
-    (line_same c.in-Err.status c.in-Err.ensures.refusal _ _) (c.tell_fault-in-Err.ensures.tells tells)
-
-pub returns-clause-last : goal.returns-clause-last
-returns-clause-last g c = λ tells reads not.
-    let k = g.K.Station in
-    subst (λ (l : List ℕ). CountRose (k.faults c.args.station.now) (k.faults c.tell_fault-in-Err.new.station) ⊎
-    (k.told c.tell_fault-in-Err.new.station ≡ k.told c.args.station.now ++ l ∷ []))
-    (line_same c.in-Err.status c.in-Err.ensures.refusal _ _) (c.tell_fault-in-Err.ensures.last tells not)
-
-pub returns-clause-read : goal.returns-clause-read
-returns-clause-read g c = λ is. inl (c.in-Err.ensures.cause (ap Err is))
-
-pub returns-clause-write : goal.returns-clause-write
-returns-clause-write g c = λ is. absurd ((unread_other c.in-Err.status c.in-Err.ensures.refusal).0 is)
-
-pub returns-clause-disk : goal.returns-clause-disk
-returns-clause-disk g c = λ is. absurd ((unread_other c.in-Err.status c.in-Err.ensures.refusal).1 is)
-
--- one that is sound
-pub tell_fault-requires : goal.tell_fault-requires
-tell_fault-requires g c =
-    let short = name_short c.in-Ok-read_config.bridge c.in-Ok-read_config.ensures.valid c.audit_by-status.result in
-    omega (arith, short, ap (λ (l : List ℕ). length l) c.name_in.ensures, ap (λ (l : FaultLineValue). l.name_bytes) c.in-Ok.ensures)
-
-pub returns-in-Ok-read_config-clause-answer : goal.returns-in-Ok-read_config-clause-answer
-returns-in-Ok-read_config-clause-answer g c = λ tells shows reads.
-    over_config (config_of_bytes (g.C.Source.left c.args.config.now)) c.in-Ok-read_config.bridge (g.K.Station.seen c.args.station.now)
-    (g.T.Site.files c.args.site.now) (c.in-Ok-read_config.ensures.meaning reads) c.audit_by-status.result
-    (c.audit_by-status.ensures.answer tells shows)
-
-pub returns-in-Ok-read_config-clause-stands : goal.returns-in-Ok-read_config-clause-stands
-returns-in-Ok-read_config-clause-stands g c = λ tells shows reads bridge is w n h.
-    let same = same_ok
-    (c.in-Ok-read_config.ensures.meaning reads) is in
-    subst (λ (x : Config). Holds x.setup w n (g.K.Station.seen c.args.station.now) → FindsDifference x (IsStanding x (held_of w n))
-    (held_of (recordings x (g.T.Site.files c.args.site.now)).samples n) c.audit_by-status.result) same
-    (λ held. c.audit_by-status.ensures.stands tells shows w n held) h
-
-pub returns-in-Ok-read_config-clause-complete : goal.returns-in-Ok-read_config-clause-complete
-returns-in-Ok-read_config-clause-complete g c = λ tells shows reads sound config site station out.
-    let same = same_ok sound.1
-    (c.in-Ok-read_config.ensures.meaning reads) in
-    c.audit_by-status.ensures.complete tells shows
-    (subst (λ (x : Config). IsAudited x (g.K.Station.seen c.args.station.now) (g.T.Site.files c.args.site.now)) same sound.2) site
-    (λ rose. station (rose_more _ _ _ rose c.tell_fault.ensures.later)) out
-
-pub returns-in-Ok-read_config-clause-prints : goal.returns-in-Ok-read_config-clause-prints
-returns-in-Ok-read_config-clause-prints g c = λ writes reads bridge is.
-    let written = g.O.Sink.written in
-    let same = same_ok
-    (c.in-Ok-read_config.ensures.meaning reads) is in
-    subst (λ (x : Config). Prints c.audit_by-status.result x (written c.args.out.now) (written c.audit_by-status.new.out)) same
-    (c.audit_by-status.ensures.prints writes)
-
-pub returns-in-Ok-read_config-clause-quiet : goal.returns-in-Ok-read_config-clause-quiet
-returns-in-Ok-read_config-clause-quiet g c = λ tells reads.
-    let k = g.K.Station in
-    let name = c.name_in.ensures ∙ ap (λ (r : Result Config ConfigFault). name_by r c.audit_by-status.result)
-    (sym (c.in-Ok-read_config.ensures.meaning reads)) in
-    subst (λ (l : List ℕ). TellsAtMost (fault_line c.audit_by-status.result l) (k.clock c.args.station.now) (k.moments c.args.station.now)
-    (k.clock c.tell_fault.new.station) (k.moments c.tell_fault.new.station) (k.told c.args.station.now) (k.told c.tell_fault.new.station)
-    (k.seen c.args.station.now) (k.seen c.tell_fault.new.station) (k.leaves c.args.station.now) (k.leaves c.tell_fault.new.station)) name
-    (quiet_tells _ _ _ _ _ _ _ _ _ _ _ _ _ _ _ _ (c.audit_by-status.ensures.quiet tells) (c.tell_fault.ensures.tells tells))
-
-pub returns-in-Ok-read_config-clause-silent : goal.returns-in-Ok-read_config-clause-silent
-returns-in-Ok-read_config-clause-silent g c = λ tells done.
-    c.tell_fault.ensures.nothing tells done ∙ (c.audit_by-status.ensures.quiet tells).told_same
-
-pub returns-in-Ok-read_config-clause-last : goal.returns-in-Ok-read_config-clause-last
-returns-in-Ok-read_config-clause-last g c = λ tells reads not.
-    let k = g.K.Station in
-    let name = c.name_in.ensures ∙ ap (λ (r : Result Config ConfigFault). name_by r c.audit_by-status.result)
-    (sym (c.in-Ok-read_config.ensures.meaning reads)) in
-    subst (λ (l : List ℕ). CountRose (k.faults c.args.station.now) (k.faults c.tell_fault.new.station) ⊎
-    (k.told c.tell_fault.new.station ≡ k.told c.args.station.now ++ fault_line c.audit_by-status.result l ∷ [])) name
-    (last_after _ _ _ _ _ _ (fault_line c.audit_by-status.result c.name_in.result.now) c.audit_by-status.ensures.later
-    (c.audit_by-status.ensures.quiet tells).told_same (c.tell_fault.ensures.last tells not))
-
-pub returns-in-Ok-read_config-clause-disk : goal.returns-in-Ok-read_config-clause-disk
-returns-in-Ok-read_config-clause-disk g c = λ is. rose_more _ _ _ (c.audit_by-status.ensures.disk is) c.tell_fault.ensures.later
-
-pub returns-in-Ok-read_config-clause-nothing : goal.returns-in-Ok-read_config-clause-nothing
-returns-in-Ok-read_config-clause-nothing g c = λ writes not.
-    not_printed c.audit_by-status.result c.in-Ok-read_config.bridge (g.O.Sink.written c.args.out.now)
-    (g.O.Sink.written c.audit_by-status.new.out) not
-    (c.audit_by-status.ensures.prints writes)
-
-pub returns-clause-named : goal.returns-clause-named
-returns-clause-named g c = unread_named c.in-Err.status c.in-Err.ensures.refusal
-
--- which files are asked for
-pub returns-in_default-clause-asked : goal.returns-in_default-clause-asked
-returns-in_default-clause-asked g c = λ gives.
-    none_first (g.T.Site.names_asked c.args.site.now) (names_in (config_of_bytes (g.C.Source.left c.args.config.now)))
-
-pub returns-clause-asked : goal.returns-clause-asked
-returns-clause-asked g c = λ gives.
-    unread_asks (g.T.Site.names_asked c.args.site.now) (names_in (config_of_bytes (g.C.Source.left c.args.config.now)))
-    c.in-Err.status c.in-Err.ensures.refusal
-
-pub returns-in-Ok-read_config-clause-asked : goal.returns-in-Ok-read_config-clause-asked
-returns-in-Ok-read_config-clause-asked g c = λ gives.
-    let asked = g.T.Site.names_asked in
-    subst (λ (r : Result Config ConfigFault). AuditAsks c.audit_by-status.result (asked c.args.site.now)
-    (asked c.audit_by-status.new.site) (names_in r)) (sym (c.in-Ok-read_config.ensures.meaning gives)) c.audit_by-status.ensures.asked
+    let s = c.audit_held-status.result in
+    let run = c.audit_held-status.ensures in
+    let end = c.tell_fault-2.ensures in
+    let bridge = c.in-Ok-read_config.bridge in
+    let means = c.in-Ok-read_config.ensures.meaning in
+    let files = g.T.Site.files c.args.site.now in
+    let mid = c.resume.new.station in
+    let quiet = c.resume.ensures.quiet in
+    let store = c.in-Ok-resume.store in
+    let resumed = c.in-Ok-resume.ensures in
+    let many : length store.held ≡ length bridge.gauges = resumed.gauges ∙ c.in-Ok-read_config.ensures.valid.gains in
+    record {
+      answer_is = λ tells shows reads.
+          let there = resumed.on tells in
+          answers_over _ bridge (k.seen c.args.station.now) files (means reads)
+          (read_as store there.0 (k.seen mid) (k.leaves mid) there.1 bridge.setup _ resumed.setup (quiet tells).seen_same) s run.kind
+          (answers_by bridge store.head.heads (IsItem store.held) (HasKept there.0) (ends_of store.held) files
+          (λ h v lt is. items_keep store there.0 (k.seen mid) (k.leaves mid) there.1 h v (omega (arith, lt, many)) is) s run.kind
+          (run.answer shows));
+      complete = λ tells shows reads sound config site station out.
+          let is = subst (λ (x : Config). IsAudited x (k.seen c.args.station.now) files) (same_ok sound.1 (means reads)) sound.2 in
+          let r = is.0 in
+          let found = resumed.reads tells r.head r.bodies r.ends r.of_setup r.reads in
+          held_complete bridge r.head.heads r.bodies r.ends files s run.kind
+          (subst (λ (x : HeadValue). HeldAnswers bridge x.heads (HasKept r.bodies) r.ends files s) found.0
+          (subst (λ (e : List ℕ). HeldAnswers bridge store.head.heads (HasKept r.bodies) e files s) found.1
+          (answers_by bridge store.head.heads (IsItem store.held) (HasKept r.bodies) (ends_of store.held) files
+          (λ j v lt item. items_keep store r.bodies (k.seen mid) (k.leaves mid) found.2 j v (omega (arith, lt, many)) item) s run.kind
+          (run.answer shows))))
+          is.1 is.2 (λ e. site (run.read e)) (λ e. out (run.write e));
+      stands = λ tells shows reads x is w n holds.
+          let same = same_ok is (means reads) in
+          let h = subst (λ (y : Config). Holds y.setup w n (k.seen c.args.station.now)) same holds in
+          let found = resumed.reads tells h.head h.bodies n h.of_setup h.reads in
+          rw same (subst (λ (e : List ℕ). FindsDifference bridge (IsStanding bridge (held_of w e))
+          (held_of (recordings bridge files).samples e) s) found.1
+          (finds_by bridge (IsItem store.held) (IsStanding bridge (held_of w (ends_of store.held)))
+          (held_of (recordings bridge files).samples (ends_of store.held))
+          (λ j v lt item. items_stand store h.bodies (k.seen mid) (k.leaves mid) found.2 bridge w resumed.setup h.stand j v
+          (omega (arith, lt, many)) item)
+          s (finds_of bridge store.head.heads (IsItem store.held) (ends_of store.held) files s run.kind (run.answer shows))));
+      prints = λ writes reads x is. rw (same_ok is (means reads)) (run.prints writes);
+      nothing = λ writes other. not_printed bridge _ _ s run.kind other (run.prints writes);
+      quiet = λ tells reads. rw (means reads, ← c.name_in.ensures)
+          (quiet_tells _ _ _ _ _ _ _ _ _ _ _ _ _ _ _ _ (quiet tells) (end.tells tells));
+      silent = λ tells done. end.nothing tells done ∙ (quiet tells).told_same;
+      last = λ tells reads other. rw (means reads, ← c.name_in.ensures) (last_after _ _ _ _ _ _ (fault_line s c.name_in.result.now)
+          c.resume.ensures.later (quiet tells).told_same (end.last tells other));
+      named = λ usage. subst IsAuditing usage run.kind;
+      read = λ is. inr (run.read is);
+      steady = run.steady;
+      write = run.write;
+      disk = λ is. absurd (auditing_no_disk s run.kind is);
+      asked = λ reads. rw (means reads) run.asked;
+    }

@@ -7,15 +7,15 @@ use Rattle.site_config.specs.recorded.Asked.{file_names}
 use Rattle.site_config.specs.declared.config.Gauge.{Gauge}
 use Rattle.site_config.proofs.on_recorded.Asking.{asks_file, asks_more}
 use Rattle.init_command.specs.Heads.{AreHeadsBelow, AreHeads, HasHeadIn, HeadAnswer}
-use Rattle.init_command.proofs.Asking.{head_asks, heads_status}
-use Rattle.init_command.proofs.Reading.{heads_more, heads_all, heads_refused, file_for}
+use Rattle.init_command.proofs.Asking.{head_asks}
+use Rattle.init_command.proofs.Reading.{heads_more, heads_all, heads_refused, heads_status, file_for}
 use Rattle.init_command.proofs.heads.read_heads.Goals as goal
 
 pub returns-in-Err-clause-answer : goal.returns-in-Err-clause-answer
 returns-in-Err-clause-answer g c = λ tells.
     let was = c.loop-gauge.invariant in
     let files = g.T.Site.files c.args.site.now in
-    heads_refused c.args.bridge.now files c.loop-gauge.gauge c.loop-gauge.heads.items c.in-Err.status
+    heads_refused c.args.bridge.now files c.loop-gauge.gauge c.loop-gauge.heads.items c.in-Err.status c.in-Err.ensures.kind
     (omega (arith, c.loop-gauge-test.true, ap length c.as_slice-gauges.ensures)) (was.each tells)
     (file_for c.args.bridge.now files (λ content. HeadAnswer content c.loop-gauge.gauge (Err c.in-Err.status))
     (g.T.Site.files c.loop-gauge.site) c.loop-gauge.gauge

@@ -1,5 +1,5 @@
 -- What a run of `audit` did.
-use Rattle.std.specs.Prelude.{◌≡◌, ◌≢◌, ◌⊎◌, ℕ, ℤ, List, Ok}
+use Rattle.std.specs.Prelude.{◌≡◌, ◌≢◌, ◌⊎◌, ℕ, ℤ, List, ◌∷◌, [], ◌++◌, Ok}
 use Rattle.outside.specs.Fault.{CountRose}
 use Rattle.segment_store.specs.Holds.{Holds, held_of}
 use Rattle.site_config.specs.Configuration.{config_of_bytes}
@@ -7,14 +7,15 @@ use Rattle.site_config.specs.declared.config.Config.{Config}
 use Rattle.site_config.specs.recorded.Recorded.{recordings}
 use Rattle.site_config.specs.recorded.Asked.{names_in}
 use Rattle.status.specs.declared.status.Status.{Status}
-use Rattle.status.specs.declared.status.Status.TheVariants.{Done, ReadFault, WriteFault, DiskFault, OutOfMemory}
+use Rattle.status.specs.declared.status.Status.TheVariants.{Done, Usage, ReadFault, WriteFault, DiskFault, OutOfMemory}
 use Rattle.status.specs.Printing.{IsPrinting}
 use Rattle.audit_command.specs.Answers.{AuditAnswers, IsSound}
 use Rattle.audit_command.specs.Asked.{AuditAsks}
 use Rattle.audit_command.specs.Audited.{FindsDifference, IsStanding}
 use Rattle.audit_command.specs.Printing.{Prints}
-use Rattle.status.specs.Shown.{Shown, Tells, Ends, line_for}
+use Rattle.status.specs.Shown.{Shown, Tells, line_for}
 
+-- From what is shown before it to what is shown after it.
 pub record AuditRuns (before after : Shown) (answer : Status) : Type 0 where
   -- Which answer it is, by what the bodies of each gauge keep and what its recording begins with.
   pub answer_is : before.station_tells → before.site_tells → before.config_tells →
@@ -38,8 +39,11 @@ pub record AuditRuns (before after : Shown) (answer : Status) : Type 0 where
   pub quiet : before.station_tells → before.config_tells → Tells (line_for before answer) before after
   -- With `Done` no line is told.
   pub silent : before.station_tells → answer ≡ Done → after.told ≡ before.told
-  -- The line of any other answer is told last, unless the station's count rose.
-  pub last : before.station_tells → before.config_tells → answer ≢ Done → Ends (line_for before answer) before after
+  -- The line of any other answer is told, unless the station's count rose.
+  pub last : before.station_tells → before.config_tells → answer ≢ Done →
+      CountRose before.station_faults after.station_faults ⊎ (after.told ≡ before.told ++ line_for before answer ∷ [])
+  -- It is never `Usage`.
+  pub named : answer ≢ Usage
   -- A read fault is answered only where the configuration's or the site's count of faults rose.
   pub read : answer ≡ ReadFault → CountRose before.config_faults after.config_faults ⊎
       CountRose before.site_faults after.site_faults

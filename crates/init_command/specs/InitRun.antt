@@ -1,6 +1,10 @@
 -- What a run of `init` did.
+--   no_output        an output that shows nothing, since `init` is handed none
+--   without_output   what is shown but for the output
+--   InitRuns         what the run did
 use Rattle.std.specs.Prelude.{◌≡◌, ◌≢◌, ◌<◌, ◌⊎◌, [], ◌∷◌, ◌++◌, length, Ok}
 use Rattle.outside.specs.Fault.{CountRose}
+use Rattle.outside.specs.declared.sink.Sink as sink
 use Rattle.outside.specs.station.Station.{Image, Since}
 use Rattle.site_config.specs.Configuration.{config_of_bytes}
 use Rattle.site_config.specs.declared.config.Config.{Config}
@@ -12,6 +16,13 @@ use Rattle.init_command.specs.Heads.{AreSound}
 use Rattle.init_command.specs.Init.{init_line, InMaking, IsMade, InitAnswers, IsInit, IsUnmade}
 use Rattle.status.specs.Shown.{Shown, Tells, Ends, line_for}
 
+abbrev pub no_output : sink.Ghosts (Unit {0})
+no_output = record { tells = ⊥; written = λ none. []; faults = λ none. 0 }
+
+abbrev pub without_output : Shown → Shown
+without_output shown = record shown { output_tells = ⊥; written = []; output_faults = 0 }
+
+-- From what is shown before it to what is shown after it.
 pub record InitRuns (before after : Shown) (answer : Status) : Type 0 where
   -- With `Done` a crash leaves the new store and nothing else.
   pub made : before.station_tells → before.site_tells → before.config_tells → answer ≡ Done → (c : Config) →
@@ -60,5 +71,3 @@ pub record InitRuns (before after : Shown) (answer : Status) : Type 0 where
   -- behind a recording that is refused.
   pub asked : before.config_tells →
       InitAsks answer before.names_asked after.names_asked (names_in (config_of_bytes before.config))
-  -- Nothing is printed.
-  pub nothing : before.output_tells → after.written ≡ before.written

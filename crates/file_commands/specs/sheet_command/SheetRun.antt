@@ -5,10 +5,11 @@ use Rattle.site_config.specs.Configuration.{config_of_bytes}
 use Rattle.site_config.specs.declared.config.Config.{Config}
 use Rattle.site_config.specs.recorded.Asked.{names_in}
 use Rattle.status.specs.declared.status.Status.{Status}
-use Rattle.status.specs.declared.status.Status.TheVariants.{Done, ReadFault, WriteFault, OutOfMemory}
+use Rattle.status.specs.declared.status.Status.TheVariants.{Done, Usage, ReadFault, WriteFault, OutOfMemory}
 use Rattle.file_commands.specs.sheet_command.Sheet.{sheet_of, sheet_answer, MayAnswer, Prints, SheetAsks}
 use Rattle.status.specs.Shown.{Shown, Tells, Ends, line_for}
 
+-- From what is shown before it to what is shown after it.
 pub record SheetRuns (before after : Shown) (answer : Status) : Type 0 where
   -- The samples of the recordings under the names of their gauges are printed, a front of that text, or nothing.
   pub prints : before.output_tells → before.site_tells → before.config_tells → (c : Config) →
@@ -21,6 +22,8 @@ pub record SheetRuns (before after : Shown) (answer : Status) : Type 0 where
   pub silent : before.station_tells → answer ≡ Done → after.told ≡ before.told
   -- The line of any other answer is told last, unless the station's count rose.
   pub last : before.station_tells → before.config_tells → answer ≢ Done → Ends (line_for before answer) before after
+  -- It is never `Usage`.
+  pub named : answer ≢ Usage
   -- The answer is the first thing that is wrong, a read fault or a write fault, or memory ran out.
   pub answer_is : before.site_tells → before.config_tells →
       MayAnswer (sheet_answer (config_of_bytes before.config) before.files) answer
