@@ -1,6 +1,6 @@
 ghost use Rattle.std.specs.Prelude.{◌≡◌, ◌≤◌, IfOk, IfSome, map, option_map, string_bytes};
-ghost use Rattle.command_words.specs.Line.{Init, Report, Audit, Repeat, Sheet, Compact, init_app, report_app, audit_app, repeat_app, sheet_app, compact_app, command_of, table_line, line_without_arguments, count_line, watch_line, demo_line, column_line, window_line, workers_at, number_at, id_at, instant_at, demo_with, column_with, window_with};
-ghost use Rattle.command_words.specs.Commands.{AreWorkers, IsWithinRanges, IsInstant, meaning_of};
+ghost use Rattle.command_words.specs.Line.{command_of, table_line, bare_line, count_line, watch_line, demo_line, column_line, window_line, workers_at, number_at, id_at, instant_at, demo_with, column_with, window_with};
+ghost use Rattle.command_words.specs.Commands.{AreWorkers, IsWithinRanges, IsInstant, command_in, meaning_of};
 
 use crate::command::{MAX_DEMO_SAMPLES, MAX_PERIOD_US, MAX_SEED, MAX_WORKERS};
 use crate::id::id_in;
@@ -23,34 +23,34 @@ pub fn read_words<'a>(alloc: Global, words: &'a [String]) -> Result<Option<Comma
         return read_table(alloc, words);
     }
     if first.as_str() == "init" {
-        return read_init(alloc, words);
+        return read_bare(alloc, "init", Command::Init, words);
     }
     if first.as_str() == "count" {
         return read_count(alloc, words);
     }
     if first.as_str() == "report" {
-        return read_report(alloc, words);
+        return read_bare(alloc, "report", Command::Report, words);
     }
     if first.as_str() == "audit" {
-        return read_audit(alloc, words);
+        return read_bare(alloc, "audit", Command::Audit, words);
     }
     if first.as_str() == "demo" {
         return read_demo(alloc, words);
     }
     if first.as_str() == "repeat" {
-        return read_repeat(alloc, words);
+        return read_bare(alloc, "repeat", Command::Repeat, words);
     }
     if first.as_str() == "column" {
         return read_column(alloc, words);
     }
     if first.as_str() == "sheet" {
-        return read_sheet(alloc, words);
+        return read_bare(alloc, "sheet", Command::Sheet, words);
     }
     if first.as_str() == "window" {
         return read_window(alloc, words);
     }
     if first.as_str() == "compact" {
-        return read_compact(alloc, words);
+        return read_bare(alloc, "compact", Command::Compact, words);
     }
     if first.as_str() == "watch" {
         return read_watch(alloc, words);
@@ -72,69 +72,21 @@ fn read_table<'a>(alloc: Global, words: &'a [String]) -> Result<Option<Command<'
     }
 }
 
-fn read_init<'a>(alloc: Global, words: &'a [String]) -> Result<Option<Command<'a>>, AllocError>
+// A command without arguments, by its name.
+fn read_bare<'a>(
+    alloc: Global,
+    name: &'a str,
+    command: Command<'a>,
+    words: &'a [String],
+) -> Result<Option<Command<'a>>, AllocError>
+    requires ranges { IsWithinRanges command }
     ensures line { IfOk result (λ read. meaning_of read ≡
-        line_without_arguments init_app Init (map string_bytes words.entry.now)) }
+        bare_line name.entry.now (command_in command.entry) (map string_bytes words.entry.now)) }
     ensures ranges { IfOk result (λ read. IfSome read IsWithinRanges) }
 {
-    match read_by(options::init_app(alloc), words)? {
+    match read_by(clap::Command::new(alloc, name), words)? {
         None => Ok(None),
-        Some(_) => Ok(Some(Command::Init)),
-    }
-}
-
-fn read_report<'a>(alloc: Global, words: &'a [String]) -> Result<Option<Command<'a>>, AllocError>
-    ensures line { IfOk result (λ read. meaning_of read ≡
-        line_without_arguments report_app Report (map string_bytes words.entry.now)) }
-    ensures ranges { IfOk result (λ read. IfSome read IsWithinRanges) }
-{
-    match read_by(options::report_app(alloc), words)? {
-        None => Ok(None),
-        Some(_) => Ok(Some(Command::Report)),
-    }
-}
-
-fn read_audit<'a>(alloc: Global, words: &'a [String]) -> Result<Option<Command<'a>>, AllocError>
-    ensures line { IfOk result (λ read. meaning_of read ≡
-        line_without_arguments audit_app Audit (map string_bytes words.entry.now)) }
-    ensures ranges { IfOk result (λ read. IfSome read IsWithinRanges) }
-{
-    match read_by(options::audit_app(alloc), words)? {
-        None => Ok(None),
-        Some(_) => Ok(Some(Command::Audit)),
-    }
-}
-
-fn read_repeat<'a>(alloc: Global, words: &'a [String]) -> Result<Option<Command<'a>>, AllocError>
-    ensures line { IfOk result (λ read. meaning_of read ≡
-        line_without_arguments repeat_app Repeat (map string_bytes words.entry.now)) }
-    ensures ranges { IfOk result (λ read. IfSome read IsWithinRanges) }
-{
-    match read_by(options::repeat_app(alloc), words)? {
-        None => Ok(None),
-        Some(_) => Ok(Some(Command::Repeat)),
-    }
-}
-
-fn read_sheet<'a>(alloc: Global, words: &'a [String]) -> Result<Option<Command<'a>>, AllocError>
-    ensures line { IfOk result (λ read. meaning_of read ≡
-        line_without_arguments sheet_app Sheet (map string_bytes words.entry.now)) }
-    ensures ranges { IfOk result (λ read. IfSome read IsWithinRanges) }
-{
-    match read_by(options::sheet_app(alloc), words)? {
-        None => Ok(None),
-        Some(_) => Ok(Some(Command::Sheet)),
-    }
-}
-
-fn read_compact<'a>(alloc: Global, words: &'a [String]) -> Result<Option<Command<'a>>, AllocError>
-    ensures line { IfOk result (λ read. meaning_of read ≡
-        line_without_arguments compact_app Compact (map string_bytes words.entry.now)) }
-    ensures ranges { IfOk result (λ read. IfSome read IsWithinRanges) }
-{
-    match read_by(options::compact_app(alloc), words)? {
-        None => Ok(None),
-        Some(_) => Ok(Some(Command::Compact)),
+        Some(_) => Ok(Some(command)),
     }
 }
 
