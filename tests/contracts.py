@@ -3,8 +3,10 @@
 
   contracts.py                                    prints the figures
   contracts.py --repeated                         prints each clause that stands three times or more, and where
-  contracts.py PUBLIC_LINES PARAMETERS REPEATED   ends with status 1 where a public function has more lines of clauses, a function has more
-                                                  parameters, or the clauses that stand three times or more have more characters
+  contracts.py PUBLIC_LINES PARAMETERS REPEATED   ends with status 1 where a public function has more lines of clauses (a command 25, the call of
+                                                  the whole program 20), a function has more parameters or a nested tuple for a result, a body is one
+                                                  call whose clauses are its own again, or the clauses that stand three times or more have more
+                                                  characters
 
 It reads the products: no crate whose name begins with trials_ or bench_, and no module of tests. A clause is `requires`, `ensures` or `ghost`, starred or
 not, between the signature of a function and its body; those of closures don't count, and a line of comment is no line of a clause. Two clauses are the
@@ -39,6 +41,8 @@ CLAUSE = re.compile(r"\s*(?P<kind>(?:requires|ensures|ghost)\b\*?)\s*(?:\w+\s*)?
 BODY = re.compile(r"\s*(?=\{)")
 CALL = re.compile(r"(?P<path>(?:\w+::)*)(?:(?P<receiver>\w+)\.)?(?P<name>\w+)(?:::<[^()]*>)?\((?P<arguments>[^()]*)\);?")
 CLOSING = {"(": ")", "[": "]", "{": "}", "<": ">"}
+COMMAND_LINES = 25
+PROGRAM_LINES = 20
 
 
 @dataclasses.dataclass(frozen=True, eq=False)
@@ -176,6 +180,19 @@ def called_by(caller: Function, every: list[Function]) -> list[Function]:
     return [it for it in named if (it.home if call["receiver"] else it.home == owner)]
 
 
+def room_of(it: Function, lines: int) -> int:
+    """Returns how many lines of clauses the function may have, where a public one may have so many."""
+    if it.place.startswith("crates/monitor/") and it.name == "monitor":
+        return min(lines, PROGRAM_LINES)
+    return min(lines, COMMAND_LINES) if it.name.endswith("_command") else lines
+
+
+def said_again(every: list[Function]) -> list[tuple[Function, Function]]:
+    """Returns the functions whose body is one call, where the clauses of that are among theirs, with the called one."""
+    counts = {it: collections.Counter(it.clauses) for it in every}
+    return [(it, other) for it in every if it.clauses for other in called_by(it, every) if other.clauses and counts[other] <= counts[it]]
+
+
 def tell(every: list[Function], repeated: dict[str, list[Function]]) -> None:
     """Prints the figures, and the functions that stand out."""
     bound = [it for it in every if it.clauses]
@@ -192,11 +209,10 @@ def tell(every: list[Function], repeated: dict[str, list[Function]]) -> None:
     print(*(f"  {len(at):4} {clause}" for clause, at in often), sep="\n")
     nested = [it for it in every if is_nested(it.result)]
     print(f"contracts: {len(nested)} results have nested tuples", *(f"       {it} -> {it.result}" for it in nested), sep="\n")
-    calls = [(it, called) for it in bound if (called := called_by(it, every))]
-    counts = {it: collections.Counter(it.clauses) for it in bound}
-    again = [(it, other) for it, called in calls for other in called if other.clauses and counts[other] <= counts[it]]
+    calls = sum(bool(called_by(it, every)) for it in bound)
+    again = said_again(every)
     same = sum(len(it.clauses) == len(other.clauses) for it, other in again)
-    print(f"contracts: {len(calls)} bodies are one call; {same} have that call's clauses again, {len(again) - same} these and more")
+    print(f"contracts: {calls} bodies are one call; {same} have that call's clauses again, {len(again) - same} these and more")
     for it, other in again:
         print(f"       {it} has {len(it.clauses)}, and calls {other.name}, which has {len(other.clauses)} of them")
 
@@ -219,8 +235,16 @@ def main(words: list[str]) -> int:
     longest, widest = max(it.lines for it in every if it.public), max(len(it.parameters) for it in every)
     found, text = sum(len(clause) * len(at) for clause, at in repeated.items()), sum(len(clause) for it in every for clause in it.clauses)
     print(f"contracts: at most {longest} lines of clauses at a public function and {widest} parameters; {found} of {text} characters repeated")
-    faults = [f"{it} has {it.lines} lines of clauses, where at most {lines} may be" for it in every if it.public and it.lines > lines]
+    faults = [
+        f"{it} has {it.lines} lines of clauses, where at most {room_of(it, lines)} may be"
+        for it in every
+        if it.public and it.lines > room_of(it, lines)
+    ]
     faults += [f"{it} has {len(it.parameters)} parameters, where at most {parameters} may be" for it in every if len(it.parameters) > parameters]
+    faults += [f"{it} has a tuple in a tuple for a result" for it in every if is_nested(it.result)]
+    faults += [
+        f"{it} is one call of {other.name}, and has its clauses again" for it, other in said_again(every) if len(it.clauses) == len(other.clauses)
+    ]
     if found > most:
         faults.append(f"clauses of {found} characters stand three times or more, where at most {most} may; --repeated prints them")
     for fault in faults:
