@@ -9,8 +9,8 @@
 //! of version 2.
 //!
 //! Cost: resuming reads each body once, takes its digest and decodes it, and joins it to the held
-//! segment of its gauge. All bodies are decoded into one segment, which is emptied by the cells that
-//! it had. A put writes the body once and takes no memory.
+//! segment of its gauge. All bodies are decoded into one segment, which is emptied by the cells
+//! that it had. A put writes the body once and takes no memory.
 #![tactic(auto)]
 
 mod beginning;

@@ -17,7 +17,7 @@ ghost use Rattle.segment_store.specs.Opening.{
   Resumes,
   IsUnharmed,
 };
-ghost use Rattle.segment_store.specs.Quiet.{IsQuiet, StaysQuiet};
+ghost use Rattle.segment_store.specs.Quiet.{StaysQuiet};
 ghost use Rattle.segment_store.specs.Reading.{StartsAt};
 ghost use Rattle.segment_store.specs.Visiting.{FoundFrom, HasBegun, HasVisited};
 ghost use Rattle.segment_store.specs.declared.fault.ResumeFault.TheVariants.{DiskFault};
@@ -99,7 +99,8 @@ pub fn read_head<K: Station>(
     setup: &Setup,
 ) -> Result<StoreHead, ResumeFault>
     requires few { length setup.now.gains ≤ MAX_GAUGES }
-    // With Ok nothing is wrong with the head, else the first thing that is, in the order of the file.
+    // With Ok nothing is wrong with the head, else the first thing that is, in the order of the
+    // file.
     ensures answer { K.tells → IsHeadAnswer result (head_fault setup.now (K.seen station.old)) }
     // Its bytes stand at the front.
     ensures bytes { K.tells → IfOk result (λ h. take (start_of setup.now) (K.seen station.old) ≡
@@ -113,9 +114,7 @@ pub fn read_head<K: Station>(
         Reads head bodies ends (K.seen station.old) → IsUnharmed result }
     ensures setup { IfOk result (λ h. h.setup ≡ setup.now) }
     ensures heads { IfOk result (λ h. length h.heads ≡ length setup.now.gains) }
-    ensures quiet { K.tells → IsQuiet (K.clock station.old) (K.moments station.old)
-        (K.clock station.new) (K.moments station.new) (K.told station.old) (K.told station.new)
-        (K.seen station.old) (K.seen station.new) (K.leaves station.old) (K.leaves station.new) }
+    ensures quiet { K.tells → StaysQuiet ⟦<K as Station>⟧ station.old station.new }
     ensures cause { result ≡ Err DiskFault →
         CountRose (K.faults station.old) (K.faults station.new) }
     ensures later { K.faults station.old ≤ K.faults station.new }
@@ -215,7 +214,8 @@ pub(crate) fn walk_store<K: Station, V: Visitor>(
         ++ open_bodies x.layout (map parts_of segments))))) }
     ensures begun { IfErr result (λ _. HasBegun V.step visitor.old visitor.new K.tells
         (layout_in (K.seen station.old)) setup.now (K.seen station.old)) }
-    ensures durable { K.tells → IfOk result (λ _. Only (K.seen station.new) (K.leaves station.new)) }
+    ensures durable { K.tells → IfOk result (λ _.
+        Only (K.seen station.new) (K.leaves station.new)) }
     ensures unharmed { K.tells → (head : HeadValue) (bodies : List PartsValue) (ends : List ℕ) →
         head.setup ≡ setup.now → Reads head bodies ends (K.seen station.old) →
         IsUnharmed result }

@@ -1,5 +1,4 @@
 ghost use Rattle.std.specs.Prelude.{◌≡◌, ◌<◌, ◌≤◌, ◌+◌, ◌^◌, length, slice_index, slice_range, take, Err, IfOk, IfErr, OnOk};
-ghost use Rattle.segment.specs.segment_rules.Parts.{PartsValue};
 ghost use Rattle.segment.specs.Parts.{parts_of};
 ghost use Rattle.outside.specs.Fault.{CountRose, HasCause};
 ghost use Rattle.store_bytes.specs.declared.segment_bytes.layout.Layout.TheVariants.{One};
@@ -43,8 +42,8 @@ pub(crate) struct Scratch {
     pub(crate) segment: Segment,
 }
 
-// Where the bodies of a store stand: their layout, how long one may be, where the first gate stands,
-// and the size that the store had when the walk began.
+// Where the bodies of a store stand: their layout, how long one may be, where the first gate
+// stands, and the size that the store had when the walk began.
 #[derive(Clone, Copy)]
 pub(crate) struct Stretch {
     pub(crate) layout: Layout,
@@ -157,9 +156,9 @@ fn stored_body<K: Station>(
     }
 }
 
-// The body whose open gate stands there, and the next gate's place. Where the size that was asked at
-// the start doesn't reach to its end, the size is asked again before that is told: another program may
-// have stored the body since, and a gate is opened only when its body is there.
+// The body whose open gate stands there, and the next gate's place. Where the size that was asked
+// at the start doesn't reach to its end, the size is asked again before that is told: another
+// program may have stored the body since, and a gate is opened only when its body is there.
 fn next_body<K: Station>(
     alloc: Global,
     station: &mut K,

@@ -1,6 +1,5 @@
 ghost use Rattle.std.specs.Prelude.{◌≡◌, ◌<◌, ◌≤◌, ◌⊎◌, ◌++◌, [], ◌∷◌, ℕ, List, length, slice_index, slice_index_or, true, false, IfOk, OnOk, OnErr, Err};
 ghost use Rattle.outside.specs.Fault.{CountRose};
-ghost use Rattle.outside.specs.station.Station.{Since};
 ghost use Rattle.segment.specs.segment_rules.Parts.{PartsValue};
 ghost use Rattle.segment.specs.Parts.{parts_of};
 ghost use Rattle.segment.specs.Segment.{SegmentValue};
@@ -8,10 +7,10 @@ ghost use Rattle.store_bytes.specs.store_head.Head.{HeadValue, see_head};
 ghost use Rattle.segment_store.specs.Held.{ends_of};
 ghost use Rattle.segment_store.specs.Image.{Reads, ends_after, IsNext};
 ghost use Rattle.segment_store.specs.Keeping.{IsKept, see_state};
-ghost use Rattle.segment_store.specs.Moments.{StoreValue, IsOn, IsThere, InPut};
+ghost use Rattle.segment_store.specs.Moments.{StoreValue, IsOn, IsThere, InPut, EachMoment};
 ghost use Rattle.segment_store.specs.Opening.{Resumes, IsUnharmed};
 ghost use Rattle.segment_store.specs.Putting.{Refuses, LeavesUnwritten};
-ghost use Rattle.segment_store.specs.Quiet.{IsQuiet};
+ghost use Rattle.segment_store.specs.Quiet.{StaysQuiet};
 ghost use Rattle.segment_store.specs.declared.fault.PutFault.TheVariants.{DiskFault};
 ghost use Rattle.segment_store.specs.declared.fault.ResumeFault.TheVariants as resume;
 ghost use Rattle.calibration.specs.declared.limits.TheConstants.{MAX_GAUGES};
@@ -73,11 +72,7 @@ impl Store {
         ensures gauges { IfOk result (λ s. length s.held ≡ length setup.now.gains) }
         ensures heads { IfOk result (λ s. length s.head.heads ≡ length setup.now.gains) }
         ensures open { IfOk result (λ s. s.shut ≡ false) }
-        ensures quiet { K.tells → IsQuiet (K.clock station.old) (K.moments station.old)
-            (K.clock station.new) (K.moments station.new)
-            (K.told station.old) (K.told station.new)
-            (K.seen station.old) (K.seen station.new)
-            (K.leaves station.old) (K.leaves station.new) }
+        ensures quiet { K.tells → StaysQuiet ⟦<K as Station>⟧ station.old station.new }
         ensures cause { result ≡ Err resume.DiskFault →
             CountRose (K.faults station.old) (K.faults station.new) }
         ensures later { K.faults station.old ≤ K.faults station.new }
@@ -106,8 +101,8 @@ impl Store {
         // Every moment of it reads as the bodies from before, or with the new one.
         ensures any_moment { K.tells → (bodies : List PartsValue) → self.old.shut ≡ false →
             IsOn self.old bodies (K.seen station.old) (K.leaves station.old) →
-            Since (K.clock station.old) (K.moments station.old) (K.clock station.new)
-            (K.moments station.new) (InPut (K.told station.old) self.old.head bodies
+            EachMoment ⟦<K as Station>⟧ station.old station.new
+            (InPut (K.told station.old) self.old.head bodies
             (ends_of self.old.held) (parts_of seg.now)) }
         ensures told { K.tells → K.told station.new ≡ K.told station.old }
         // When it refuses.

@@ -9,7 +9,7 @@ ghost use Rattle.store_bytes.specs.store_head.Head.{HeadValue, see_head, start_o
 ghost use Rattle.store_bytes.specs.store_head.HeadFaults.{layout_in};
 ghost use Rattle.segment_store.specs.Image.{Reads, nothing_held};
 ghost use Rattle.segment_store.specs.Opening.{Resumes, IsUnharmed};
-ghost use Rattle.segment_store.specs.Quiet.{IsQuiet};
+ghost use Rattle.segment_store.specs.Quiet.{StaysQuiet};
 ghost use Rattle.segment_store.specs.Reading.{HasPassed};
 ghost use Rattle.segment_store.specs.Visiting.{HasVisited};
 ghost use Rattle.segment_store.specs.declared.fault.ResumeFault.TheVariants.{DiskFault};
@@ -68,9 +68,7 @@ pub fn each_body<K: Station, V: Visitor>(
         Reads head bodies ends (K.seen station.old) → IsUnharmed result }
     ensures setup { IfOk result (λ h. h.setup ≡ setup.now) }
     ensures heads { IfOk result (λ h. length h.heads ≡ length setup.now.gains) }
-    ensures quiet { K.tells → IsQuiet (K.clock station.old) (K.moments station.old)
-        (K.clock station.new) (K.moments station.new) (K.told station.old) (K.told station.new)
-        (K.seen station.old) (K.seen station.new) (K.leaves station.old) (K.leaves station.new) }
+    ensures quiet { K.tells → StaysQuiet ⟦<K as Station>⟧ station.old station.new }
     ensures cause { result ≡ Err DiskFault →
         CountRose (K.faults station.old) (K.faults station.new) }
     ensures later { K.faults station.old ≤ K.faults station.new }

@@ -1,11 +1,10 @@
 -- The front that was read means what the whole means: it is the whole, or both are too long.
-use Rattle.std.proofs.Common.{◌≡◌, ◌+◌, ◌<◌, ◌≤◌, ◌⊎◌, inl, inr, ◌++◌, ℕ, Bool, true, List, [], length, length-append, take, min, refl, sym, ap, ◌∙◌, arith}
+use Rattle.std.proofs.Common.{◌≡◌, ◌+◌, ◌<◌, ◌≤◌, ◌⊎◌, inl, inr, ◌++◌, ℕ, true, List, [], length, length-append, take, min, refl, sym, ap, ◌∙◌, arith}
 use Rattle.std.specs.Prelude.{Err, nat_lt}
 use Rattle.std.proofs.lemmas.List.{length-take-le, take_all}
 use Rattle.std.proofs.Math.Seq.{take-append_seam}
 use Rattle.std.proofs.lemmas.Bool.{cases_lt}
 use Rattle.std.proofs.lemmas.Bool.Decides.{nat_tests}
-use Rattle.site_config.specs.declared.fault.ConfigFault.{ConfigFault}
 use Rattle.site_config.specs.declared.fault.ConfigFault.TheVariants.{TooLong}
 use Rattle.site_config.specs.declared.limits.TheConstants.{MAX_BYTES}
 use Rattle.site_config.specs.Configuration.{config_of_bytes}

@@ -94,14 +94,14 @@ fault_line (Differs gauge what held found) name =
 
 -- Other answers have no gauge.
 abbrev pub name_for : Configuration → Status → List ℕ
-name_for bridge (Recording gauge fault) = name_of bridge gauge
-name_for bridge (Torn gauge bytes) = name_of bridge gauge
-name_for bridge (TooLong gauge) = name_of bridge gauge
-name_for bridge (Differs gauge what held found) = name_of bridge gauge
-name_for bridge status = []
+name_for config (Recording gauge fault) = name_of config gauge
+name_for config (Torn gauge bytes) = name_of config gauge
+name_for config (TooLong gauge) = name_of config gauge
+name_for config (Differs gauge what held found) = name_of config gauge
+name_for config status = []
 
 abbrev pub name_by : Result Configuration ConfigFault → Status → List ℕ
-name_by (Ok bridge) status = name_for bridge status
+name_by (Ok config) status = name_for config status
 name_by (Err fault) status = []
 
 -- A line that acknowledges samples begins with this letter (docs/FORMATS.md).

@@ -1,7 +1,9 @@
 -- What a run tells that tells a fault at most.
 --   TellsAtMost   one line at most, and nothing else of the station changes
+--   TellsOnly     so it is from one station to the other
 --   EndsIn        the last line told
 use Rattle.std.specs.Prelude.{◌≡◌, ◌⊎◌, ℕ, List, [], ◌∷◌, ◌++◌}
+use Rattle.outside.specs.declared.station.station.Station as station
 use Rattle.outside.specs.station.Station.{Image, Lines, IsMoment, MomentsSince, Since, NoNew}
 
 -- no line was told but this one, and a crash could leave the image at the start
@@ -17,6 +19,10 @@ pub record TellsAtMost (line : List ℕ) (start : ℕ) (past : MomentsSince) (no
   pub told_at_most : (told2 ≡ told) ⊎ (told2 ≡ told ++ line ∷ [])
   pub seen_same : seen2 ≡ seen
   pub none_new : NoNew leaves leaves2
+
+abbrev pub TellsOnly : {K : Type 0} → station.Ghosts K → List ℕ → K → K → Type 0
+TellsOnly v line old new = TellsAtMost line (v.clock old) (v.moments old) (v.clock new) (v.moments new) (v.told old)
+    (v.told new) (v.seen old) (v.seen new) (v.leaves old) (v.leaves new)
 
 abbrev pub EndsIn : List ℕ → Lines → Type 0
 EndsIn line told = (lines : Lines) × (told ≡ lines ++ line ∷ [])

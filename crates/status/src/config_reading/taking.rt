@@ -1,4 +1,4 @@
-ghost use Rattle.std.specs.Prelude.{◌≡◌, ◌≤◌, ◌<◌, [], length, take, IfOk, Err};
+ghost use Rattle.std.specs.Prelude.{◌≡◌, ◌≤◌, ◌<◌, length, take, IfOk, Err};
 ghost use Rattle.outside.specs.Fault.{HasCause};
 ghost use Rattle.status.specs.config_reading.Reading.{IsFront};
 

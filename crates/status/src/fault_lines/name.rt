@@ -6,22 +6,22 @@ use crate::Status;
 use site_config::Config;
 
 /// The name of the gauge of a status. Other statuses have none.
-pub fn name_in(bridge: &Config, status: Status) -> &str
-    ensures { result.now ≡ name_for bridge.now status }
+pub fn name_in(config: &Config, status: Status) -> &str
+    ensures { result.now ≡ name_for config.now status }
 {
     match status {
         Status::Recording { gauge, .. }
         | Status::Torn { gauge, .. }
         | Status::TooLong { gauge }
-        | Status::Differs { gauge, .. } => name_at(bridge, gauge),
+        | Status::Differs { gauge, .. } => name_at(config, gauge),
         _ => "",
     }
 }
 
-fn name_at(bridge: &Config, gauge: u16) -> &str
-    ensures { result.now ≡ name_of bridge.now gauge }
+fn name_at(config: &Config, gauge: u16) -> &str
+    ensures { result.now ≡ name_of config.now gauge }
 {
-    match bridge.gauges.as_slice().get(gauge as usize) {
+    match config.gauges.as_slice().get(gauge as usize) {
         Some(gauge) => gauge.name.as_str(),
         None => "",
     }

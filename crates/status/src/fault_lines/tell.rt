@@ -1,7 +1,7 @@
 ghost use Rattle.std.specs.Prelude.{◌≡◌, ◌≢◌, ◌≤◌, ◌⊎◌, ◌++◌, [], ◌∷◌, length};
 ghost use Rattle.outside.specs.Fault.{CountRose};
 ghost use Rattle.status.specs.fault_lines.FaultLine.{fault_line};
-ghost use Rattle.status.specs.fault_lines.Telling.{TellsAtMost};
+ghost use Rattle.status.specs.fault_lines.Telling.{TellsOnly};
 ghost use Rattle.status.specs.declared.status.Status.TheVariants.{OutOfMemory};
 
 use crate::Status;
@@ -12,10 +12,8 @@ use outside::station::Station;
 /// was not.
 pub fn tell_fault<K: Station>(station: &mut K, line: &mut FaultLine, status: Status, name: &str)
     requires { length name.now ≤ line.old.name_bytes }
-    ensures tells { K.tells → TellsAtMost (fault_line status name.now)
-        (K.clock station.old) (K.moments station.old) (K.clock station.new) (K.moments station.new)
-        (K.told station.old) (K.told station.new) (K.seen station.old) (K.seen station.new)
-        (K.leaves station.old) (K.leaves station.new) }
+    ensures tells { K.tells → TellsOnly ⟦<K as Station>⟧ (fault_line status name.now)
+        station.old station.new }
     ensures nothing { K.tells → status ≡ Status.Done → K.told station.new ≡ K.told station.old }
     ensures last { K.tells → status ≢ Status.Done →
         CountRose (K.faults station.old) (K.faults station.new) ⊎
@@ -31,10 +29,7 @@ pub fn tell_fault<K: Station>(station: &mut K, line: &mut FaultLine, status: Sta
 
 /// Tells that memory ran out, for which no room is needed.
 pub fn tell_no_memory<K: Station>(station: &mut K)
-    ensures tells { K.tells → TellsAtMost (fault_line OutOfMemory [])
-        (K.clock station.old) (K.moments station.old) (K.clock station.new) (K.moments station.new)
-        (K.told station.old) (K.told station.new) (K.seen station.old) (K.seen station.new)
-        (K.leaves station.old) (K.leaves station.new) }
+    ensures tells { K.tells → TellsOnly ⟦<K as Station>⟧ (fault_line OutOfMemory []) station.old station.new }
     ensures last { K.tells → CountRose (K.faults station.old) (K.faults station.new) ⊎
         (K.told station.new ≡ K.told station.old ++ fault_line OutOfMemory [] ∷ []) }
     ensures later { K.faults station.old ≤ K.faults station.new }
@@ -43,10 +38,7 @@ pub fn tell_no_memory<K: Station>(station: &mut K)
 }
 
 fn tell_line<K: Station>(station: &mut K, line: &[u8])
-    ensures tells { K.tells → TellsAtMost line.now
-        (K.clock station.old) (K.moments station.old) (K.clock station.new) (K.moments station.new)
-        (K.told station.old) (K.told station.new) (K.seen station.old) (K.seen station.new)
-        (K.leaves station.old) (K.leaves station.new) }
+    ensures tells { K.tells → TellsOnly ⟦<K as Station>⟧ line.now station.old station.new }
     ensures last { K.tells → CountRose (K.faults station.old) (K.faults station.new) ⊎
         (K.told station.new ≡ K.told station.old ++ line.now ∷ []) }
     ensures later { K.faults station.old ≤ K.faults station.new }
