@@ -45,36 +45,36 @@ use Rattle.report_command.specs.StoreRun.{Writing, StoreRuns, IsUntold, store_sh
 use Rattle.report_command.specs.compact_command.Copying.{IsCopying}
 use Rattle.report_command.proofs.on_compact_command.Copied.{copied_answer, copied_complete, copied_other, copied_kind}
 
-no_config : (bridge : Result Config ConfigFault) (c : Config) (f : ConfigFault) → bridge ≡ Ok c → bridge ≡ Err f → ⊥
-no_config bridge c f sound means = cc
+no_config : (config : Result Config ConfigFault) (c : Config) (f : ConfigFault) → config ≡ Ok c → config ≡ Err f → ⊥
+no_config config c f sound means = cc
 
 -- over a sound configuration reading fails, or memory runs out
-refused_sound : (bridge : Result Config ConfigFault) (c : Config) (before now : ℕ) → bridge ≡ Ok c → (CountRose before now → ⊥) →
-    (s : Status) → IsRefusal s → MeansAs bridge (Err s) → (s ≡ ReadFault → CountRose before now) → (s ≡ Done) ⊎ (s ≡ OutOfMemory)
-refused_sound bridge c before now sound none =
-    by_refusal (λ (s : Status). MeansAs bridge (Err s) → (s ≡ ReadFault → CountRose before now) → (s ≡ Done) ⊎ (s ≡ OutOfMemory))
-    (λ f means rose. absurd (no_config bridge c f sound means)) (λ means rose. absurd (none (rose refl))) (λ means rose. inr refl)
+refused_sound : (config : Result Config ConfigFault) (c : Config) (before now : ℕ) → config ≡ Ok c → (CountRose before now → ⊥) →
+    (s : Status) → IsRefusal s → MeansAs config (Err s) → (s ≡ ReadFault → CountRose before now) → (s ≡ Done) ⊎ (s ≡ OutOfMemory)
+refused_sound config c before now sound none =
+    by_refusal (λ (s : Status). MeansAs config (Err s) → (s ≡ ReadFault → CountRose before now) → (s ≡ Done) ⊎ (s ≡ OutOfMemory))
+    (λ f means rose. absurd (no_config config c f sound means)) (λ means rose. absurd (none (rose refl))) (λ means rose. inr refl)
 
 -- an answer over a configuration that was read
-over_config : (bridge : Result Config ConfigFault) (c : Config) (image : Image) → bridge ≡ Ok c → (s : Status) → MayAnswerOver c image s →
-    ReportAnswers bridge image s
-over_config bridge c image is Done a = (c, is, a)
-over_config bridge c image is WriteFault a = (c, is, a)
-over_config bridge c image is (BadStore f) a = (c, is, a)
-over_config bridge c image is DiskFault a = (c, is, a)
-over_config bridge c image is OutOfMemory a = tt
-over_config bridge c image is ReadFault a = tt
-over_config bridge c image is Usage a = absurd a
-over_config bridge c image is (BadConfig f) a = absurd a
-over_config bridge c image is (Recording g f) a = absurd a
-over_config bridge c image is (Torn g b) a = absurd a
-over_config bridge c image is (TooLong g) a = absurd a
-over_config bridge c image is (Differs g x y z) a = absurd a
+over_config : (config : Result Config ConfigFault) (c : Config) (image : Image) → config ≡ Ok c → (s : Status) → MayAnswerOver c image s →
+    ReportAnswers config image s
+over_config config c image is Done a = (c, is, a)
+over_config config c image is WriteFault a = (c, is, a)
+over_config config c image is (BadStore f) a = (c, is, a)
+over_config config c image is DiskFault a = (c, is, a)
+over_config config c image is OutOfMemory a = tt
+over_config config c image is ReadFault a = tt
+over_config config c image is Usage a = absurd a
+over_config config c image is (BadConfig f) a = absurd a
+over_config config c image is (Recording g f) a = absurd a
+over_config config c image is (Torn g b) a = absurd a
+over_config config c image is (TooLong g) a = absurd a
+over_config config c image is (Differs g x y z) a = absurd a
 
-unread_answer : (bridge : Result Config ConfigFault) (image : Image) (s : Status) → IsRefusal s → MeansAs bridge (Err s) →
-    ReportAnswers bridge image s
-unread_answer bridge image s is =
-    by_refusal (λ (x : Status). MeansAs bridge (Err x) → ReportAnswers bridge image x) (λ f m. m) (λ m. tt) (λ m. tt) s is
+unread_answer : (config : Result Config ConfigFault) (image : Image) (s : Status) → IsRefusal s → MeansAs config (Err s) →
+    ReportAnswers config image s
+unread_answer config image s is =
+    by_refusal (λ (x : Status). MeansAs config (Err x) → ReportAnswers config image x) (λ f m. m) (λ m. tt) (λ m. tt) s is
 
 -- what a refused store is answered with
 other_status : (f : ResumeFault) → (store_status f ≢ ReadFault) × (store_status f ≢ WriteFault) × (IsPrinting (store_status f) → ⊥)
@@ -131,16 +131,16 @@ pub record Unread (before after : Shown) (s : Status) : Type 0 where
 pub unread : {Writes : Writing} {before after : Shown} {s : Status} → Unread before after s → StoreRuns Writes before after s
 unread {before = before} {after = after} {s = s} u =
     let other = unread_other s u.refusal in
-    let bridge = config_of_bytes before.config in
+    let config = config_of_bytes before.config in
     record {
       writes = λ o k reads c is printing. absurd (other.2 printing);
       nothing = λ o not. u.written;
       quiet = u.quiet;
       silent = λ k is. absurd (other.2 (subst IsPrinting (sym is) tt));
       last = u.last;
-      answer_is = λ k reads. unread_answer bridge before.seen s u.refusal (u.means reads);
-      complete = λ k reads sound config disk output.
-          refused_sound bridge sound.0 before.config_faults after.config_faults sound.1 config s u.refusal (u.means reads) u.cause;
+      answer_is = λ k reads. unread_answer config before.seen s u.refusal (u.means reads);
+      complete = λ k reads sound source disk output.
+          refused_sound config sound.0 before.config_faults after.config_faults sound.1 source s u.refusal (u.means reads) u.cause;
       kind = by_refusal IsReporting (λ f. tt) tt tt s u.refusal;
       read = u.cause;
       write = λ is. absurd (other.0 is);
@@ -171,7 +171,7 @@ module _ {Writes : Writing} {C K O : Type 0} (t : source.Ghosts C) {v : station.
       → v.faults between ≤ v.faults station2
       → StoreRuns Writes (store_shown t v p config station out) (store_shown t v p config2 station2 out2) s
   told means run quiet silent last later = record {
-    writes = λ o k reads bridge is printing.
+    writes = λ o k reads config is printing.
         subst (λ (x : Config). Writes x (v.seen station) s (p.written out) (p.written out2)) (same_ok (means reads) is)
         (run.writes o k printing);
     nothing = run.nothing;

@@ -13,7 +13,7 @@ use Rattle.outside.specs.declared.sink.Sink as sink
 use Rattle.outside.specs.station.Station.{Image}
 use Rattle.outside.specs.declared.station.station.Station as station
 use Rattle.segment_store.specs.Image.{IsStoreOf}
-use Rattle.segment_store.specs.Quiet.{IsQuiet}
+use Rattle.segment_store.specs.Quiet.{StaysQuiet}
 use Rattle.site_config.specs.Configuration.{config_of_bytes}
 use Rattle.site_config.specs.declared.config.Config.{Config}
 use Rattle.status.specs.fault_lines.FaultLine.{fault_line}
@@ -71,8 +71,7 @@ pub record IsUntold {K O : Type 0} (Writes : Writing) (v : station.Ghosts K) (p 
     (station station2 : K) (out out2 : O) (answer : Status) : Type 0 where
   pub writes : p.tells → v.tells → IsPrinting answer → Writes c (v.seen station) answer (p.written out) (p.written out2)
   pub nothing : p.tells → ¬ IsPrinting answer → p.written out2 ≡ p.written out
-  pub quiet : v.tells → IsQuiet (v.clock station) (v.moments station) (v.clock station2) (v.moments station2)
-      (v.told station) (v.told station2) (v.seen station) (v.seen station2) (v.leaves station) (v.leaves station2)
+  pub quiet : v.tells → StaysQuiet v station station2
   pub later : v.faults station ≤ v.faults station2
   pub answer_is : v.tells → MayAnswerOver c (v.seen station) answer
   pub complete : v.tells → IsStoreOf c.setup (v.seen station) → ¬ CountRose (v.faults station) (v.faults station2) →

@@ -16,21 +16,21 @@ use status::Status;
 
 /// Prints the report of what is held.
 pub(crate) fn print_held<O: Sink>(
-    bridge: &Config,
+    config: &Config,
     store: &Store,
     report: &mut Report,
     out: &mut O,
 ) -> Status
-    requires bridge { IsConfig bridge.now }
-    requires setup { store.now.head.setup ≡ bridge.now.setup }
-    requires gauges { length store.now.held ≡ length bridge.now.gauges }
-    requires room { HasRoom bridge.now report.old }
-    ensures prints { O.tells → (figures : ℕ → Figures) → Agrees bridge.now store.now.held figures →
-        Prints result bridge.now figures (O.written out.old) (O.written out.new) }
+    requires config { IsConfig config.now }
+    requires setup { store.now.head.setup ≡ config.now.setup }
+    requires gauges { length store.now.held ≡ length config.now.gauges }
+    requires room { HasRoom config.now report.old }
+    ensures prints { O.tells → (figures : ℕ → Figures) → Agrees config.now store.now.held figures →
+        Prints result config.now figures (O.written out.old) (O.written out.new) }
     ensures kind { IsPrinting result }
     ensures write { result ≡ WriteFault → CountRose (O.faults out.old) (O.faults out.new) }
 {
-    match report.print(bridge, store.segments(), out) {
+    match report.print(config, store.segments(), out) {
         Ok(()) => Status::Done,
         Err(_) => Status::WriteFault,
     }

@@ -16,7 +16,7 @@ use Rattle.segment_store.specs.Holds.{AllStand, gain_at}
 use Rattle.segment_store.specs.Keeps.{bodies_of, kept_halves}
 use Rattle.segment_store.specs.Image.{IsStoreOf}
 use Rattle.segment_store.specs.Opening.{IsUnharmed}
-use Rattle.segment_store.specs.Quiet.{IsQuiet}
+use Rattle.segment_store.specs.Quiet.{StaysQuiet}
 use Rattle.segment_store.specs.declared.fault.ResumeFault.{ResumeFault}
 use Rattle.segment_store.specs.declared.fault.ResumeFault.TheVariants.{DiskFault}
 use Rattle.status.specs.Refused.{IsRefused}
@@ -56,7 +56,6 @@ pub record WalksOver {K : Type 0} (v : station.Ghosts K) (setup : Setup) (statio
     (result : Result WindowsValue ResumeFault) : Type 0 where
   pub refuses : v.tells → IfErr result (λ fault. IsRefused setup (v.seen station) fault)
   pub unharmed : v.tells → IsStoreOf setup (v.seen station) → IsUnharmed result
-  pub quiet : v.tells → IsQuiet (v.clock station) (v.moments station) (v.clock station2) (v.moments station2)
-      (v.told station) (v.told station2) (v.seen station) (v.seen station2) (v.leaves station) (v.leaves station2)
+  pub quiet : v.tells → StaysQuiet v station station2
   pub cause : result ≡ Err DiskFault → CountRose (v.faults station) (v.faults station2)
   pub later : v.faults station ≤ v.faults station2

@@ -4,18 +4,16 @@ ghost use Rattle.outside.specs.station.Station.{Image};
 ghost use Rattle.segment.specs.segment_rules.Parts.{PartsValue};
 ghost use Rattle.segment_store.specs.Held.{AreHeld, ends_of};
 ghost use Rattle.segment_store.specs.Image.{Reads};
-ghost use Rattle.site_config.specs.Valid.{IsConfig};
 ghost use Rattle.status.specs.declared.status.Status.TheVariants.{WriteFault};
 ghost use Rattle.status.specs.Printing.{IsPrinting};
-ghost use Rattle.report_command.specs.StoreRun.{StoreRuns, IsUntold, store_shown};
+ghost use Rattle.report_command.specs.StoreRun.{StoreRuns, store_shown};
 ghost use Rattle.report_command.specs.compact_command.Copying.{Copies, IsCopying, WritesCopy};
 
+use crate::over_store::{StoreWriter, run_over_store};
 use outside::station::Station;
 use outside::{Sink, Source};
 use segment_store::{CompactFault, Store, compact_to};
-use site_config::{Config, MAX_NAME_BYTES};
-use status::config_reading::read_config;
-use status::fault_lines::{FaultLine, tell_fault, tell_no_memory};
+use site_config::Config;
 use status::{Status, status_of};
 use std::alloc::Global;
 
@@ -34,37 +32,31 @@ pub fn compact_command<C: Source, K: Station, O: Sink>(
         (store_shown ⟦<C as Source>⟧ ⟦<K as Station>⟧ ⟦<O as Sink>⟧ config.new station.new out.new)
         result }
 {
-    let Ok(mut line) = FaultLine::new(alloc, MAX_NAME_BYTES) else {
-        tell_no_memory(station);
-        return Status::OutOfMemory;
-    };
-    match read_config(alloc, config) {
-        Ok(bridge) => {
-            let status = compact_by(alloc, &bridge, station, out);
-            tell_fault(station, &mut line, status, "");
-            status
-        }
-        Err(status) => {
-            tell_fault(station, &mut line, status, "");
-            status
-        }
-    }
+    run_over_store(alloc, &StoreCopy, config, station, out)
 }
 
-// The same by a configuration, and nothing is told.
-fn compact_by<K: Station, O: Sink>(
-    alloc: Global,
-    bridge: &Config,
-    station: &mut K,
-    out: &mut O,
-) -> Status
-    requires bridge { IsConfig bridge.now }
-    ensures run { IsUntold WritesCopy ⟦<K as Station>⟧ ⟦<O as Sink>⟧ bridge.now
-        station.old station.new out.old out.new result }
-{
-    match Store::resume(alloc, station, &bridge.setup) {
-        Ok(store) => write_copy(alloc, &store, out),
-        Err(fault) => status_of(fault),
+// A compact copy of the store.
+#[derive(Drop)]
+struct StoreCopy;
+
+impl StoreWriter for StoreCopy {
+    ghost use Rattle.report_command.specs.compact_command.Copying.{WritesCopy};
+
+    ghost sound = { λ w. Unit {0} };
+
+    ghost writes = { λ w. WritesCopy };
+
+    fn write<K: Station, O: Sink>(
+        &self,
+        alloc: Global,
+        config: &Config,
+        station: &mut K,
+        out: &mut O,
+    ) -> Status {
+        match Store::resume(alloc, station, &config.setup) {
+            Ok(store) => write_copy(alloc, &store, out),
+            Err(fault) => status_of(fault),
+        }
     }
 }
 

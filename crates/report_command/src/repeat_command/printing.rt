@@ -22,49 +22,49 @@ use status::Status;
 
 /// Prints what is held of each gauge as a history that repeats.
 pub(crate) fn print_held<O: Sink>(
-    bridge: &Config,
+    config: &Config,
     store: &Store,
     count: &mut Repeating,
     page: &mut Page,
     out: &mut O,
 ) -> Status
-    requires bridge { IsConfig bridge.now }
-    requires setup { store.now.head.setup ≡ bridge.now.setup }
-    requires gauges { length store.now.held ≡ length bridge.now.gauges }
-    requires grid { count.old.grid ≡ bridge.now.setup.grid }
-    requires classes { bridge.now.setup.grid.classes ≤ page.old.classes }
-    ensures prints { O.tells → (w : ℕ → List ℤ) → AllHeldStand bridge.now store.now.held w →
-        Prints result bridge.now w (O.written out.old) (O.written out.new) }
+    requires config { IsConfig config.now }
+    requires setup { store.now.head.setup ≡ config.now.setup }
+    requires gauges { length store.now.held ≡ length config.now.gauges }
+    requires grid { count.old.grid ≡ config.now.setup.grid }
+    requires classes { config.now.setup.grid.classes ≤ page.old.classes }
+    ensures prints { O.tells → (w : ℕ → List ℤ) → AllHeldStand config.now store.now.held w →
+        Prints result config.now w (O.written out.old) (O.written out.new) }
     ensures kind { IsPrinting result }
     ensures write { result ≡ WriteFault → CountRose (O.faults out.old) (O.faults out.new) }
 {
-    match print_repeats(bridge, store, count, page, out) {
+    match print_repeats(config, store, count, page, out) {
         Ok(()) => Status::Done,
         Err(_) => Status::WriteFault,
     }
 }
 
 fn print_repeats<O: Sink>(
-    bridge: &Config,
+    config: &Config,
     store: &Store,
     count: &mut Repeating,
     page: &mut Page,
     out: &mut O,
 ) -> Result<(), Failed>
-    requires bridge { IsConfig bridge.now }
-    requires setup { store.now.head.setup ≡ bridge.now.setup }
-    requires gauges { length store.now.held ≡ length bridge.now.gauges }
-    requires grid { count.old.grid ≡ bridge.now.setup.grid }
-    requires classes { bridge.now.setup.grid.classes ≤ page.old.classes }
-    ensures ok { O.tells → (w : ℕ → List ℤ) → AllHeldStand bridge.now store.now.held w →
-        OnOk result (O.written out.new ≡ O.written out.old ++ repeat_texts bridge.now w) }
-    ensures failed { O.tells → (w : ℕ → List ℤ) → AllHeldStand bridge.now store.now.held w →
+    requires config { IsConfig config.now }
+    requires setup { store.now.head.setup ≡ config.now.setup }
+    requires gauges { length store.now.held ≡ length config.now.gauges }
+    requires grid { count.old.grid ≡ config.now.setup.grid }
+    requires classes { config.now.setup.grid.classes ≤ page.old.classes }
+    ensures ok { O.tells → (w : ℕ → List ℤ) → AllHeldStand config.now store.now.held w →
+        OnOk result (O.written out.new ≡ O.written out.old ++ repeat_texts config.now w) }
+    ensures failed { O.tells → (w : ℕ → List ℤ) → AllHeldStand config.now store.now.held w →
         OnErr result (AppendsPrefix (O.written out.old) (O.written out.new)
-        (repeat_texts bridge.now w)) }
+        (repeat_texts config.now w)) }
     ensures cause { HasCause (O.faults out.old) (O.faults out.new) result }
 {
-    for gauge in 0..bridge.gauges.as_slice().len() {
-        let name = bridge.gauges.as_slice()[gauge].name.as_str();
+    for gauge in 0..config.gauges.as_slice().len() {
+        let name = config.gauges.as_slice()[gauge].name.as_str();
         print_repeat(name, store.held(gauge as u16), count, page, out)?;
     }
     Ok(())

@@ -17,19 +17,19 @@ use site_config::Config;
 const PLACES: usize = MAX_CLASSES as usize;
 
 /// Sums the damage of each detail by the segment of its gauge.
-pub fn sum_damages(bridge: &Config, segments: &[Segment], damages: &mut Vec<Frac>)
-    requires bridge { IsConfig bridge.now }
-    requires setup { AreOver bridge.now.setup.grid segments.now }
-    requires gauges { length segments.now ≡ length bridge.now.gauges }
-    requires room { length bridge.now.details ≤ vec_capacity damages.old }
-    ensures damages { (figures : ℕ → Figures) → Agrees bridge.now segments.now figures →
-        AreDamages bridge.now figures damages.new.items }
-    ensures one_each { length damages.new.items ≡ length bridge.now.details }
+pub fn sum_damages(config: &Config, segments: &[Segment], damages: &mut Vec<Frac>)
+    requires config { IsConfig config.now }
+    requires setup { AreOver config.now.setup.grid segments.now }
+    requires gauges { length segments.now ≡ length config.now.gauges }
+    requires room { length config.now.details ≤ vec_capacity damages.old }
+    ensures damages { (figures : ℕ → Figures) → Agrees config.now segments.now figures →
+        AreDamages config.now figures damages.new.items }
+    ensures one_each { length damages.new.items ≡ length config.now.details }
     ensures few { All (λ damage. damage.whole ≤ MAX_HALF_CYCLES) damages.new.items }
     ensures room { vec_capacity damages.new ≡ vec_capacity damages.old }
 {
     damages.clear();
-    for detail in bridge.details.as_slice() {
+    for detail in config.details.as_slice() {
         let gauge = usize::from(detail.gauge);
         damages.push_reserved(damage_by(&detail.detail, &segments[gauge]));
     }

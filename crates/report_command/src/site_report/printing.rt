@@ -17,25 +17,25 @@ use site_config::Config;
 
 /// Prints the text of each gauge.
 pub fn print_gauges<O: Sink>(
-    bridge: &Config,
+    config: &Config,
     segments: &[Segment],
     page: &mut Page,
     out: &mut O,
 ) -> Result<(), Failed>
-    requires bridge { IsConfig bridge.now }
-    requires setup { AreOver bridge.now.setup.grid segments.now }
-    requires gauges { length segments.now ≡ length bridge.now.gauges }
-    requires classes { bridge.now.setup.grid.classes ≤ page.old.classes }
-    ensures ok { O.tells → (figures : ℕ → Figures) → Agrees bridge.now segments.now figures →
-        OnOk result (O.written out.new ≡ O.written out.old ++ gauge_lines bridge.now figures) }
-    ensures failed { O.tells → (figures : ℕ → Figures) → Agrees bridge.now segments.now figures →
+    requires config { IsConfig config.now }
+    requires setup { AreOver config.now.setup.grid segments.now }
+    requires gauges { length segments.now ≡ length config.now.gauges }
+    requires classes { config.now.setup.grid.classes ≤ page.old.classes }
+    ensures ok { O.tells → (figures : ℕ → Figures) → Agrees config.now segments.now figures →
+        OnOk result (O.written out.new ≡ O.written out.old ++ gauge_lines config.now figures) }
+    ensures failed { O.tells → (figures : ℕ → Figures) → Agrees config.now segments.now figures →
         OnErr result (AppendsPrefix (O.written out.old) (O.written out.new)
-        (gauge_lines bridge.now figures)) }
+        (gauge_lines config.now figures)) }
     ensures cause { HasCause (O.faults out.old) (O.faults out.new) result }
     ensures classes { page.new.classes ≡ page.old.classes }
 {
-    for gauge in 0..bridge.gauges.as_slice().len() {
-        let name = bridge.gauges.as_slice()[gauge].name.as_str();
+    for gauge in 0..config.gauges.as_slice().len() {
+        let name = config.gauges.as_slice()[gauge].name.as_str();
         print_gauge(name, &segments[gauge], page, out)?;
     }
     Ok(())
@@ -70,24 +70,24 @@ pub(crate) fn print_gauge<O: Sink>(
 
 /// Prints the line of each detail, whose damages are in order.
 pub fn print_details<O: Sink>(
-    bridge: &Config,
+    config: &Config,
     damages: &[Frac],
     page: &mut Page,
     out: &mut O,
 ) -> Result<(), Failed>
-    requires bridge { IsConfig bridge.now }
-    requires one_each { length damages.now ≡ length bridge.now.details }
+    requires config { IsConfig config.now }
+    requires one_each { length damages.now ≡ length config.now.details }
     requires few { All (λ damage. damage.whole ≤ MAX_HALF_CYCLES) damages.now }
     ensures ok { O.tells → OnOk result (O.written out.new ≡
-        O.written out.old ++ detail_lines bridge.now bridge.now.details damages.now) }
+        O.written out.old ++ detail_lines config.now config.now.details damages.now) }
     ensures failed { O.tells → OnErr result (AppendsPrefix (O.written out.old)
-        (O.written out.new) (detail_lines bridge.now bridge.now.details damages.now)) }
+        (O.written out.new) (detail_lines config.now config.now.details damages.now)) }
     ensures cause { HasCause (O.faults out.old) (O.faults out.new) result }
     ensures classes { page.new.classes ≡ page.old.classes }
 {
     for i in 0..damages.len() {
-        let detail = &bridge.details.as_slice()[i];
-        let gauge = bridge.gauges.as_slice()[usize::from(detail.gauge)]
+        let detail = &config.details.as_slice()[i];
+        let gauge = config.gauges.as_slice()[usize::from(detail.gauge)]
             .name
             .as_str();
         detail_text(page, detail.name.as_str(), gauge, &damages[i]);

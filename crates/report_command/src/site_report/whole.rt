@@ -35,13 +35,13 @@ impl Model for Report {
 
 impl Report {
     /// Takes all memory that printing the report of this site takes.
-    pub fn new(alloc: Global, bridge: &Config) -> Result<Report, AllocError>
-        requires { IsConfig bridge.now }
-        ensures { IfOk result (HasRoom bridge.now) }
+    pub fn new(alloc: Global, config: &Config) -> Result<Report, AllocError>
+        requires { IsConfig config.now }
+        ensures { IfOk result (HasRoom config.now) }
     {
         Ok(Report {
-            page: Page::new(alloc, bridge.setup.grid.classes())?,
-            damages: Vec::with_capacity(alloc, bridge.details.as_slice().len())?,
+            page: Page::new(alloc, config.setup.grid.classes())?,
+            damages: Vec::with_capacity(alloc, config.details.as_slice().len())?,
         })
     }
 
@@ -49,55 +49,55 @@ impl Report {
     /// of each detail. Takes no memory. Where a put fails, a front of the report is written.
     pub fn print<O: Sink>(
         &mut self,
-        bridge: &Config,
+        config: &Config,
         segments: &[Segment],
         out: &mut O,
     ) -> Result<(), Failed>
-        requires bridge { IsConfig bridge.now }
-        requires setup { AreOver bridge.now.setup.grid segments.now }
-        requires gauges { length segments.now ≡ length bridge.now.gauges }
-        requires room { HasRoom bridge.now self.old }
-        ensures ok { O.tells → (figures : ℕ → Figures) → Agrees bridge.now segments.now figures →
-            OnOk result ((text : List ℕ) × IsReport bridge.now figures text ×
+        requires config { IsConfig config.now }
+        requires setup { AreOver config.now.setup.grid segments.now }
+        requires gauges { length segments.now ≡ length config.now.gauges }
+        requires room { HasRoom config.now self.old }
+        ensures ok { O.tells → (figures : ℕ → Figures) → Agrees config.now segments.now figures →
+            OnOk result ((text : List ℕ) × IsReport config.now figures text ×
             (O.written out.new ≡ O.written out.old ++ text)) }
         ensures failed { O.tells → (figures : ℕ → Figures) →
-            Agrees bridge.now segments.now figures →
-            OnErr result ((text : List ℕ) × IsReport bridge.now figures text ×
+            Agrees config.now segments.now figures →
+            OnErr result ((text : List ℕ) × IsReport config.now figures text ×
             AppendsPrefix (O.written out.old) (O.written out.new) text) }
         ensures cause { HasCause (O.faults out.old) (O.faults out.new) result }
-        ensures room { HasRoom bridge.now self.new }
+        ensures room { HasRoom config.now self.new }
     {
-        sum_damages(bridge, segments, &mut self.damages);
-        print_gauges(bridge, segments, &mut self.page, out)?;
-        print_details(bridge, &self.damages, &mut self.page, out)
+        sum_damages(config, segments, &mut self.damages);
+        print_gauges(config, segments, &mut self.page, out)?;
+        print_details(config, &self.damages, &mut self.page, out)
     }
 
     /// Prints the report of a window of time: before the text of each gauge the line of its window,
     /// which its segment names. Takes no memory. Where a put fails, a front of it is written.
     pub fn print_window<O: Sink>(
         &mut self,
-        bridge: &Config,
+        config: &Config,
         segments: &[Segment],
         out: &mut O,
     ) -> Result<(), Failed>
-        requires bridge { IsConfig bridge.now }
-        requires setup { AreOver bridge.now.setup.grid segments.now }
-        requires gauges { length segments.now ≡ length bridge.now.gauges }
-        requires room { HasRoom bridge.now self.old }
-        ensures ok { O.tells → (figures : ℕ → Figures) → Agrees bridge.now segments.now figures →
+        requires config { IsConfig config.now }
+        requires setup { AreOver config.now.setup.grid segments.now }
+        requires gauges { length segments.now ≡ length config.now.gauges }
+        requires room { HasRoom config.now self.old }
+        ensures ok { O.tells → (figures : ℕ → Figures) → Agrees config.now segments.now figures →
             OnOk result ((text : List ℕ) ×
-            IsWindowReport bridge.now (names_of segments.now) figures text ×
+            IsWindowReport config.now (names_of segments.now) figures text ×
             (O.written out.new ≡ O.written out.old ++ text)) }
         ensures failed { O.tells → (figures : ℕ → Figures) →
-            Agrees bridge.now segments.now figures →
+            Agrees config.now segments.now figures →
             OnErr result ((text : List ℕ) ×
-            IsWindowReport bridge.now (names_of segments.now) figures text ×
+            IsWindowReport config.now (names_of segments.now) figures text ×
             AppendsPrefix (O.written out.old) (O.written out.new) text) }
         ensures cause { HasCause (O.faults out.old) (O.faults out.new) result }
-        ensures room { HasRoom bridge.now self.new }
+        ensures room { HasRoom config.now self.new }
     {
-        sum_damages(bridge, segments, &mut self.damages);
-        print_windows(bridge, segments, &mut self.page, out)?;
-        print_details(bridge, &self.damages, &mut self.page, out)
+        sum_damages(config, segments, &mut self.damages);
+        print_windows(config, segments, &mut self.page, out)?;
+        print_details(config, &self.damages, &mut self.page, out)
     }
 }

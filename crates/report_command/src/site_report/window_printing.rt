@@ -17,26 +17,26 @@ use site_config::Config;
 
 /// Prints the line of each gauge's window, and the gauge's text behind it.
 pub fn print_windows<O: Sink>(
-    bridge: &Config,
+    config: &Config,
     segments: &[Segment],
     page: &mut Page,
     out: &mut O,
 ) -> Result<(), Failed>
-    requires bridge { IsConfig bridge.now }
-    requires setup { AreOver bridge.now.setup.grid segments.now }
-    requires gauges { length segments.now ≡ length bridge.now.gauges }
-    requires classes { bridge.now.setup.grid.classes ≤ page.old.classes }
-    ensures ok { O.tells → (figures : ℕ → Figures) → Agrees bridge.now segments.now figures →
+    requires config { IsConfig config.now }
+    requires setup { AreOver config.now.setup.grid segments.now }
+    requires gauges { length segments.now ≡ length config.now.gauges }
+    requires classes { config.now.setup.grid.classes ≤ page.old.classes }
+    ensures ok { O.tells → (figures : ℕ → Figures) → Agrees config.now segments.now figures →
         OnOk result (O.written out.new ≡
-        O.written out.old ++ window_lines bridge.now (names_of segments.now) figures) }
-    ensures failed { O.tells → (figures : ℕ → Figures) → Agrees bridge.now segments.now figures →
+        O.written out.old ++ window_lines config.now (names_of segments.now) figures) }
+    ensures failed { O.tells → (figures : ℕ → Figures) → Agrees config.now segments.now figures →
         OnErr result (AppendsPrefix (O.written out.old) (O.written out.new)
-        (window_lines bridge.now (names_of segments.now) figures)) }
+        (window_lines config.now (names_of segments.now) figures)) }
     ensures cause { HasCause (O.faults out.old) (O.faults out.new) result }
     ensures classes { page.new.classes ≡ page.old.classes }
 {
-    for gauge in 0..bridge.gauges.as_slice().len() {
-        let name = bridge.gauges.as_slice()[gauge].name.as_str();
+    for gauge in 0..config.gauges.as_slice().len() {
+        let name = config.gauges.as_slice()[gauge].name.as_str();
         print_window(name, &segments[gauge], page, out)?;
     }
     Ok(())

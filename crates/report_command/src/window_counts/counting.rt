@@ -35,7 +35,12 @@ impl Model for Windows {
 
     ghost Value = { WindowsValue };
 
-    ghost view = { λ w. record { times = w.times; periods = w.periods.items; grid = w.grid; joined = w.joined.items } };
+    ghost view = { λ w. record {
+      times = w.times;
+      periods = w.periods.items;
+      grid = w.grid;
+      joined = w.joined.items;
+    } };
 
     ghost invariant = { λ w. AreInstants w.times × AreOwn w.grid w.joined.items
         × (length w.periods.items ≡ length w.joined.items) };
@@ -144,7 +149,8 @@ fn is_over(seg: &Segment, grid: &Grid) -> bool
 fn add(joined: &mut Segment, seg: &Segment)
     requires body { IsBodyOf seg.now joined.old }
     ensures first { joined.old.from ≡ joined.old.to → JoinsPart
-        (empty_at joined.old.grid joined.old.gauge seg.now.from joined.old.longest) seg.now joined.new }
+        (empty_at joined.old.grid joined.old.gauge seg.now.from joined.old.longest)
+        seg.now joined.new }
     ensures next { joined.old.from ≢ joined.old.to → seg.now.from ≡ joined.old.to →
         JoinsPart joined.old seg.now joined.new }
     ensures own { IsOwn joined.old.grid joined.old.gauge joined.new }
@@ -161,7 +167,8 @@ fn add(joined: &mut Segment, seg: &Segment)
 fn begin(joined: &mut Segment, seg: &Segment)
     requires body { IsBodyOf seg.now joined.old }
     ensures first { JoinsPart
-        (empty_at joined.old.grid joined.old.gauge seg.now.from joined.old.longest) seg.now joined.new }
+        (empty_at joined.old.grid joined.old.gauge seg.now.from joined.old.longest)
+        seg.now joined.new }
     ensures own { IsOwn joined.old.grid joined.old.gauge joined.new }
 {
     let gauge = joined.name().gauge;

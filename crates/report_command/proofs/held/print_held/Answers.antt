@@ -5,5 +5,5 @@ use Rattle.report_command.proofs.held.print_held.Goals as goal
 
 pub print-requires-clause-setup : goal.print-requires-clause-setup
 print-requires-clause-setup g c =
-    subst (AreOver c.args.bridge.now.setup.grid) (sym c.segments.ensures.segments)
+    subst (AreOver c.args.config.now.setup.grid) (sym c.segments.ensures.segments)
     (λ k d lt. c.segments.ensures.grids k d lt ∙ ap (λ (s : Setup). s.grid) c.requires.setup)

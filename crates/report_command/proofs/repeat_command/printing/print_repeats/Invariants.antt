@@ -7,10 +7,10 @@ use Rattle.report_command.proofs.repeat_command.printing.print_repeats.Given as 
 -- the gauges from this one on are left
 abbrev pub invariant-loop-gauge : goal.invariant-loop-gauge
 invariant-loop-gauge g l = record {
-  grid : l.count.grid ≡ l.fn.bridge.setup.grid;
+  grid : l.count.grid ≡ l.fn.config.setup.grid;
   classes : l.page.classes ≡ l.fn.page.classes;
-  printed : g.O.Sink.tells → (w : ℕ → List ℤ) → AllHeldStand l.fn.bridge l.fn.store.held w → IsPrinted (g.O.Sink.written l.fn.out)
-      (g.O.Sink.written l.out) (repeat_texts l.fn.bridge w)
-      (lines_from (text_of_gauge l.fn.bridge w) l.gauge (length l.fn.bridge.gauges - l.gauge));
+  printed : g.O.Sink.tells → (w : ℕ → List ℤ) → AllHeldStand l.fn.config l.fn.store.held w → IsPrinted (g.O.Sink.written l.fn.out)
+      (g.O.Sink.written l.out) (repeat_texts l.fn.config w)
+      (lines_from (text_of_gauge l.fn.config w) l.gauge (length l.fn.config.gauges - l.gauge));
   later : g.O.Sink.faults l.fn.out ≤ g.O.Sink.faults l.out;
 }

@@ -14,17 +14,17 @@ loop-detail-preserved c =
     let was = c.loop-detail.invariant in
     let items = c.loop-detail.damages.items in
     let more = c.push_reserved.new.self.items in
-    let bridge = c.args.bridge.now in
+    let config = c.args.config.now in
     let at = c.loop-detail.detail-index in
     let item = c.detail-item.result in
-    let within : c.loop-detail.detail-index < length c.args.bridge.now.details =
+    let within : c.loop-detail.detail-index < length c.args.config.now.details =
     omega (arith, c.loop-detail-test.true, ap (λ (l : List NamedDetail). length l) c.as_slice-detail-items.ensures) in
     let is = c.detail-item.is ∙ ap (λ (l : List NamedDetail). get_or l c.loop-detail.detail-index c.detail-item.result)
     c.as_slice-detail-items.ensures in
     let on : c.detail-item.result.gauge < length c.args.segments.now =
     omega (
       arith,
-      subst (λ (d : NamedDetail). d.gauge < length c.args.bridge.now.gauges) (sym is) (c.requires.bridge.on at item within),
+      subst (λ (d : NamedDetail). d.gauge < length c.args.config.now.gauges) (sym is) (c.requires.config.on at item within),
       c.requires.gauges,
     ) in
     let gauge = c.from-gauge.ensures in
@@ -38,11 +38,11 @@ loop-detail-preserved c =
       room = c.push_reserved.ensures.capacity ∙ was.room;
       few = subst (λ (l : List Frac). All (λ (damage : Frac). damage.whole ≤ MAX_HALF_CYCLES) l) (sym c.push_reserved.ensures.items)
           (All-push (λ (damage : Frac). damage.whole ≤ MAX_HALF_CYCLES) items c.damage_by.result was.few c.damage_by.ensures.few);
-      each = λ figures agrees. damages_more bridge figures items more c.damage_by.result at c.push_reserved.ensures.items long
+      each = λ figures agrees. damages_more config figures items more c.damage_by.result at c.push_reserved.ensures.items long
           (was.each figures agrees)
-          (λ d. damage_here bridge c.args.segments.now figures item (get_or bridge.details at d) c.index-segments-gauge.result
+          (λ d. damage_here config c.args.segments.now figures item (get_or config.details at d) c.index-segments-gauge.result
           c.damage_by.result agrees
-          (is ∙ get_or_default bridge.details at item d within) on held grid
+          (is ∙ get_or_default config.details at item d within) on held grid
           c.damage_by.ensures.rules
           c.damage_by.ensures.damage);
     }

@@ -14,8 +14,8 @@ invariant-loop-detail l = record {
   many : vec_len l.damages ≡ l.detail-index;
   room : vec_capacity l.damages ≡ vec_capacity l.fn.damages;
   few : All (λ (damage : Frac). damage.whole ≤ MAX_HALF_CYCLES) l.damages.items;
-  each : (figures : ℕ → Figures) → Agrees l.fn.bridge l.fn.segments figures → (i : ℕ) (d : NamedDetail) (f : Frac) →
+  each : (figures : ℕ → Figures) → Agrees l.fn.config l.fn.segments figures → (i : ℕ) (d : NamedDetail) (f : Frac) →
       i < length l.damages.items
-      → IsDamageOf l.fn.bridge.setup.grid (slice_index_or l.fn.bridge.details i d).detail
-      (figures (slice_index_or l.fn.bridge.details i d).gauge).half_units (slice_index_or l.damages.items i f);
+      → IsDamageOf l.fn.config.setup.grid (slice_index_or l.fn.config.details i d).detail
+      (figures (slice_index_or l.fn.config.details i d).gauge).half_units (slice_index_or l.damages.items i f);
 }

@@ -12,19 +12,19 @@ use Rattle.report_command.proofs.site_report.printing.print_details.Goals as goa
 pub returns-in_err-put-clause-failed : goal.returns-in_err-put-clause-failed
 returns-in_err-put-clause-failed g c = λ tells.
     let within : c.loop-i.i < length c.args.damages.now = omega (arith, c.loop-i-test.true) in
-    let within2 : c.loop-i.i < length c.args.bridge.now.details = omega (arith, within, c.requires.one_each) in
+    let within2 : c.loop-i.i < length c.args.config.now.details = omega (arith, within, c.requires.one_each) in
     let item = c.index-as_slice-i.is ∙ ap (λ (l : List NamedDetail). get_or l c.loop-i.i c.index-as_slice-i.result) c.as_slice.ensures in
-    let on : c.index-as_slice-i.result.gauge < length c.args.bridge.now.gauges =
-    subst (λ (d : NamedDetail). d.gauge < length c.args.bridge.now.gauges) (sym item)
-    (c.requires.bridge.on c.loop-i.i c.index-as_slice-i.result within2) in
-    let at : c.from.result < length c.args.bridge.now.gauges = omega (arith, on, c.from.ensures) in
-    let gauge = ap (name_of c.args.bridge.now) (sym c.from.ensures)
-    ∙ name_is c.args.bridge.now c.from.result _ c.index-as_slice-from.result _ at c.as_slice-in-loop-i.ensures c.as_str-gauge.ensures in
+    let on : c.index-as_slice-i.result.gauge < length c.args.config.now.gauges =
+    subst (λ (d : NamedDetail). d.gauge < length c.args.config.now.gauges) (sym item)
+    (c.requires.config.on c.loop-i.i c.index-as_slice-i.result within2) in
+    let at : c.from.result < length c.args.config.now.gauges = omega (arith, on, c.from.ensures) in
+    let gauge = ap (name_of c.args.config.now) (sym c.from.ensures)
+    ∙ name_is c.args.config.now c.from.result _ c.index-as_slice-from.result _ at c.as_slice-in-loop-i.ensures c.as_str-gauge.ensures in
     let text = c.bytes.ensures ∙ (ap (λ (p : PageValue). p.bytes) c.detail_text.ensures
-    ∙ line_is c.args.bridge.now c.args.bridge.now.details c.args.damages.now c.loop-i.i c.index-as_slice-i.result c.index-damages-i.result
+    ∙ line_is c.args.config.now c.args.config.now.details c.args.damages.now c.loop-i.i c.index-as_slice-i.result c.index-damages-i.result
     c.as_str.result.now c.as_str-gauge.result.now item c.index-damages-i.is c.as_str.ensures gauge) in
-    on_err _ (details_front c.args.bridge.now c.args.bridge.now.details c.args.damages.now c.loop-i.i c.index-as_slice-i.result
+    on_err _ (details_front c.args.config.now c.args.config.now.details c.args.damages.now c.loop-i.i c.index-as_slice-i.result
     c.index-damages-i.result
     within2 within (g.O.Sink.written c.args.out.now) (g.O.Sink.written c.loop-i.out) (g.O.Sink.written c.put.new.self)
-    (detail_lines c.args.bridge.now c.args.bridge.now.details c.args.damages.now) (c.loop-i.invariant.printed tells)
+    (detail_lines c.args.config.now c.args.config.now.details c.args.damages.now) (c.loop-i.invariant.printed tells)
     (subst (AppendsPrefix (g.O.Sink.written c.loop-i.out) (g.O.Sink.written c.put.new.self)) text (c.in_err-put.ensures.failed tells)))

@@ -8,7 +8,7 @@ abbrev pub invariant-loop-i : goal.invariant-loop-i
 invariant-loop-i g l = record {
   classes : l.page.classes ≡ l.fn.page.classes;
   printed : g.O.Sink.tells → IsPrinted (g.O.Sink.written l.fn.out) (g.O.Sink.written l.out)
-      (detail_lines l.fn.bridge l.fn.bridge.details l.fn.damages)
-      (detail_lines l.fn.bridge (drop l.i l.fn.bridge.details) (drop l.i l.fn.damages));
+      (detail_lines l.fn.config l.fn.config.details l.fn.damages)
+      (detail_lines l.fn.config (drop l.i l.fn.config.details) (drop l.i l.fn.damages));
   later : g.O.Sink.faults l.fn.out ≤ g.O.Sink.faults l.out;
 }

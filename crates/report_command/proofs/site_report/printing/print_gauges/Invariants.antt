@@ -9,8 +9,8 @@ use Rattle.report_command.proofs.site_report.printing.print_gauges.Given as goal
 abbrev pub invariant-loop-gauge : goal.invariant-loop-gauge
 invariant-loop-gauge g l = record {
   classes : l.page.classes ≡ l.fn.page.classes;
-  printed : g.O.Sink.tells → (figures : ℕ → Figures) → Agrees l.fn.bridge l.fn.segments figures → IsPrinted (g.O.Sink.written l.fn.out)
-      (g.O.Sink.written l.out) (gauge_lines l.fn.bridge figures)
-      (lines_from (text_of_gauge l.fn.bridge figures) l.gauge (length l.fn.bridge.gauges - l.gauge));
+  printed : g.O.Sink.tells → (figures : ℕ → Figures) → Agrees l.fn.config l.fn.segments figures → IsPrinted (g.O.Sink.written l.fn.out)
+      (g.O.Sink.written l.out) (gauge_lines l.fn.config figures)
+      (lines_from (text_of_gauge l.fn.config figures) l.gauge (length l.fn.config.gauges - l.gauge));
   later : g.O.Sink.faults l.fn.out ≤ g.O.Sink.faults l.out;
 }

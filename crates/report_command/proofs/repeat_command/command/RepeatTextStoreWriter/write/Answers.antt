@@ -1,7 +1,7 @@
 use Rattle.segment_store.specs.Holds.{held_of}
 use Rattle.report_command.proofs.StoreRun.{no_room, refused_store, ended, printing_copies, reads_as}
 use Rattle.report_command.proofs.on_repeat_command.Stand.{all_held_stand}
-use Rattle.report_command.proofs.repeat_command.command.repeat_by.Goals as goal
+use Rattle.report_command.proofs.repeat_command.command.RepeatTextStoreWriter.write.Goals as goal
 
 pub returns-in_default : goal.returns-in_default
 returns-in_default g c = record { run = no_room (λ tells. g.met.K.Station.only_now tells c.args.station.now) }
@@ -23,7 +23,7 @@ returns-in-Ok-resume g c =
             prints = λ w n h.
                 let found = here.reads tells h.head h.bodies n h.of_setup h.reads in
                 c.print_held.ensures.prints writes (held_of w n)
-                (all_held_stand store h.bodies (k.seen c.resume.new.station) (k.leaves c.resume.new.station) found.2 c.args.bridge.now w n
+                (all_held_stand store h.bodies (k.seen c.resume.new.station) (k.leaves c.resume.new.station) found.2 c.args.config.now w n
                 here.setup found.1 h.stand);
           });
     }
