@@ -43,29 +43,29 @@ pub left_unread : (course : Course) (before after : Shown) (s : Status) → IsRe
 left_unread course before after s is only line told ends written asked means cause none =
     let early = refusal_early s is in
     record {
-      every_moment = λ k t c bridge reads a holds lines image was.
-          let r = recordings bridge before.files in
+      every_moment = λ k t c config reads a holds lines image was.
+          let r = recordings config before.files in
           let safe = safe_starts r a before.clock before.moments before.told before.seen before.leaves holds (only k) in
           (safe_fault r a _ _ _ _ _ _ _ _ _ _ _ _ _ safe (fault_line s []) (fault_below r s []) (told k)).run.each lines image was;
       appends = λ k first front ends reads. only_told first (told k);
-      truly = λ k c bridge reads files first front ends was.
-          let r = recordings bridge files in
+      truly = λ k c config reads files first front ends was.
+          let r = recordings config files in
           (truly_fault r first front before.told before.leaves s []
           (truly_begins r first front before.told before.leaves before.clock before.moments before.seen (only k)) (told k)).run;
-      paced = λ k c bridge reads first front ends was.
-          paced_fault course s bridge first front ends before.told before.leaves (fault_line s []) (line_for before s) line
-          (paced_begins course s bridge first front ends before.told before.leaves before.clock before.moments before.seen (only k))
+      paced = λ k c config reads first front ends was.
+          paced_fault course s config first front ends before.told before.leaves (fault_line s []) (line_for before s) line
+          (paced_begins course s config first front ends before.told before.leaves before.clock before.moments before.seen (only k))
           (told k);
-      ended = λ k t c bridge reads a holds. held_early (recordings bridge before.files) after.leaves s early;
-      cut = λ k t c bridge reads a holds none. cut_early (recordings bridge before.files) after.leaves s early;
-      memory = λ k t c bridge reads a holds none. or_still ([], told k) _ s course;
-      prints = λ o k t c bridge reads a holds.
-          prints_early bridge (recordings bridge before.files).samples before.written after.written written s early;
+      ended = λ k t c config reads a holds. held_early (recordings config before.files) after.leaves s early;
+      cut = λ k t c config reads a holds none. cut_early (recordings config before.files) after.leaves s early;
+      memory = λ k t c config reads a holds none. or_still ([], told k) _ s course;
+      prints = λ o k t c config reads a holds.
+          prints_early config (recordings config before.files).samples before.written after.written written s early;
       nothing = λ o other. written;
-      acknowledged = λ k t c bridge reads n h. where_early _ _ s early;
+      acknowledged = λ k t c config reads n h. where_early _ _ s early;
       answer_is = λ k t c. answers_read (config_of_bytes before.config) before.seen before.files s is (means c);
-      complete = λ k t c bridge reads n h fit sound config site station out.
-          done_or_memory s (complete_read (config_of_bytes before.config) bridge reads s is (means c)) (λ e. config (cause e))
+      complete = λ k t c config reads n h fit sound source site station out.
+          done_or_memory s (complete_read (config_of_bytes before.config) config reads s is (means c)) (λ e. source (cause e))
           (λ e. absurd (not_write_read s is e)) (λ e. absurd (not_disk_read s is e));
       quiet = λ k leaves. ([], told k);
       opens = λ k t c. inl ([], told k);

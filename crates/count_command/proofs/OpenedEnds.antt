@@ -23,6 +23,7 @@ use Rattle.segment.specs.segment_rules.Parts.{PartsValue}
 use Rattle.store_bytes.specs.store_head.Head.{HeadValue}
 use Rattle.segment_store.specs.Held.{ends_of}
 use Rattle.segment_store.specs.Moments.{StoreValue, InNoWrite}
+use Rattle.segment_store.specs.Quiet.{StaysQuiet}
 use Rattle.site_config.specs.declared.config.Config.{Config}
 use Rattle.site_config.specs.Valid.{name_of}
 use Rattle.site_config.specs.recorded.Recorded.{Recorded, recordings}
@@ -43,7 +44,7 @@ use Rattle.count_command.specs.watching.Seen.{TellsSeen, IsSeenLine, TellsOnlySe
 use Rattle.count_command.specs.Acknowledging.{AreShort, WhereCounted, TellsAll}
 use Rattle.count_command.specs.Answer.{IsEnding}
 use Rattle.count_command.specs.Holding.{HeldAt, LeavesStore, QuietOr}
-use Rattle.count_command.specs.Opened.{IsStill, OpenedRuns}
+use Rattle.count_command.specs.Opened.{OpenedRuns}
 use Rattle.count_command.specs.Pacing.{MayTellSeen, PacedBy}
 use Rattle.count_command.specs.Printed.{AllStandFor, Prints}
 use Rattle.count_command.proofs.on_held_samples.Going.{going_starts, stored_beginning, stored_still, rose_since}
@@ -138,7 +139,7 @@ module _ {C K O : Type 0} (t : source.Ghosts C) (v : station.Ghosts K) (p : sink
       (lines ≡ v.told station) × v.leaves station f) → All HasSource lanes → All (IsFaulty t.faults) lanes →
       OpenedRuns course t v p c store store lanes lanes station station out out OutOfMemory
   opened_nothing course only sources faulty =
-      let still : v.tells → IsStill v station station = λ tells. record {
+      let still : v.tells → StaysQuiet v station station = λ tells. record {
         run = started _ _ (InNoWrite (v.told station) (v.leaves station)) (only tells);
         told_same = refl;
         seen_same = refl;

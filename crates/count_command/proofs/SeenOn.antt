@@ -1,7 +1,7 @@
 -- The pace of a run by its course.
 --   paced_by     a run of rounds keeps the pace of its course
 --   seen_paced   and so does one of `watch` that then tells what was seen, and nothing else
-use Rattle.std.proofs.Common.{◌≡◌, ◌≢◌, inl, inr, ℕ, List, ◌++◌, ◌∙◌, ap}
+use Rattle.std.proofs.Common.{◌≢◌, inl, inr, ℕ, List, ◌++◌, ◌∙◌, ap}
 use Rattle.outside.specs.station.Station.{Image, Lines, MomentsSince}
 use Rattle.outside.specs.declared.station.station.Station as station
 use Rattle.outside.proofs.on_station.Moments.{continues, entails}

@@ -4,7 +4,7 @@
 --   stored_refused     a recording is refused
 --   stored_opened      all were opened
 --   configured_early   the store is refused, or there is no memory for the lanes
-use Rattle.std.proofs.Common.{◌≡◌, ◌≢◌, ◌≤◌, inl, inr, ℕ, ◌+◌, ◌-◌, ◌^◌, min, List, length, slice_index, refl, sym, ◌∙◌, subst, arith}
+use Rattle.std.proofs.Common.{◌≡◌, ◌≢◌, ◌≤◌, inl, inr, ℕ, ◌+◌, ◌-◌, ◌^◌, min, List, length, slice_index, refl, sym, ◌∙◌, arith}
 use Rattle.std.specs.Prelude.{Err}
 use Rattle.std.specs.List.{All}
 use Rattle.std.proofs.lemmas.Bool.{cases_lt}
@@ -23,6 +23,7 @@ use Rattle.segment_store.specs.Held.{ends_of}
 use Rattle.segment_store.specs.Holds.{Holds}
 use Rattle.segment_store.specs.Moments.{StoreValue}
 use Rattle.segment_store.proofs.Quiet.{quiet_starts}
+use Rattle.segment_store.specs.Quiet.{StaysQuiet}
 use Rattle.site_config.specs.Valid.{name_of}
 use Rattle.site_config.specs.declared.config.Config.{Config}
 use Rattle.site_config.specs.recorded.Recorded.{recordings}
@@ -36,7 +37,7 @@ use Rattle.count_command.specs.declared.course.Course.{Course}
 use Rattle.count_command.specs.held_samples.Pace.{window_of}
 use Rattle.count_command.specs.Answer.{RunAnswers, MayAnswerOver, IsEnding, IsRunning, IsCounting, IsComplete}
 use Rattle.count_command.specs.Asked.{CountAsks}
-use Rattle.count_command.specs.Opened.{IsStill, OpenedRuns}
+use Rattle.count_command.specs.Opened.{OpenedRuns}
 use Rattle.count_command.specs.Stored.{StoredRuns, ConfiguredRuns}
 use Rattle.count_command.proofs.Appending.{truly_quiet}
 use Rattle.count_command.proofs.Asking.{opening_asks, ending_asks}
@@ -113,7 +114,7 @@ module _ {S Src K O : Type 0} (course : Course) (t : site.Ghosts S Src) (v : sta
   stored_refused store lanes k o answer only opening answers asks cause =
       let r = recordings c (t.files s) in
       let early = opening_early answer opening in
-      let still : v.tells → IsStill v k k = λ tells.
+      let still : v.tells → StaysQuiet v k k = λ tells.
       quiet_starts (v.clock k) (v.moments k) (v.told k) (v.seen k) (v.leaves k) (only tells) in
       record {
         going = λ tells shows stored. going_starts r _ _ _ _ _ _ stored (only tells);
@@ -138,14 +139,12 @@ module _ {S Src K O : Type 0} (course : Course) (t : site.Ghosts S Src) (v : sta
       }
 
   pub stored_opened : (u : source.Ghosts Src) (store store2 : StoreValue) (lanes lanes2 : List (Lane Src)) (k k2 : K) (o o2 : O)
-      (answer : Status) {run_course : Course} → course ≡ run_course
-      → OpenedRuns run_course u v p c store store2 lanes lanes2 k k2 o o2 answer → (t.tells → u.tells)
+      (answer : Status) → OpenedRuns course u v p c store store2 lanes lanes2 k k2 o o2 answer → (t.tells → u.tells)
       → (t.tells → AreLanes u.tells u.left (recordings c (t.files s)) lanes)
       → (t.tells → AllOpened c store.head.heads (slice_index (ends_of store.held)) (t.files s) (length c.gauges))
       → Asks (t.names_asked s) (t.names_asked s2) (file_names c)
       → StoredRuns course t v p c store store2 lanes2 s s2 k k2 o o2 answer
-  stored_opened u store store2 lanes lanes2 k k2 o o2 answer is made sources are opened asks =
-      let run = subst (λ (x : Course). OpenedRuns x u v p c store store2 lanes lanes2 k k2 o o2 answer) (sym is) made in
+  stored_opened u store store2 lanes lanes2 k k2 o o2 answer run sources are opened asks =
       let files = t.files s in
       record {
         going = λ tells shows stored. run.going tells (sources shows) files (are shows) stored;
@@ -168,7 +167,7 @@ module _ {S Src K O : Type 0} (course : Course) (t : site.Ghosts S Src) (v : sta
         asked = ending_asks (t.names_asked s) (t.names_asked s2) (file_names c) answer run.kind asks;
       }
 
-  pub configured_early : (k k2 : K) (o : O) (answer : Status) → IsEarly answer → (v.tells → IsStill v k k2)
+  pub configured_early : (k k2 : K) (o : O) (answer : Status) → IsEarly answer → (v.tells → StaysQuiet v k k2)
       → (v.tells → t.tells → MayAnswerOver c (v.seen k) (t.files s) answer) → IsCounting answer
       → (v.tells → (n : List ℕ) → Holds c.setup (recordings c (t.files s)).samples n (v.seen k) → IsComplete answer) → answer ≢ ReadFault
       → (answer ≡ DiskFault → CountRose (v.faults k) (v.faults k2)) → v.faults k ≤ v.faults k2

@@ -1,5 +1,4 @@
 -- What rounds over lanes that were opened did, from their entry to their end.
---   IsStill     nothing of the station changed
 --   OpenedRuns  what they did, by the course of the run
 use Rattle.std.specs.Prelude.{◌≡◌, ◌≤◌, List, length}
 use Rattle.std.specs.List.{All}
@@ -12,7 +11,7 @@ use Rattle.segment.specs.segment_rules.Parts.{PartsValue}
 use Rattle.count_workers.specs.declared.lane_loans.lane.Lane.{Lane}
 use Rattle.segment_store.specs.Held.{ends_of}
 use Rattle.segment_store.specs.Moments.{StoreValue, IsOn}
-use Rattle.segment_store.specs.Quiet.{IsQuiet}
+use Rattle.segment_store.specs.Quiet.{StaysQuiet}
 use Rattle.site_config.specs.declared.config.Config.{Config}
 use Rattle.site_config.specs.recorded.Recorded.{recordings}
 use Rattle.site_lanes.specs.Lanes.{AreLanes, HasSource, IsFaulty, HasNotFailed}
@@ -21,67 +20,59 @@ use Rattle.status.specs.declared.status.Status.TheVariants.{ReadFault, WriteFaul
 use Rattle.status.specs.Printing.{IsPrinting}
 use Rattle.count_command.specs.declared.course.Course.{Course}
 use Rattle.count_command.specs.held_samples.Kept.{beginning}
-use Rattle.count_command.specs.held_samples.Going.{HoldsSince, HoldsSinceEntry, IsStored}
+use Rattle.count_command.specs.held_samples.Going.{IsStored, HoldsSinceOver, HoldsSinceEntryOver}
 use Rattle.count_command.specs.Acknowledging.{AreShort, WhereCounted, TellsAll}
 use Rattle.count_command.specs.Answer.{EndAnswers, IsEnding}
 use Rattle.count_command.specs.Holding.{HoldLimited, HeldAt, HeldCut, LeavesStore, QuietOr}
-use Rattle.count_command.specs.Pacing.{PacedBy}
+use Rattle.count_command.specs.Pacing.{PacedByOver}
 use Rattle.count_command.specs.Printed.{Prints}
 
-abbrev pub IsStill : {K : Type 0} → station.Ghosts K → K → K → Type 0
-IsStill v old new =
-    IsQuiet (v.clock old) (v.moments old) (v.clock new) (v.moments new) (v.told old) (v.told new) (v.seen old)
-    (v.seen new) (v.leaves old) (v.leaves new)
-
 pub record OpenedRuns {C K O : Type 0} (course : Course) (t : source.Ghosts C) (v : station.Ghosts K)
-    (p : sink.Ghosts O) (bridge : Config) (store store2 : StoreValue) (lanes lanes2 : List (Lane C))
+    (p : sink.Ghosts O) (config : Config) (store store2 : StoreValue) (lanes lanes2 : List (Lane C))
     (station station2 : K) (out out2 : O) (answer : Status) : Type 0 where
   -- Every moment is kept, whatever it answers.
-  pub going : v.tells → t.tells → (files : Files) → AreLanes t.tells t.left (recordings bridge files) lanes →
-      IsStored (recordings bridge files) store (v.seen station) (v.leaves station) →
-      HoldsSinceEntry (recordings bridge files) (ends_of store.held) (v.clock station) (v.moments station)
-      (v.told station) (v.clock station2) (v.moments station2) (v.told station2) (v.leaves station2)
+  pub going : v.tells → t.tells → (files : Files) → AreLanes t.tells t.left (recordings config files) lanes →
+      IsStored (recordings config files) store (v.seen station) (v.leaves station) →
+      HoldsSinceEntryOver v (recordings config files) (ends_of store.held) station station2
       (ends_of store2.held)
   -- Whatever bodies the store had, each image reads as these and more.
   pub appends : v.tells → (files : Files) (front : List PartsValue) →
       IsOn store front (v.seen station) (v.leaves station) →
-      HoldsSince (beginning store.head front) (recordings bridge files) (ends_of store.held) (v.clock station)
-      (v.moments station) (v.told station) (v.clock station2) (v.moments station2) (v.told station2)
-      (v.leaves station2) (ends_of store2.held)
+      HoldsSinceOver v (beginning store.head front) (recordings config files) (ends_of store.held) station
+      station2 (ends_of store2.held)
   -- Each body is told before the next one is stored.
   pub paced : v.tells → (front : List PartsValue) → IsOn store front (v.seen station) (v.leaves station) →
-      PacedBy course answer bridge store.head front (ends_of store.held) (v.clock station) (v.moments station)
-      (v.told station) (v.clock station2) (v.moments station2) (v.told station2) (v.leaves station2)
+      PacedByOver v course answer config store.head front (ends_of store.held) station station2
   -- What is held at the end.
-  pub ended : v.tells → t.tells → (files : Files) → AreLanes t.tells t.left (recordings bridge files) lanes →
-      IsStored (recordings bridge files) store (v.seen station) (v.leaves station) →
-      HeldAt answer (recordings bridge files) (v.leaves station2)
+  pub ended : v.tells → t.tells → (files : Files) → AreLanes t.tells t.left (recordings config files) lanes →
+      IsStored (recordings config files) store (v.seen station) (v.leaves station) →
+      HeldAt answer (recordings config files) (v.leaves station2)
   -- Where a recording is torn or too long and no source failed.
-  pub cut : v.tells → t.tells → (files : Files) → AreLanes t.tells t.left (recordings bridge files) lanes →
-      IsStored (recordings bridge files) store (v.seen station) (v.leaves station) → All HasNotFailed lanes2 →
-      HeldCut answer (recordings bridge files) (v.leaves station2)
+  pub cut : v.tells → t.tells → (files : Files) → AreLanes t.tells t.left (recordings config files) lanes →
+      IsStored (recordings config files) store (v.seen station) (v.leaves station) → All HasNotFailed lanes2 →
+      HeldCut answer (recordings config files) (v.leaves station2)
   -- Where memory ran out and no source failed.
-  pub memory : v.tells → t.tells → (files : Files) → AreLanes t.tells t.left (recordings bridge files) lanes →
-      IsStored (recordings bridge files) store (v.seen station) (v.leaves station) → All HasNotFailed lanes2 →
-      QuietOr answer course (IsStill v station station2) (HoldLimited (recordings bridge files) (v.leaves station2))
+  pub memory : v.tells → t.tells → (files : Files) → AreLanes t.tells t.left (recordings config files) lanes →
+      IsStored (recordings config files) store (v.seen station) (v.leaves station) → All HasNotFailed lanes2 →
+      QuietOr answer course (StaysQuiet v station station2) (HoldLimited (recordings config files) (v.leaves station2))
   -- What is told.
   pub acknowledged : v.tells → t.tells → (files : Files) →
-      AreLanes t.tells t.left (recordings bridge files) lanes →
-      WhereCounted answer (All HasNotFailed lanes2 × AreShort (recordings bridge files))
-      (TellsAll course answer bridge.block (recordings bridge files) (ends_of store.held) (v.told station)
+      AreLanes t.tells t.left (recordings config files) lanes →
+      WhereCounted answer (All HasNotFailed lanes2 × AreShort (recordings config files))
+      (TellsAll course answer config.block (recordings config files) (ends_of store.held) (v.told station)
       (v.told station2))
   -- What is printed.
   pub prints : p.tells → v.tells → t.tells → (files : Files) →
-      AreLanes t.tells t.left (recordings bridge files) lanes →
-      IsStored (recordings bridge files) store (v.seen station) (v.leaves station) →
-      Prints answer bridge (recordings bridge files).samples (p.written out) (p.written out2)
+      AreLanes t.tells t.left (recordings config files) lanes →
+      IsStored (recordings config files) store (v.seen station) (v.leaves station) →
+      Prints answer config (recordings config files).samples (p.written out) (p.written out2)
   pub nothing : p.tells → ¬ IsPrinting answer → p.written out2 ≡ p.written out
   -- Which answer it is.
-  pub answer_is : t.tells → (files : Files) → AreLanes t.tells t.left (recordings bridge files) lanes →
-      EndAnswers bridge files answer
+  pub answer_is : t.tells → (files : Files) → AreLanes t.tells t.left (recordings config files) lanes →
+      EndAnswers config files answer
   pub kind : IsEnding answer
   -- After these answers nothing was stored.
-  pub quiet : v.tells → LeavesStore course answer → IsStill v station station2
+  pub quiet : v.tells → LeavesStore course answer → StaysQuiet v station station2
   -- A fault of the outside has its cause.
   pub read : answer ≡ ReadFault → ¬ All HasNotFailed lanes2
   pub write : answer ≡ WriteFault → CountRose (p.faults out) (p.faults out2)

@@ -11,8 +11,10 @@
 --   StoresInPace  a run whose moments are such, up to its answer's line
 --   WithLast      a moment of a kind, or one with this line behind its lines
 --   TellsInPace   a run and its answer's line
+--   PacedByOver, StoresInPaceOver   the same over a station at entry and at the end
 use Rattle.std.specs.Prelude.{◌≡◌, ◌≢◌, ◌⊎◌, ◌++◌, ℕ, List, [], ◌∷◌}
 use Rattle.std.specs.List.{AllByRecursion}
+use Rattle.outside.specs.declared.station.station.Station as station
 use Rattle.outside.specs.station.Station.{Image, Lines, IsMoment, MomentsSince, Since}
 use Rattle.segment.specs.segment_rules.Parts.{PartsValue}
 use Rattle.store_bytes.specs.store_head.Head.{HeadValue}
@@ -33,58 +35,69 @@ MayTellSeen WriteFault Watch = Unit {0}
 MayTellSeen DiskFault Watch = Unit {0}
 MayTellSeen answer course = ⊥
 
-pub record WithSeen (bridge : Config) (first : HeadValue) (front : List PartsValue) (ends : List ℕ) (told lines : Lines)
+pub record WithSeen (config : Config) (first : HeadValue) (front : List PartsValue) (ends : List ℕ) (told lines : Lines)
     (c : Image) : Type 0 where
   pub more : List PartsValue
   pub seen : Lines
   pub held : List ℕ
-  pub are : lines ≡ (told ++ body_lines (name_of bridge) more) ++ seen
+  pub are : lines ≡ (told ++ body_lines (name_of config) more) ++ seen
   pub reads : Reads first (front ++ more) held c
-  pub each : AllByRecursion (IsSeenLine bridge ends held) seen
+  pub each : AllByRecursion (IsSeenLine config ends held) seen
 
 abbrev pub OrSeen : Course → Status → Config → HeadValue → List PartsValue → List ℕ → Lines → IsMoment → IsMoment
-OrSeen course answer bridge first front ends told P lines c =
-    P lines c ⊎ (MayTellSeen answer course × WithSeen bridge first front ends told lines c)
+OrSeen course answer config first front ends told P lines c =
+    P lines c ⊎ (MayTellSeen answer course × WithSeen config first front ends told lines c)
 
 abbrev pub InPaceBy : Course → Status → Config → HeadValue → List PartsValue → List ℕ → Lines → IsMoment
-InPaceBy course answer bridge first front ends told =
-    OrSeen course answer bridge first front ends told (InPace (name_of bridge) (window_of bridge) first front told)
+InPaceBy course answer config first front ends told =
+    OrSeen course answer config first front ends told (InPace (name_of config) (window_of config) first front told)
 
 abbrev pub ToldBy : Course → Status → Config → HeadValue → List PartsValue → List ℕ → Lines → IsMoment
-ToldBy course answer bridge first front ends told =
-    OrSeen course answer bridge first front ends told (Acknowledged (name_of bridge) first front told)
+ToldBy course answer config first front ends told =
+    OrSeen course answer config first front ends told (Acknowledged (name_of config) first front told)
 
-pub record PacedBy (course : Course) (answer : Status) (bridge : Config) (first : HeadValue) (front : List PartsValue)
+pub record PacedBy (course : Course) (answer : Status) (config : Config) (first : HeadValue) (front : List PartsValue)
     (ends : List ℕ) (start : ℕ) (past : MomentsSince) (told : Lines) (now : ℕ) (since : MomentsSince) (told2 : Lines)
     (leaves2 : Image → Type 0) : Type 0 where
-  pub run : RunsBy (InPaceBy course answer bridge first front ends told) start past now since told2 leaves2
-  pub level : answer ≢ DiskFault → (c : Image) → leaves2 c → ToldBy course answer bridge first front ends told told2 c
+  pub run : RunsBy (InPaceBy course answer config first front ends told) start past now since told2 leaves2
+  pub level : answer ≢ DiskFault → (c : Image) → leaves2 c → ToldBy course answer config first front ends told told2 c
 
 abbrev pub KeepsPace : Course → Status → Config → HeadValue → List PartsValue → List ℕ → Lines → (Image → Type 0) →
     IsMoment
-KeepsPace course answer bridge first front ends told leaves lines c =
-    ((lines ≡ told) × leaves c) ⊎ InPaceBy course answer bridge first front ends told lines c
+KeepsPace course answer config first front ends told leaves lines c =
+    ((lines ≡ told) × leaves c) ⊎ InPaceBy course answer config first front ends told lines c
 
 abbrev pub AllTold : Course → Status → Config → HeadValue → List PartsValue → List ℕ → Lines → (Image → Type 0) →
     IsMoment
-AllTold course answer bridge first front ends told leaves lines c =
-    ((lines ≡ told) × leaves c) ⊎ ToldBy course answer bridge first front ends told lines c
+AllTold course answer config first front ends told leaves lines c =
+    ((lines ≡ told) × leaves c) ⊎ ToldBy course answer config first front ends told lines c
 
 -- start and past: the clock and the moments at entry; now, since, told2 and leaves2: what is there at the end
-pub record StoresInPace (course : Course) (answer : Status) (bridge : Config) (first : HeadValue)
+pub record StoresInPace (course : Course) (answer : Status) (config : Config) (first : HeadValue)
     (front : List PartsValue) (ends : List ℕ) (start : ℕ) (past : MomentsSince) (told : Lines) (leaves : Image → Type 0)
     (now : ℕ) (since : MomentsSince) (told2 : Lines) (leaves2 : Image → Type 0) : Type 0 where
-  pub run : RunsBy (KeepsPace course answer bridge first front ends told leaves) start past now since told2 leaves2
+  pub run : RunsBy (KeepsPace course answer config first front ends told leaves) start past now since told2 leaves2
   pub level : answer ≢ DiskFault → (c : Image) → leaves2 c →
-      AllTold course answer bridge first front ends told leaves told2 c
+      AllTold course answer config first front ends told leaves told2 c
+
+abbrev pub PacedByOver : {K : Type 0} → station.Ghosts K → Course → Status → Config → HeadValue → List PartsValue →
+    List ℕ → K → K → Type 0
+PacedByOver v course answer config first front ends old new = PacedBy course answer config first front ends
+    (v.clock old) (v.moments old) (v.told old) (v.clock new) (v.moments new) (v.told new) (v.leaves new)
+
+abbrev pub StoresInPaceOver : {K : Type 0} → station.Ghosts K → Course → Status → Config → HeadValue →
+    List PartsValue → List ℕ → K → K → Type 0
+StoresInPaceOver v course answer config first front ends old new = StoresInPace course answer config first front ends
+    (v.clock old) (v.moments old) (v.told old) (v.leaves old) (v.clock new) (v.moments new) (v.told new)
+    (v.leaves new)
 
 abbrev pub WithLast : List ℕ → IsMoment → IsMoment
 WithLast line P lines c = P lines c ⊎ ((before : Lines) × (lines ≡ before ++ line ∷ []) × P before c)
 
-pub record TellsInPace (course : Course) (answer : Status) (bridge : Config) (first : HeadValue)
+pub record TellsInPace (course : Course) (answer : Status) (config : Config) (first : HeadValue)
     (front : List PartsValue) (ends : List ℕ) (line : List ℕ) (start : ℕ) (past : MomentsSince) (told : Lines)
     (leaves : Image → Type 0) (now : ℕ) (since : MomentsSince) (told2 : Lines) (leaves2 : Image → Type 0)
     : Type 0 where
-  pub run : Since start past now since (WithLast line (KeepsPace course answer bridge first front ends told leaves))
+  pub run : Since start past now since (WithLast line (KeepsPace course answer config first front ends told leaves))
   pub level : answer ≢ DiskFault → (c : Image) → leaves2 c →
-      WithLast line (AllTold course answer bridge first front ends told leaves) told2 c
+      WithLast line (AllTold course answer config first front ends told leaves) told2 c

@@ -22,7 +22,7 @@ pub struct Asked {
 pub struct Run<'a, R, G> {
     pub rt: &'a R,
     pub gate: &'a G,
-    pub bridge: &'a Config,
+    pub config: &'a Config,
     pub course: Course,
     /// How many threads count.
     pub workers: u8,

@@ -27,21 +27,21 @@ use std::thread::Threads;
 
 /// Prints the report of what is held.
 pub fn print_held<O: Sink>(
-    bridge: &Config,
+    config: &Config,
     store: &Store,
     report: &mut Report,
     out: &mut O,
 ) -> Status
-    requires bridge { IsConfig bridge.now }
-    requires setup { store.now.head.setup ≡ bridge.now.setup }
-    requires gauges { length store.now.held ≡ length bridge.now.gauges }
-    requires room { HasRoom bridge.now report.old }
-    ensures prints { O.tells → (w : ℕ → List ℤ) → AllStandFor bridge.now.setup w store.now.held →
-        Prints result bridge.now w (O.written out.old) (O.written out.new) }
+    requires config { IsConfig config.now }
+    requires setup { store.now.head.setup ≡ config.now.setup }
+    requires gauges { length store.now.held ≡ length config.now.gauges }
+    requires room { HasRoom config.now report.old }
+    ensures prints { O.tells → (w : ℕ → List ℤ) → AllStandFor config.now.setup w store.now.held →
+        Prints result config.now w (O.written out.old) (O.written out.new) }
     ensures kind { IsPrinting result }
     ensures write { result ≡ WriteFault → CountRose (O.faults out.old) (O.faults out.new) }
 {
-    match report.print(bridge, store.segments(), out) {
+    match report.print(config, store.segments(), out) {
         Ok(()) => Status::Done,
         Err(_) => Status::WriteFault,
     }
@@ -63,12 +63,12 @@ pub fn count_opened<
     out: &mut O,
 ) -> Status
     requires workers { (1 ≤ run.now.workers) × (run.now.workers ≤ MAX_WORKERS) }
-    requires opened { AreOpenedLanes ⟦<C as Source>⟧ ⟦<K as Station>⟧ run.now.bridge.now store.old
+    requires opened { AreOpenedLanes ⟦<C as Source>⟧ ⟦<K as Station>⟧ run.now.config.now store.old
         lanes.old station.old }
-    ensures run { OpenedRuns Count ⟦<C as Source>⟧ ⟦<K as Station>⟧ ⟦<O as Sink>⟧ run.now.bridge.now
-        store.old store.new lanes.old lanes.new station.old station.new out.old out.new result }
+    ensures run { OpenedRuns Count ⟦<C as Source>⟧ ⟦<K as Station>⟧ ⟦<O as Sink>⟧
+        run.now.config.now store.old store.new lanes.old lanes.new station.old station.new out.old out.new result }
 {
-    let Ok(rooms) = take_rooms(run.rt.alloc(), run.workers, run.bridge) else {
+    let Ok(rooms) = take_rooms(run.rt.alloc(), run.workers, run.config) else {
         return Status::OutOfMemory;
     };
     let Rooms {
@@ -94,6 +94,6 @@ pub fn count_opened<
     }
     match first_fault(lanes) {
         Some(status) => status,
-        None => print_held(run.bridge, store, &mut report, out),
+        None => print_held(run.config, store, &mut report, out),
     }
 }

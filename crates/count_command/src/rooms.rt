@@ -23,22 +23,22 @@ pub struct Rooms<C: Source> {
 pub fn take_rooms<C: Source>(
     alloc: Global,
     workers: u8,
-    bridge: &Config,
+    config: &Config,
 ) -> Result<Rooms<C>, AllocError>
     requires workers { (1 ≤ workers) × (workers ≤ MAX_WORKERS) }
-    requires bridge { IsConfig bridge.now }
-    ensures rounds { IfOk result (λ r. AreRoundsFor bridge.now r.prepared r.board) }
-    ensures report { IfOk result (λ r. HasRoom bridge.now r.report) }
+    requires config { IsConfig config.now }
+    ensures rounds { IfOk result (λ r. AreRoundsFor config.now r.prepared r.board) }
+    ensures report { IfOk result (λ r. HasRoom config.now r.report) }
 {
     let plan = Plan {
-        grid: bridge.setup.grid,
-        gauges: bridge.gauges.as_slice().len() as u16,
-        block: bridge.block,
+        grid: config.setup.grid,
+        gauges: config.gauges.as_slice().len() as u16,
+        block: config.block,
         workers,
     };
     let prepared = Prepared::new(alloc, &plan)?;
     let board = Board::new(alloc, plan.gauges, plan.block, &plan.grid)?;
-    let report = Report::new(alloc, bridge)?;
+    let report = Report::new(alloc, config)?;
     Ok(Rooms {
         prepared,
         board,

@@ -34,12 +34,12 @@ pub fn watch_opened<
     out: &mut O,
 ) -> Status
     requires workers { (1 ≤ run.now.workers) × (run.now.workers ≤ MAX_WORKERS) }
-    requires opened { AreOpenedLanes ⟦<C as Source>⟧ ⟦<K as Station>⟧ run.now.bridge.now store.old
+    requires opened { AreOpenedLanes ⟦<C as Source>⟧ ⟦<K as Station>⟧ run.now.config.now store.old
         lanes.old station.old }
-    ensures run { OpenedRuns Watching ⟦<C as Source>⟧ ⟦<K as Station>⟧ ⟦<O as Sink>⟧ run.now.bridge.now
-        store.old store.new lanes.old lanes.new station.old station.new out.old out.new result }
+    ensures run { OpenedRuns Watching ⟦<C as Source>⟧ ⟦<K as Station>⟧ ⟦<O as Sink>⟧
+        run.now.config.now store.old store.new lanes.old lanes.new station.old station.new out.old out.new result }
 {
-    let Ok(rooms) = take_rooms(run.rt.alloc(), run.workers, run.bridge) else {
+    let Ok(rooms) = take_rooms(run.rt.alloc(), run.workers, run.config) else {
         return Status::OutOfMemory;
     };
     let Rooms {
@@ -47,8 +47,8 @@ pub fn watch_opened<
         board,
         mut report,
     } = rooms;
-    let gauges = run.bridge.gauges.as_slice().len() as u16;
-    let Ok(watch) = Watch::new(run.rt, &run.bridge.setup.grid, gauges, store) else {
+    let gauges = run.config.gauges.as_slice().len() as u16;
+    let Ok(watch) = Watch::new(run.rt, &run.config.setup.grid, gauges, store) else {
         return Status::OutOfMemory;
     };
     let (done, watched) = watch_rounds(run, prepared, board, lanes, store, station, watch);
@@ -67,8 +67,8 @@ pub fn watch_opened<
     if let Some(status) = first_fault(lanes) {
         return status;
     }
-    match tell_seen(run.bridge, store, station, &mut line, &ends) {
-        Ok(()) => print_held(run.bridge, store, &mut report, out),
+    match tell_seen(run.config, store, station, &mut line, &ends) {
+        Ok(()) => print_held(run.config, store, &mut report, out),
         Err(_) => Status::DiskFault,
     }
 }

@@ -20,8 +20,8 @@ use Rattle.count_command.specs.held_samples.Fronts.{IsHeldTo}
 use Rattle.count_command.specs.held_samples.Kept.{Kept, standing, beginning, Meets, MayFollow}
 use Rattle.count_command.proofs.on_held_samples.Going.{all_more}
 
-pub are_names : (bridge : Config) → IsConfig bridge → AreNames (name_of bridge) (length bridge.gauges)
-are_names bridge is = record { letters = is.names; differ = is.differ }
+pub are_names : (config : Config) → IsConfig config → AreNames (name_of config) (length config.gauges)
+are_names config is = record { letters = is.names; differ = is.differ }
 
 -- what stands for samples does so by its parts
 stands_in : (setup : Setup) (w : ℕ → List ℤ) (front : SegmentValue) → IsSegment front → front.grid ≡ setup.grid

@@ -89,13 +89,13 @@ seen_not_held r held line is g n lt small held_is =
     let first : ◌≡◌ {A = ℕ} 115 104 = ap (λ (l : List ℕ). get_or l 0 0) (sym is.of.is ∙ held_is) in
     absurd (omega (arith, first))
 
-pub going_seen : {K : Type 0} (v : station.Ghosts K) {s s2 : K} {bridge : Config} {starts ends : List ℕ}
-    → TellsOnlySeen v (IsSeenLine bridge starts ends) s s2
+pub going_seen : {K : Type 0} (v : station.Ghosts K) {s s2 : K} {config : Config} {starts ends : List ℕ}
+    → TellsOnlySeen v (IsSeenLine config starts ends) s s2
     → {kept : Kept} {r : Recorded} {a m : List ℕ} {start : ℕ} {past : MomentsSince} {told : Lines}
     → HoldsSince kept r a start past told (v.clock s) (v.moments s) (v.told s) (v.leaves s) m
     → HoldsSince kept r a start past told (v.clock s2) (v.moments s2) (v.told s2) (v.leaves s2) m
-going_seen v {s} {s2} {bridge} {starts} {ends} t {kept} {r} {a} {m} {start} {past} {told} g =
-    let kind = IsSeenLine bridge starts ends in
+going_seen v {s} {s2} {config} {starts} {ends} t {kept} {r} {a} {m} {start} {past} {told} g =
+    let kind = IsSeenLine config starts ends in
     let grew : (l : Lines) (more : Lines) → l ≡ v.told s ++ more → l ≡ told ++ (g.new ++ more) =
     λ l more is. is ∙ ap (λ (k : Lines). k ++ more) g.grew ∙ append_assoc told g.new more in
     let below : (held : List ℕ) (more : Lines) → AreBelow r held g.new → AllByRecursion kind more → AreBelow r held (g.new ++ more) =

@@ -13,7 +13,7 @@ use Rattle.std.proofs.Math.Seq.{get_or-append_seam}
 use Rattle.outside.specs.station.Station.{Lines}
 use Rattle.board.specs.declared.flow.TheConstants.{BLOCKS_PER_WINDOW}
 use Rattle.site_config.specs.recorded.Recorded.{Recorded}
-use Rattle.count_command.specs.declared.watching.ends.TheConstants.{MOST_ENDS, MOST_ENDS_BESIDE}
+use Rattle.count_command.specs.declared.watching.ends.TheConstants.{MOST_ENDS_BESIDE}
 use Rattle.count_command.specs.held_samples.Told.{seen_line}
 use Rattle.count_command.proofs.on_held_samples.Going.{same_lines}
 use Rattle.count_command.specs.watching.Seen.{IsHeldNumber, AreSeenOf, TellsSeen, seen_lines}

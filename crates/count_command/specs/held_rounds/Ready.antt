@@ -18,13 +18,13 @@ use Rattle.site_lanes.specs.Lanes.{AreHeldTo, HasSource, IsFaulty}
 use Rattle.count_command.specs.held_rounds.Beside.{IsBoardFor}
 
 -- tells, seen and leaves are of the station, failed counts faults of a source
-pub record AreOpened {C : Type 0} (tells : Type 0) (failed : C → ℕ) (bridge : Config) (store : StoreValue)
+pub record AreOpened {C : Type 0} (tells : Type 0) (failed : C → ℕ) (config : Config) (store : StoreValue)
     (lanes : List (Lane C)) (seen : Image) (leaves : Image → Type 0) : Type 0 where
-  pub bridge_is : IsConfig bridge
+  pub config_is : IsConfig config
   pub usable : store.shut ≡ false
-  pub gauges : length store.held ≡ length bridge.gauges
-  pub count : length lanes ≡ length bridge.gauges
-  pub setup : store.head.setup ≡ bridge.setup
+  pub gauges : length store.held ≡ length config.gauges
+  pub count : length lanes ≡ length config.gauges
+  pub setup : store.head.setup ≡ config.setup
   pub held : AreHeldTo (ends_of store.held) lanes
   pub sources : All HasSource lanes
   pub faulty : All (IsFaulty failed) lanes
@@ -32,11 +32,11 @@ pub record AreOpened {C : Type 0} (tells : Type 0) (failed : C → ℕ) (bridge 
 
 abbrev pub AreOpenedLanes : {C K : Type 0} → source.Ghosts C → station.Ghosts K → Config → StoreValue → List (Lane C) →
     K → Type 0
-AreOpenedLanes t v bridge store lanes station =
-    AreOpened v.tells t.faults bridge store lanes (v.seen station) (v.leaves station)
+AreOpenedLanes t v config store lanes station =
+    AreOpened v.tells t.faults config store lanes (v.seen station) (v.leaves station)
 
-pub record AreRoundsFor (bridge : Config) (prepared : PreparedValue) (board : BoardValue) : Type 0 where
-  pub gauges : prepared.gauges ≡ length bridge.gauges
-  pub grid : prepared.grid ≡ bridge.setup.grid
-  pub block : prepared.block ≡ bridge.block
+pub record AreRoundsFor (config : Config) (prepared : PreparedValue) (board : BoardValue) : Type 0 where
+  pub gauges : prepared.gauges ≡ length config.gauges
+  pub grid : prepared.grid ≡ config.setup.grid
+  pub block : prepared.block ≡ config.block
   pub board_is : IsBoardFor prepared board

@@ -9,8 +9,10 @@
 --   RunsBy, Safe     a run whose moments have a property, and those of now too; the moments are kept
 --   IsStoredAs       the store is on its station, and its head and bodies keep what they must
 --   IsStored         so it is of bodies that stand for the recordings
+--   HoldsSinceOver, HoldsSinceEntryOver, RunsByOver, SafeOver   the same over a station at entry and at the end
 --   AreNames         names by which a line that acknowledges tells its gauge and number
 use Rattle.std.specs.Prelude.{◌≡◌, ◌<◌, true, ℕ, List, ◌++◌}
+use Rattle.outside.specs.declared.station.station.Station as station
 use Rattle.outside.specs.station.Station.{Image, Lines, IsMoment, MomentsSince, Since}
 use Rattle.segment.specs.segment_rules.Parts.{PartsValue}
 use Rattle.segment_store.specs.Moments.{StoreValue, IsOn}
@@ -73,6 +75,21 @@ pub record IsStoredAs (kept : Kept) (s : StoreValue) (seen : Image) (leaves : Im
 
 abbrev pub IsStored : Recorded → StoreValue → Image → (Image → Type 0) → Type 0
 IsStored r s seen leaves = IsStoredAs (recorded r) s seen leaves
+
+-- n are held at entry, and m at the end
+abbrev pub HoldsSinceOver : {K : Type 0} → station.Ghosts K → Kept → Recorded → List ℕ → K → K → List ℕ → Type 0
+HoldsSinceOver v kept r n old new m = HoldsSince kept r n (v.clock old) (v.moments old) (v.told old) (v.clock new)
+    (v.moments new) (v.told new) (v.leaves new) m
+
+abbrev pub HoldsSinceEntryOver : {K : Type 0} → station.Ghosts K → Recorded → List ℕ → K → K → List ℕ → Type 0
+HoldsSinceEntryOver v r n old new m = HoldsSinceOver v (recorded r) r n old new m
+
+abbrev pub RunsByOver : {K : Type 0} → station.Ghosts K → IsMoment → K → K → Type 0
+RunsByOver v P old new =
+    RunsBy P (v.clock old) (v.moments old) (v.clock new) (v.moments new) (v.told new) (v.leaves new)
+
+abbrev pub SafeOver : {K : Type 0} → station.Ghosts K → Recorded → List ℕ → K → K → Type 0
+SafeOver v r a old new = RunsByOver v (KeepsTold r a (v.told old)) old new
 
 -- names by which a line that acknowledges tells its gauge and number
 pub record AreNames (names : ℕ → List ℕ) (gauges : ℕ) : Type 0 where

@@ -5,7 +5,9 @@
 --   InPace        either
 --   IsLevel       the store is on its station, and each body that it has more was told
 --   Paced         the moments of a run are in pace, and where it has done what it does, no body is ahead at its end
+--   PacedOver     the same over a station at entry and at the end
 use Rattle.std.specs.Prelude.{◌≡◌, ◌≤◌, ◌+◌, ◌*◌, ◌⊎◌, ℕ, List, [], ◌∷◌, ◌++◌, map}
+use Rattle.outside.specs.declared.station.station.Station as station
 use Rattle.outside.specs.station.Station.{Image, Lines, IsMoment, MomentsSince}
 use Rattle.board.specs.declared.flow.TheConstants.{BLOCKS_PER_WINDOW}
 use Rattle.segment.specs.segment_rules.Parts.{PartsValue}
@@ -63,3 +65,8 @@ pub record Paced (names : ℕ → List ℕ) (window : ℕ) (head : HeadValue) (f
     (leaves : Image → Type 0) (s : StoreValue) (done : Type 0) : Type 0 where
   pub run : RunsBy (InPace names window head front told) start past now since told2 leaves
   pub level : done → IsLevel names head front told told2 seen leaves s
+
+abbrev pub PacedOver : {K : Type 0} → station.Ghosts K → (ℕ → List ℕ) → ℕ → HeadValue → List PartsValue → K → K →
+    StoreValue → Type 0 → Type 0
+PacedOver v names window head front old new s done = Paced names window head front (v.clock old) (v.moments old)
+    (v.told old) (v.clock new) (v.moments new) (v.told new) (v.seen new) (v.leaves new) s done

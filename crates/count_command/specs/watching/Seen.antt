@@ -10,8 +10,9 @@
 use Rattle.std.specs.Prelude.{◌≡◌, ◌<◌, ◌≤◌, ◌⊎◌, ℕ, zero, suc, List, [], ◌∷◌, ◌++◌, length, map, slice_index}
 use Rattle.std.specs.List.{All, AllByRecursion}
 use Rattle.std.specs.List.Sorted.{IsStrictlyIncreasing}
-use Rattle.outside.specs.station.Station.{Image, Lines, Since, NoNew}
+use Rattle.outside.specs.station.Station.{Image, Lines, NoNew}
 use Rattle.outside.specs.declared.station.station.Station as station
+use Rattle.segment_store.specs.Moments.{EachMoment}
 use Rattle.site_config.specs.declared.config.Config.{Config}
 use Rattle.site_config.specs.Valid.{name_of}
 use Rattle.site_config.specs.recorded.Recorded.{Recorded}
@@ -47,10 +48,10 @@ pub record TellsSeen (block : ℕ) (r : Recorded) (n : List ℕ) (told told2 : L
 
 -- starts: how many were held of each gauge before the rounds; held: how many are. The number is that of what is held,
 -- or of so many whole rounds.
-pub record IsSeenLine (bridge : Config) (starts held : List ℕ) (line : List ℕ) : Type 0 where
+pub record IsSeenLine (config : Config) (starts held : List ℕ) (line : List ℕ) : Type 0 where
   pub gauge : ℕ
-  pub known : gauge < length bridge.gauges
-  pub of : IsSeenLineOf (name_of bridge gauge) (slice_index starts gauge) (window_of bridge) (slice_index held gauge)
+  pub known : gauge < length config.gauges
+  pub of : IsSeenLineOf (name_of config gauge) (slice_index starts gauge) (window_of config) (slice_index held gauge)
       line
 
 pub record BehindTold (P : List ℕ → Type 0) (told : Lines) (leaves : Image → Type 0) (lines : Lines)
@@ -63,7 +64,7 @@ pub record BehindTold (P : List ℕ → Type 0) (told : Lines) (leaves : Image �
 -- over the station at entry and at the end
 pub record TellsOnlySeen {K : Type 0} (v : station.Ghosts K) (P : List ℕ → Type 0) (station station2 : K)
     : Type 0 where
-  pub run : Since (v.clock station) (v.moments station) (v.clock station2) (v.moments station2)
+  pub run : EachMoment v station station2
       (BehindTold P (v.told station) (v.leaves station))
   pub new : Lines
   pub grew : v.told station2 ≡ v.told station ++ new

@@ -25,8 +25,9 @@ use site_lanes::have_ended;
 use std::sync::Wait;
 use std::thread::{Threads, join_mut};
 
-// A round in a new thread, or last where none can be made, and the puts of the round before in this
-// one.
+// A round, and the puts of the round before. One worker makes them one after the other, in this
+// thread, so what it counts stays near; of several the round has a new thread, or comes last where
+// none can be made.
 fn both<R: Threads + Wait + Sync, C: Source + Send, K: Station, G: Gate + Sync, H: PutHook>(
     run: &Run<'_, R, G>,
     board: &Board,
@@ -39,23 +40,28 @@ fn both<R: Threads + Wait + Sync, C: Source + Send, K: Station, G: Gate + Sync, 
     requires usable { store.old.shut ≡ false }
     requires follows { H.follows behind.old.hook store.old.head.setup.grid
         (ends_of store.old.held) }
-    requires bridge { IsConfig run.now.bridge.now }
-    requires gauges { (length store.old.held ≡ length run.now.bridge.now.gauges)
+    requires config { IsConfig run.now.config.now }
+    requires gauges { (length store.old.held ≡ length run.now.config.now.gauges)
         × (length lanes.old ≡ prepared.old.gauges)
-        × (length board.now.rows ≡ length run.now.bridge.now.gauges) }
-    requires setup { store.old.head.setup ≡ run.now.bridge.now.setup }
+        × (length board.now.rows ≡ length run.now.config.now.gauges) }
+    requires setup { store.old.head.setup ≡ run.now.config.now.setup }
     requires fronts { AreFronts store.old.head.setup (ends_of store.old.held) board.now
-        (length run.now.bridge.now.gauges) }
+        (length run.now.config.now.gauges) }
     requires lanes { AreReady lanes.old }
     requires on { K.tells → IsThere store.old (K.seen station.old) (K.leaves station.old) }
     ensures round { RoundDone C.tells C.left C.faults
         prepared.old prepared.new lanes.old lanes.new }
-    ensures stores { Stores ⟦<K as Station>⟧ run.now.bridge.now board.now store.old store.new
+    ensures stores { Stores ⟦<K as Station>⟧ run.now.config.now board.now store.old store.new
         station.old station.new result }
     ensures follows { H.follows behind.new.hook store.new.head.setup.grid
         (ends_of store.new.held) }
 {
-    let (rt, gate, bridge) = (run.rt, run.gate, run.bridge);
+    let (rt, gate, config) = (run.rt, run.gate, run.config);
+    if run.workers == 1 {
+        let stored = store_fronts(board, config, store, station, behind);
+        prepared.round(rt, lanes, gate);
+        return stored;
+    }
     let (_, stored) = join_mut(
         rt,
         &mut ||
@@ -64,12 +70,12 @@ fn both<R: Threads + Wait + Sync, C: Source + Send, K: Station, G: Gate + Sync, 
             ensures { RoundDone C.tells C.left C.faults
                 prepared.entry.now prepared.exit.now lanes.entry.now lanes.exit.now }
         { prepared.round(rt, lanes, gate) },
-        &mut || store_fronts(board, bridge, store, station, behind),
+        &mut || store_fronts(board, config, store, station, behind),
     );
     stored
 }
 
-// The puts and lines of the last round, of which this is the board, and beside them the next round.
+// The puts and lines of the last round, of which this is the board, and the next round.
 fn round_beside<R: Threads + Wait + Sync, C: Source + Send, K: Station, G: Gate + Sync, H: PutHook>(
     run: &Run<'_, R, G>,
     board: &Board,
@@ -82,27 +88,27 @@ fn round_beside<R: Threads + Wait + Sync, C: Source + Send, K: Station, G: Gate 
     requires usable { store.old.shut ≡ false }
     requires follows { H.follows behind.old.hook store.old.head.setup.grid
         (ends_of store.old.held) }
-    requires bridge { IsConfig run.now.bridge.now }
-    requires gauges { (length store.old.held ≡ length run.now.bridge.now.gauges)
-        × (prepared.old.gauges ≡ length run.now.bridge.now.gauges)
-        × (length lanes.old ≡ length run.now.bridge.now.gauges)
-        × (length board.now.rows ≡ length run.now.bridge.now.gauges) }
-    requires setup { store.old.head.setup ≡ run.now.bridge.now.setup }
-    requires grid { prepared.old.grid ≡ run.now.bridge.now.setup.grid }
+    requires config { IsConfig run.now.config.now }
+    requires gauges { (length store.old.held ≡ length run.now.config.now.gauges)
+        × (prepared.old.gauges ≡ length run.now.config.now.gauges)
+        × (length lanes.old ≡ length run.now.config.now.gauges)
+        × (length board.now.rows ≡ length run.now.config.now.gauges) }
+    requires setup { store.old.head.setup ≡ run.now.config.now.setup }
+    requires grid { prepared.old.grid ≡ run.now.config.now.setup.grid }
     requires leads { Leads store.old.head.setup (ends_of store.old.held) board.now lanes.old }
     requires lanes { AreReady lanes.old }
     requires on { K.tells → IsThere store.old (K.seen station.old) (K.leaves station.old) }
     // Of the running round nothing is said here.
-    ensures stores { Stores ⟦<K as Station>⟧ run.now.bridge.now board.now store.old store.new
+    ensures stores { Stores ⟦<K as Station>⟧ run.now.config.now board.now store.old store.new
         station.old station.new result }
     // The gauges are held up to where the lanes were, and the next board leads on from there.
     ensures held { OnOk result (AreHeldTo (ends_of store.new.held) lanes.old) }
     ensures leads { OnOk result (Leads store.new.head.setup (ends_of store.new.held)
         prepared.new.board lanes.new) }
     ensures stand { C.tells → (files : Files) →
-        AreLanes C.tells C.left (recordings run.now.bridge.now files) lanes.old → OnOk result
-        (AreLanes C.tells C.left (recordings run.now.bridge.now files) lanes.new
-        × FrontsStand (recordings run.now.bridge.now files) prepared.new.board) }
+        AreLanes C.tells C.left (recordings run.now.config.now files) lanes.old → OnOk result
+        (AreLanes C.tells C.left (recordings run.now.config.now files) lanes.new
+        × FrontsStand (recordings run.now.config.now files) prepared.new.board) }
     ensures round { RoundDone C.tells C.left C.faults
         prepared.old prepared.new lanes.old lanes.new }
     ensures follows { H.follows behind.new.hook store.new.head.setup.grid
@@ -111,7 +117,7 @@ fn round_beside<R: Threads + Wait + Sync, C: Source + Send, K: Station, G: Gate 
     both(run, board, prepared, lanes, store, station, behind)
 }
 
-/// Rounds until each lane has ended, each beside the puts and lines of the round before. `board` is
+/// Rounds until each lane has ended, each with the puts and lines of the round before. `board` is
 /// the one of the two boards that `prepared` does not have. A failure is one of the station; the
 /// round beside it has run to its end.
 pub fn count_rounds<
@@ -129,13 +135,13 @@ pub fn count_rounds<
     station: &mut K,
     behind: &mut Behind<H>,
 ) -> Result<(), Failed>
-    requires opened { AreOpenedLanes ⟦<C as Source>⟧ ⟦<K as Station>⟧ run.now.bridge.now store.old
+    requires opened { AreOpenedLanes ⟦<C as Source>⟧ ⟦<K as Station>⟧ run.now.config.now store.old
         lanes.old station.old }
-    requires rounds { AreRoundsFor run.now.bridge.now prepared.old board }
+    requires rounds { AreRoundsFor run.now.config.now prepared.old board }
     requires follows { H.follows behind.old.hook store.old.head.setup.grid
         (ends_of store.old.held) }
-    ensures made { RoundsMade ⟦<C as Source>⟧ ⟦<K as Station>⟧ run.now.bridge.now store.old store.new
-        lanes.old lanes.new station.old station.new result }
+    ensures made { RoundsMade ⟦<C as Source>⟧ ⟦<K as Station>⟧ run.now.config.now
+        store.old store.new lanes.old lanes.new station.old station.new result }
     ensures follows { H.follows behind.new.hook store.new.head.setup.grid
         (ends_of store.new.held) }
 {
@@ -143,7 +149,7 @@ pub fn count_rounds<
     let mut board = prepared.exchange(board);
     for _ in run.rt.forever() {
         if have_ended(lanes) {
-            return store_fronts(&board, run.bridge, store, station, behind);
+            return store_fronts(&board, run.config, store, station, behind);
         }
         round_beside(run, &board, prepared, lanes, store, station, behind)?;
         board = prepared.exchange(board);

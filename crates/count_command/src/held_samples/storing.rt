@@ -1,19 +1,4 @@
-ghost use Rattle.std.specs.Prelude.{
-  ◌≡◌,
-  ◌≤◌,
-  ◌<◌,
-  ◌+◌,
-  ◌++◌,
-  [],
-  ◌∷◌,
-  ℕ,
-  List,
-  false,
-  length,
-  slice_index,
-  IsOk,
-  OnOk,
-};
+ghost use Rattle.std.specs.Prelude.{◌≡◌, ◌≤◌, ◌<◌, ◌+◌, ◌++◌, [], ◌∷◌, ℕ, List, false, length, slice_index, IsOk, OnOk};
 ghost use Rattle.outside.specs.Fault.{HasCause};
 ghost use Rattle.segment.specs.Parts.{parts_of};
 ghost use Rattle.segment_store.specs.Held.{ends_of};
@@ -25,9 +10,9 @@ ghost use Rattle.site_config.specs.Valid.{IsConfig};
 ghost use Rattle.site_config.specs.recorded.Recorded.{Recorded};
 ghost use Rattle.count_command.specs.held_samples.Told.{held_line, gauge_lines};
 ghost use Rattle.count_command.specs.held_samples.Kept.{Kept, MayFollow};
-ghost use Rattle.count_command.specs.held_samples.Going.{HoldsSince, IsStoredAs, AreNames};
+ghost use Rattle.count_command.specs.held_samples.Going.{IsStoredAs, AreNames, HoldsSinceOver};
 ghost use Rattle.count_command.specs.held_samples.Fronts.{IsHeldTo, AreFronts};
-ghost use Rattle.count_command.specs.held_samples.Pace.{Paced};
+ghost use Rattle.count_command.specs.held_samples.Pace.{PacedOver};
 ghost use Rattle.count_command.specs.held_samples.Stored.{Stores};
 
 use crate::held_samples::hook::{Behind, PutHook};
@@ -62,10 +47,8 @@ fn store_front<K: Station, H: PutHook>(
         r.names front.now.gauge ≡ name.now → (kept : Kept) →
         IsStoredAs kept store.old (K.seen station.old) (K.leaves station.old) →
         MayFollow kept front.now →
-        HoldsSince kept r (ends_of store.old.held)
-        (K.clock station.old) (K.moments station.old) (K.told station.old)
-        (K.clock station.new) (K.moments station.new) (K.told station.new)
-        (K.leaves station.new) (ends_of store.new.held) }
+        HoldsSinceOver ⟦<K as Station>⟧ kept r (ends_of store.old.held)
+        station.old station.new (ends_of store.new.held) }
     ensures stored { K.tells → (kept : Kept) →
         IsStoredAs kept store.old (K.seen station.old) (K.leaves station.old) →
         MayFollow kept front.now →
@@ -74,10 +57,8 @@ fn store_front<K: Station, H: PutHook>(
     ensures paced { K.tells → (names : ℕ → List ℕ) → names front.now.gauge ≡ name.now →
         (window : ℕ) → front.now.to ≤ front.now.from + window → (bodies : List PartsValue) →
         IsOn store.old bodies (K.seen station.old) (K.leaves station.old) →
-        Paced names window store.old.head bodies
-        (K.clock station.old) (K.moments station.old) (K.told station.old)
-        (K.clock station.new) (K.moments station.new) (K.told station.new)
-        (K.seen station.new) (K.leaves station.new) store.new (IsOk result) }
+        PacedOver ⟦<K as Station>⟧ names window store.old.head bodies
+        station.old station.new store.new (IsOk result) }
     ensures told { K.tells → OnOk result (K.told station.new ≡
         K.told station.old ++ held_line name.now front.now.to ∷ []) }
     ensures held { OnOk result (ends_of store.new.held ≡
@@ -126,10 +107,8 @@ fn store_gauge<K: Station, H: PutHook>(
         r.names front.now.gauge ≡ name.now → (kept : Kept) →
         IsStoredAs kept store.old (K.seen station.old) (K.leaves station.old) →
         (front.now.from < front.now.to → MayFollow kept front.now) →
-        HoldsSince kept r (ends_of store.old.held)
-        (K.clock station.old) (K.moments station.old) (K.told station.old)
-        (K.clock station.new) (K.moments station.new) (K.told station.new)
-        (K.leaves station.new) (ends_of store.new.held) }
+        HoldsSinceOver ⟦<K as Station>⟧ kept r (ends_of store.old.held)
+        station.old station.new (ends_of store.new.held) }
     ensures stored { K.tells → (kept : Kept) →
         IsStoredAs kept store.old (K.seen station.old) (K.leaves station.old) →
         (front.now.from < front.now.to → MayFollow kept front.now) →
@@ -137,10 +116,8 @@ fn store_gauge<K: Station, H: PutHook>(
     ensures paced { K.tells → (names : ℕ → List ℕ) → names front.now.gauge ≡ name.now →
         (window : ℕ) → front.now.to ≤ front.now.from + window → (bodies : List PartsValue) →
         IsOn store.old bodies (K.seen station.old) (K.leaves station.old) →
-        Paced names window store.old.head bodies
-        (K.clock station.old) (K.moments station.old) (K.told station.old)
-        (K.clock station.new) (K.moments station.new) (K.told station.new)
-        (K.seen station.new) (K.leaves station.new) store.new (IsOk result) }
+        PacedOver ⟦<K as Station>⟧ names window store.old.head bodies
+        station.old station.new store.new (IsOk result) }
     ensures told { K.tells → OnOk result (K.told station.new ≡
         K.told station.old ++ gauge_lines name.now front.now.from front.now.to) }
     ensures held { OnOk result (IsHeldTo (ends_of store.old.held)
@@ -165,7 +142,7 @@ fn store_gauge<K: Station, H: PutHook>(
 /// or a line was not told; the gauges below keep what was stored of them.
 pub fn store_fronts<K: Station, H: PutHook>(
     board: &Board,
-    bridge: &Config,
+    config: &Config,
     store: &mut Store,
     station: &mut K,
     behind: &mut Behind<H>,
@@ -173,20 +150,20 @@ pub fn store_fronts<K: Station, H: PutHook>(
     requires usable { store.old.shut ≡ false }
     requires follows { H.follows behind.old.hook store.old.head.setup.grid
         (ends_of store.old.held) }
-    requires bridge { IsConfig bridge.now }
-    requires gauges { (length store.old.held ≡ length bridge.now.gauges)
-        × (length board.now.rows ≡ length bridge.now.gauges) }
-    requires setup { store.old.head.setup ≡ bridge.now.setup }
+    requires config { IsConfig config.now }
+    requires gauges { (length store.old.held ≡ length config.now.gauges)
+        × (length board.now.rows ≡ length config.now.gauges) }
+    requires setup { store.old.head.setup ≡ config.now.setup }
     requires fronts { AreFronts store.old.head.setup (ends_of store.old.held) board.now
-        (length bridge.now.gauges) }
+        (length config.now.gauges) }
     requires on { K.tells → IsThere store.old (K.seen station.old) (K.leaves station.old) }
-    ensures stores { Stores ⟦<K as Station>⟧ bridge.now board.now store.old store.new
+    ensures stores { Stores ⟦<K as Station>⟧ config.now board.now store.old store.new
         station.old station.new result }
     ensures follows { H.follows behind.new.hook store.new.head.setup.grid
         (ends_of store.new.held) }
 {
-    for gauge in 0..bridge.gauges.as_slice().len() {
-        let name = bridge.gauges.as_slice()[gauge].name.as_str();
+    for gauge in 0..config.gauges.as_slice().len() {
+        let name = config.gauges.as_slice()[gauge].name.as_str();
         store_gauge(store, station, board.front(gauge as u16), name, behind)?;
     }
     Ok(())

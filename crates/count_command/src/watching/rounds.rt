@@ -60,14 +60,14 @@ fn rounds_and_end<
     station: &mut K,
     behind: &mut Behind<H>,
 ) -> Result<(), Failed>
-    requires opened { AreOpenedLanes ⟦<C as Source>⟧ ⟦<K as Station>⟧ run.now.bridge.now store.old
+    requires opened { AreOpenedLanes ⟦<C as Source>⟧ ⟦<K as Station>⟧ run.now.config.now store.old
         lanes.old station.old }
     requires rounds { MatchOption rounds.old.board ⊥
-        (λ b. AreRoundsFor run.now.bridge.now rounds.old.prepared b) }
+        (λ b. AreRoundsFor run.now.config.now rounds.old.prepared b) }
     requires follows { H.follows behind.old.hook store.old.head.setup.grid
         (ends_of store.old.held) }
-    ensures made { RoundsMade ⟦<C as Source>⟧ ⟦<K as Station>⟧ run.now.bridge.now store.old store.new
-        lanes.old lanes.new station.old station.new result }
+    ensures made { RoundsMade ⟦<C as Source>⟧ ⟦<K as Station>⟧ run.now.config.now
+        store.old store.new lanes.old lanes.new station.old station.new result }
     ensures follows { H.follows behind.new.hook store.new.head.setup.grid
         (ends_of store.new.held) }
 {
@@ -103,14 +103,14 @@ fn rounds_beside<
     behind: &mut Behind<H>,
     looking: &mut Looking<'_>,
 ) -> Result<(), Failed>
-    requires opened { AreOpenedLanes ⟦<C as Source>⟧ ⟦<K as Station>⟧ run.now.bridge.now store.old
+    requires opened { AreOpenedLanes ⟦<C as Source>⟧ ⟦<K as Station>⟧ run.now.config.now store.old
         lanes.old station.old }
     requires rounds { MatchOption rounds.old.board ⊥
-        (λ b. AreRoundsFor run.now.bridge.now rounds.old.prepared b) }
+        (λ b. AreRoundsFor run.now.config.now rounds.old.prepared b) }
     requires follows { H.follows behind.old.hook store.old.head.setup.grid
         (ends_of store.old.held) }
-    ensures made { RoundsMade ⟦<C as Source>⟧ ⟦<K as Station>⟧ run.now.bridge.now store.old store.new
-        lanes.old lanes.new station.old station.new result }
+    ensures made { RoundsMade ⟦<C as Source>⟧ ⟦<K as Station>⟧ run.now.config.now
+        store.old store.new lanes.old lanes.new station.old station.new result }
     ensures follows { H.follows behind.new.hook store.new.head.setup.grid
         (ends_of store.new.held) }
     ensures lookout { looking.new.lookout ≡ looking.old.lookout }
@@ -124,10 +124,10 @@ fn rounds_beside<
         { look_beside(rt, looking) },
         &mut ||
             requires { IsSync R.row × IsSync G.row × IsSend C.row
-                × AreOpened K.tells C.faults run.now.bridge.now store.now lanes.now
+                × AreOpened K.tells C.faults run.now.config.now store.now lanes.now
                 (K.seen station.now) (K.leaves station.now)
                 × MatchOption rounds.now.board ⊥
-                (λ b. AreRoundsFor run.now.bridge.now rounds.now.prepared b)
+                (λ b. AreRoundsFor run.now.config.now rounds.now.prepared b)
                 × H.follows behind.now.hook store.now.head.setup.grid (ends_of store.now.held) }
         { rounds_and_end(run, rounds, lanes, store, station, behind) },
     );
@@ -150,13 +150,13 @@ fn rounds_watched<
     station: &mut K,
     watch: Watch,
 ) -> (Result<(), Failed>, Watched)
-    requires opened { AreOpenedLanes ⟦<C as Source>⟧ ⟦<K as Station>⟧ run.now.bridge.now store.old
+    requires opened { AreOpenedLanes ⟦<C as Source>⟧ ⟦<K as Station>⟧ run.now.config.now store.old
         lanes.old station.old }
-    requires rounds { AreRoundsFor run.now.bridge.now prepared board }
+    requires rounds { AreRoundsFor run.now.config.now prepared board }
     requires shows { ShowsAtMost watch.shown store.old.head.setup.grid (ends_of store.old.held) }
     requires one { watch.of ≡ V.book }
-    ensures made { RoundsMade ⟦<C as Source>⟧ ⟦<K as Station>⟧ run.now.bridge.now store.old store.new
-        lanes.old lanes.new station.old station.new result.0 }
+    ensures made { RoundsMade ⟦<C as Source>⟧ ⟦<K as Station>⟧ run.now.config.now
+        store.old store.new lanes.old lanes.new station.old station.new result.0 }
     ensures starts { result.1.ends ≡ watch.starts }
 {
     let Watch {
@@ -234,12 +234,12 @@ pub fn watch_rounds<
     station: &mut K,
     watch: Watch,
 ) -> (Result<(), Failed>, Watched)
-    requires opened { AreOpenedLanes ⟦<C as Source>⟧ ⟦<K as Station>⟧ run.now.bridge.now store.old
+    requires opened { AreOpenedLanes ⟦<C as Source>⟧ ⟦<K as Station>⟧ run.now.config.now store.old
         lanes.old station.old }
-    requires rounds { AreRoundsFor run.now.bridge.now prepared board }
+    requires rounds { AreRoundsFor run.now.config.now prepared board }
     requires shows { ShowsAtMost watch.shown store.old.head.setup.grid (ends_of store.old.held) }
-    ensures made { RoundsMade ⟦<C as Source>⟧ ⟦<K as Station>⟧ run.now.bridge.now store.old store.new
-        lanes.old lanes.new station.old station.new result.0 }
+    ensures made { RoundsMade ⟦<C as Source>⟧ ⟦<K as Station>⟧ run.now.config.now
+        store.old store.new lanes.old lanes.new station.old station.new result.0 }
     ensures starts { result.1.ends ≡ watch.starts }
 {
     rounds_watched::<R, C, K, G, Brand>(run, prepared, board, lanes, store, station, watch)

@@ -62,26 +62,26 @@ fn tell_gauge<K: Station>(
 /// lines, or where the gauge ended before, ascending, and then what is held. A failure is one of
 /// the station; nothing else is done.
 pub fn tell_seen<K: Station>(
-    bridge: &Config,
+    config: &Config,
     store: &Store,
     station: &mut K,
     line: &mut HeldLine,
     ends: &SeenEnds,
 ) -> Result<(), Failed>
-    requires bridge { IsConfig bridge.now }
-    requires gauges { length store.now.held ≡ length bridge.now.gauges }
+    requires config { IsConfig config.now }
+    requires gauges { length store.now.held ≡ length config.now.gauges }
     ensures only { K.tells → TellsOnlySeen ⟦<K as Station>⟧
-        (IsSeenLine bridge.now ends.now (ends_of store.now.held)) station.old station.new }
+        (IsSeenLine config.now ends.now (ends_of store.now.held)) station.old station.new }
     // Where all samples are held.
-    ensures told { K.tells → (files : Files) → ((g : ℕ) → g < length bridge.now.gauges →
-        slice_index (ends_of store.now.held) g ≡ length ((recordings bridge.now files).samples g)) →
-        OnOk result (TellsSeen bridge.now.block (recordings bridge.now files) ends.now
+    ensures told { K.tells → (files : Files) → ((g : ℕ) → g < length config.now.gauges →
+        slice_index (ends_of store.now.held) g ≡ length ((recordings config.now files).samples g)) →
+        OnOk result (TellsSeen config.now.block (recordings config.now files) ends.now
         (K.told station.old) (K.told station.new)) }
     ensures cause { HasCause (K.faults station.old) (K.faults station.new) result }
 {
-    let step = BLOCKS_PER_WINDOW as u64 * u64::from(bridge.block);
-    for gauge in 0..bridge.gauges.as_slice().len() {
-        let name = bridge.gauges.as_slice()[gauge].name.as_str();
+    let step = BLOCKS_PER_WINDOW as u64 * u64::from(config.block);
+    for gauge in 0..config.gauges.as_slice().len() {
+        let name = config.gauges.as_slice()[gauge].name.as_str();
         let held = store.held(gauge as u16).name().to;
         tell_gauge(
             station,

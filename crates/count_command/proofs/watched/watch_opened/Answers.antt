@@ -8,26 +8,26 @@ use Rattle.count_command.proofs.watched.watch_opened.Goals as goal
 
 pub returns-in_default : goal.returns-in_default
 returns-in_default g c = record {
-  run = opened_nothing g.C.Source g.K.Station g.O.Sink c.args.run.now.bridge.now c.args.store.now c.args.lanes.now c.args.station.now c.args.out.now
+  run = opened_nothing g.C.Source g.K.Station g.O.Sink c.args.run.now.config.now c.args.store.now c.args.lanes.now c.args.station.now c.args.out.now
       Watch (λ tells. g.met.K.Station.only_now tells c.args.station.now) c.requires.opened.sources c.requires.opened.faulty;
 }
 
 pub returns-in_default-new : goal.returns-in_default-new
 returns-in_default-new g c = record {
-  run = opened_nothing g.C.Source g.K.Station g.O.Sink c.args.run.now.bridge.now c.args.store.now c.args.lanes.now c.args.station.now c.args.out.now
+  run = opened_nothing g.C.Source g.K.Station g.O.Sink c.args.run.now.config.now c.args.store.now c.args.lanes.now c.args.station.now c.args.out.now
       Watch (λ tells. g.met.K.Station.only_now tells c.args.station.now) c.requires.opened.sources c.requires.opened.faulty;
 }
 
 pub returns-in-Err : goal.returns-in-Err
 returns-in-Err g c = record {
-  run = opened_failed g.C.Source g.K.Station g.O.Sink c.args.run.now.bridge.now c.args.store.now c.args.lanes.now c.args.station.now c.args.out.now
+  run = opened_failed g.C.Source g.K.Station g.O.Sink c.args.run.now.config.now c.args.store.now c.args.lanes.now c.args.station.now c.args.out.now
       c.watch_rounds-done.new.store c.watch_rounds-done.new.lanes c.watch_rounds-done.new.station Watch _
       (made_as c.in-Err.is c.watch_rounds-done.ensures.made);
 }
 
 pub returns-then-refused : goal.returns-then-refused
 returns-then-refused g c = record {
-  run = opened_unshown g.C.Source g.K.Station g.O.Sink c.args.run.now.bridge.now c.args.store.now c.args.lanes.now c.args.station.now c.args.out.now
+  run = opened_unshown g.C.Source g.K.Station g.O.Sink c.args.run.now.config.now c.args.store.now c.args.lanes.now c.args.station.now c.args.out.now
       c.watch_rounds-done.new.store c.watch_rounds-done.new.lanes c.watch_rounds-done.new.station _
       (made_as c.in-Ok-done.is c.watch_rounds-done.ensures.made) c.requires.opened.held c.requires.opened.count;
 }
@@ -38,7 +38,7 @@ first_fault-requires-clause-gauges g c κs within = λ h d lt.
 
 pub returns-in-Some : goal.returns-in-Some
 returns-in-Some g c = record {
-  run = opened_fault g.C.Source g.K.Station g.O.Sink c.args.run.now.bridge.now c.args.store.now c.args.lanes.now c.args.station.now c.args.out.now
+  run = opened_fault g.C.Source g.K.Station g.O.Sink c.args.run.now.config.now c.args.store.now c.args.lanes.now c.args.station.now c.args.out.now
       c.watch_rounds-done.new.store c.watch_rounds-done.new.lanes c.watch_rounds-done.new.station _
       (made_as c.in-Ok-done.is c.watch_rounds-done.ensures.made) c.requires.opened.held c.requires.opened.count Watch c.in-Some.status
       c.in-Some.ensures;
@@ -51,16 +51,16 @@ returns-in-Ok-tell_seen g c =
     let made = made_as c.in-Ok-done.is c.watch_rounds-done.ensures.made in
     let starts = c.watch_rounds-done.ensures.starts ∙ c.in-Ok-new.ensures.starts in
     record {
-      run = opened_printed g.C.Source g.K.Station g.O.Sink c.args.run.now.bridge.now c.args.store.now c.args.lanes.now
+      run = opened_printed g.C.Source g.K.Station g.O.Sink c.args.run.now.config.now c.args.store.now c.args.lanes.now
           c.args.station.now c.args.out.now c.watch_rounds-done.new.store c.watch_rounds-done.new.lanes c.watch_rounds-done.new.station _
           made opened.held opened.count Watch
-          c.tell_seen.new.station (λ tells. subst (λ (n : List ℕ). TellsOnlySeen g.K.Station (IsSeenLine c.args.run.now.bridge.now n
+          c.tell_seen.new.station (λ tells. subst (λ (n : List ℕ). TellsOnlySeen g.K.Station (IsSeenLine c.args.run.now.config.now n
           (ends_of c.watch_rounds-done.new.store.held)) c.watch_rounds-done.new.station c.tell_seen.new.station) starts
           (c.tell_seen.ensures.only tells)) c.tell_seen.ensures.cause.later c.in_default-first_fault.ensures
           (made.gauges.0 ∙ opened.gauges)
-          (λ tells reads files are. subst (λ (n : List ℕ). TellsSeen c.args.run.now.bridge.now.block (recordings c.args.run.now.bridge.now files) n
+          (λ tells reads files are. subst (λ (n : List ℕ). TellsSeen c.args.run.now.config.now.block (recordings c.args.run.now.config.now files) n
           (told c.watch_rounds-done.new.station) (told c.tell_seen.new.station)) starts
-          (c.in-Ok-tell_seen.ensures.told tells files (held_all g.C.Source g.K.Station g.O.Sink c.args.run.now.bridge.now
+          (c.in-Ok-tell_seen.ensures.told tells files (held_all g.C.Source g.K.Station g.O.Sink c.args.run.now.config.now
           c.args.store.now c.args.lanes.now c.args.station.now c.args.out.now c.watch_rounds-done.new.store
           c.watch_rounds-done.new.lanes c.watch_rounds-done.new.station _ made opened.held opened.count reads files are
           c.in_default-first_fault.ensures)))
@@ -71,10 +71,10 @@ pub returns : goal.returns
 returns g c =
     let starts = c.watch_rounds-done.ensures.starts ∙ c.in-Ok-new.ensures.starts in
     record {
-      run = opened_untold g.C.Source g.K.Station g.O.Sink c.args.run.now.bridge.now c.args.store.now c.args.lanes.now c.args.station.now
+      run = opened_untold g.C.Source g.K.Station g.O.Sink c.args.run.now.config.now c.args.store.now c.args.lanes.now c.args.station.now
           c.args.out.now c.watch_rounds-done.new.store c.watch_rounds-done.new.lanes c.watch_rounds-done.new.station _
           (made_as c.in-Ok-done.is c.watch_rounds-done.ensures.made) c.requires.opened.held c.requires.opened.count Watch
-          c.tell_seen.new.station (λ tells. subst (λ (n : List ℕ). TellsOnlySeen g.K.Station (IsSeenLine c.args.run.now.bridge.now n
+          c.tell_seen.new.station (λ tells. subst (λ (n : List ℕ). TellsOnlySeen g.K.Station (IsSeenLine c.args.run.now.config.now n
           (ends_of c.watch_rounds-done.new.store.held)) c.watch_rounds-done.new.station c.tell_seen.new.station) starts
           (c.tell_seen.ensures.only tells)) c.tell_seen.ensures.cause.later c.in-Err-tell_seen.ensures.cause.failed;
     }

@@ -41,25 +41,25 @@ loop-init g c =
       faulty = all_faulty_after done count can c.requires.opened.faulty;
       there = c.requires.opened.there;
       read = λ reads files lanes.
-          let both = stands_first done count ends c.requires.opened.held (recordings c.args.run.now.bridge.now files)
+          let both = stands_first done count ends c.requires.opened.held (recordings c.args.run.now.config.now files)
           (sym c.requires.opened.count) reads
           lanes in
-          (both.0, subst (λ (b : BoardValue). FrontsStand (recordings c.args.run.now.bridge.now files) b) (sym out) both.1);
+          (both.0, subst (λ (b : BoardValue). FrontsStand (recordings c.args.run.now.config.now files) b) (sym out) both.1);
       going = λ tells reads files lanes stored. (
-        going_starts (recordings c.args.run.now.bridge.now files) _ _ _ _ _ _ stored
+        going_starts (recordings c.args.run.now.config.now files) _ _ _ _ _ _ stored
             (g.met.K.Station.only_now tells c.args.station.now),
         stored,
       );
       appends = λ tells files front on.
           let stored = stored_beginning c.args.store.now front _ _ on in (
-            going_starts (recordings c.args.run.now.bridge.now files) _ _ _ _ _ _ stored
+            going_starts (recordings c.args.run.now.config.now files) _ _ _ _ _ _ stored
                 (g.met.K.Station.only_now tells c.args.station.now),
             stored,
           );
-      paced = λ tells bodies on. paced_starts (name_of c.args.run.now.bridge.now) (window_of c.args.run.now.bridge.now) _ bodies _ _ _ _ _ _ on
+      paced = λ tells bodies on. paced_starts (name_of c.args.run.now.config.now) (window_of c.args.run.now.config.now) _ bodies _ _ _ _ _ _ on
           (g.met.K.Station.only_now tells c.args.station.now);
       told = λ tells reads files lanes n told was whole.
-          let r = recordings c.args.run.now.bridge.now files in
+          let r = recordings c.args.run.now.config.now files in
           let first = g.K.Station.told c.args.station.now in
           subst (λ (b : ℕ). IsAhead b r n told first ends c.round.new.lanes) c.requires.rounds.block
           (ahead_first done count r (sym c.requires.opened.count) reads lanes n told first ends c.requires.opened.held whole
@@ -79,13 +79,13 @@ returns-then-have_ended-clause-made g c =
     let was = c.loop.invariant in
     let stores = c.store_fronts.ensures.stores in
     let result = c.store_fronts.result in
-    let held = held_last (length c.args.run.now.bridge.now.gauges) c.loop.lanes (was.gauges.2 ∙ c.requires.opened.count) was.can
+    let held = held_last (length c.args.run.now.config.now.gauges) c.loop.lanes (was.gauges.2 ∙ c.requires.opened.count) was.can
     c.loop.store.head.setup
     (ends_of c.loop.store.held) c.loop.board was.leads result _ stores.ends in
     record {
       going = λ tells reads files lanes stored.
           let so_far = was.going tells reads files lanes stored in
-          going_then so_far.0 (stores.going tells files (recorded (recordings c.args.run.now.bridge.now files)) so_far.1
+          going_then so_far.0 (stores.going tells files (recorded (recordings c.args.run.now.config.now files)) so_far.1
           (was.read reads files lanes).1);
       appends = λ tells files front on.
           let so_far = was.appends tells files front on in
@@ -96,11 +96,11 @@ returns-then-have_ended-clause-made g c =
           (stores.paced tells (was.board.1 ∙ was.block) (bodies ++ (so_far.level tt).more) (so_far.level tt).on);
       stored = λ tells reads files lanes stored.
           let so_far = was.going tells reads files lanes stored in
-          stores.stored tells (recorded (recordings c.args.run.now.bridge.now files)) so_far.1 (was.read reads files lanes).1;
+          stores.stored tells (recorded (recordings c.args.run.now.config.now files)) so_far.1 (was.read reads files lanes).1;
       read = λ reads files lanes. on_any result (was.read reads files lanes).0;
       lines = λ tells reads files lanes n told had.
-          let r = recordings c.args.run.now.bridge.now files in
-          on_both result (λ to lines whole. ahead_last c.args.run.now.bridge.now.block r n told (g.K.Station.told c.loop.station)
+          let r = recordings c.args.run.now.config.now files in
+          on_both result (λ to lines whole. ahead_last c.args.run.now.config.now.block r n told (g.K.Station.told c.loop.station)
           (g.K.Station.told c.store_fronts.new.station) (ends_of c.loop.store.held) (ends_of c.store_fronts.new.store.held) c.loop.lanes
           (sym (was.gauges.2 ∙ c.requires.opened.count)) to lines (was.told tells reads files lanes n told had whole)) held
           (stores.lines tells);
@@ -125,7 +125,7 @@ returns-in_err-round_beside-clause-made g c =
     record {
       going = λ tells reads files lanes stored.
           let so_far = was.going tells reads files lanes stored in
-          going_then so_far.0 (stores.going tells files (recorded (recordings c.args.run.now.bridge.now files)) so_far.1
+          going_then so_far.0 (stores.going tells files (recorded (recordings c.args.run.now.config.now files)) so_far.1
           (was.read reads files lanes).1);
       appends = λ tells files front on.
           let so_far = was.appends tells files front on in
@@ -171,11 +171,11 @@ loop-preserved g c =
       there = now.stores.there;
       read = λ reads files lanes.
           let both = now.stand reads files (was.read reads files lanes).0 in
-          (both.0, subst (λ (b : BoardValue). FrontsStand (recordings c.args.run.now.bridge.now files) b) (sym out) both.1);
+          (both.0, subst (λ (b : BoardValue). FrontsStand (recordings c.args.run.now.config.now files) b) (sym out) both.1);
       going = λ tells reads files lanes stored.
           let so_far = was.going tells reads files lanes stored in
           let stand = (was.read reads files lanes).1 in
-          let kept = recorded (recordings c.args.run.now.bridge.now files) in (
+          let kept = recorded (recordings c.args.run.now.config.now files) in (
             going_then so_far.0 (c.round_beside.ensures.stores.going tells files kept so_far.1 stand),
             now.stores.stored tells kept so_far.1 stand,
           );
@@ -190,7 +190,7 @@ loop-preserved g c =
           paced_where (λ done. refl) (paced_then so_far tt (now.stores.paced tells (was.board.1 ∙ was.block)
           (bodies ++ (so_far.level tt).more) (so_far.level tt).on));
       told = λ tells reads files lanes n told had whole.
-          let r = recordings c.args.run.now.bridge.now files in
+          let r = recordings c.args.run.now.config.now files in
           let before = g.K.Station.told c.loop.station in
           let after = g.K.Station.told c.round_beside.new.station in
           let many = sym (was.gauges.2 ∙ c.requires.opened.count) in

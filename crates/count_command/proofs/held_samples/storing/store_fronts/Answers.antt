@@ -21,10 +21,10 @@ loop-gauge-init g c = record {
   head = refl;
   gauges = refl;
   there = c.requires.on;
-  going = λ tells files kept stored stand. going_starts (recordings c.args.bridge.now files) _ _ _ _ _ _ stored
+  going = λ tells files kept stored stand. going_starts (recordings c.args.config.now files) _ _ _ _ _ _ stored
       (g.met.K.Station.only_now tells c.args.station.now);
   stored = λ tells kept stored stand. stored;
-  paced = λ tells same bodies on. paced_starts (name_of c.args.bridge.now) (window_of c.args.bridge.now) _ bodies _ _ _ _ _ _ on
+  paced = λ tells same bodies on. paced_starts (name_of c.args.config.now) (window_of c.args.config.now) _ bodies _ _ _ _ _ _ on
       (g.met.K.Station.only_now tells c.args.station.now);
   told = λ tells. same_lines _;
   before = λ to ends h lt. absurd (omega (arith, lt));
@@ -42,41 +42,41 @@ store_gauge-requires-clause-next g c =
 
 pub store_gauge-requires-clause-gauge : goal.store_gauge-requires-clause-gauge
 store_gauge-requires-clause-gauge g c =
-    let known : c.loop-gauge.gauge < length c.args.bridge.now.gauges = omega (arith, ap length c.as_slice-gauge-end.ensures) in
+    let known : c.loop-gauge.gauge < length c.args.config.now.gauges = omega (arith, ap length c.as_slice-gauge-end.ensures) in
     let front = c.requires.fronts c.loop-gauge.gauge c.front.result.now known c.front.ensures in
-    let many : length c.loop-gauge.store.held ≡ length c.args.bridge.now.gauges = c.loop-gauge.invariant.gauges ∙ c.requires.gauges.0 in (
+    let many : length c.loop-gauge.store.held ≡ length c.args.config.now.gauges = c.loop-gauge.invariant.gauges ∙ c.requires.gauges.0 in (
       omega (arith, known, many, front.gauge),
-      many ∙ sym c.requires.bridge.gains ∙ ap (λ (s : Setup). length s.gains) (sym c.requires.setup)
+      many ∙ sym c.requires.config.gains ∙ ap (λ (s : Setup). length s.gains) (sym c.requires.setup)
           ∙ ap (λ (h : HeadValue). length h.setup.gains) (sym c.loop-gauge.invariant.head),
     )
 
 pub store_gauge-requires-clause-short : goal.store_gauge-requires-clause-short
 store_gauge-requires-clause-short g c =
-    let known : c.loop-gauge.gauge < length c.args.bridge.now.gauges = omega (arith, ap length c.as_slice-gauge-end.ensures) in
-    let name = name_is c.args.bridge.now c.loop-gauge.gauge _ _ _ known c.as_slice.ensures c.as_str-name.ensures in
-    subst (λ (l : List ℕ). length l ≤ MAX_NAME_BYTES) name (short_name (name_of c.args.bridge.now c.loop-gauge.gauge)
-    (c.requires.bridge.names c.loop-gauge.gauge known))
+    let known : c.loop-gauge.gauge < length c.args.config.now.gauges = omega (arith, ap length c.as_slice-gauge-end.ensures) in
+    let name = name_is c.args.config.now c.loop-gauge.gauge _ _ _ known c.as_slice.ensures c.as_str-name.ensures in
+    subst (λ (l : List ℕ). length l ≤ MAX_NAME_BYTES) name (short_name (name_of c.args.config.now c.loop-gauge.gauge)
+    (c.requires.config.names c.loop-gauge.gauge known))
 
 pub returns-in_err-store_gauge-clause-stores : goal.returns-in_err-store_gauge-clause-stores
 returns-in_err-store_gauge-clause-stores g c =
     let was = c.loop-gauge.invariant in
-    let known : c.loop-gauge.gauge < length c.args.bridge.now.gauges = omega (arith, ap length c.as_slice-gauge-end.ensures) in
+    let known : c.loop-gauge.gauge < length c.args.config.now.gauges = omega (arith, ap length c.as_slice-gauge-end.ensures) in
     let front = c.requires.fronts c.loop-gauge.gauge c.front.result.now known c.front.ensures in
-    let name = ap (name_of c.args.bridge.now) front.gauge ∙ name_is c.args.bridge.now c.loop-gauge.gauge _ _ _ known c.as_slice.ensures
+    let name = ap (name_of c.args.config.now) front.gauge ∙ name_is c.args.config.now c.loop-gauge.gauge _ _ _ known c.as_slice.ensures
     c.as_str-name.ensures in
     let failed = c.from_residual.ensures.0 in
     record {
       going = λ tells files kept stored stand.
-          going_then (was.going tells files kept stored stand) (c.store_gauge.ensures.going tells (recordings c.args.bridge.now files)
-          (are_names c.args.bridge.now c.requires.bridge)
-          (subst (λ (n : ℕ). n < length c.args.bridge.now.gauges) (sym front.gauge) known) name kept
+          going_then (was.going tells files kept stored stand) (c.store_gauge.ensures.going tells (recordings c.args.config.now files)
+          (are_names c.args.config.now c.requires.config)
+          (subst (λ (n : ℕ). n < length c.args.config.now.gauges) (sym front.gauge) known) name kept
           (was.stored tells kept stored stand) (stand c.loop-gauge.gauge c.front.result.now known c.front.ensures));
       stored = λ tells kept stored stand. IfOk-from_err c.from_residual.result _ failed;
       paced = λ tells same bodies on.
           let so_far = was.paced tells same bodies on in
           let short = subst (λ (b : ℕ). c.front.result.now.to ≤ c.front.result.now.from + BLOCKS_PER_WINDOW * b) same front.short in
           paced_where (λ done. absurd (no_done c.from_residual.result failed done)) (paced_then so_far tt
-          (c.store_gauge.ensures.paced tells (name_of c.args.bridge.now) name (window_of c.args.bridge.now) short
+          (c.store_gauge.ensures.paced tells (name_of c.args.config.now) name (window_of c.args.config.now) short
           (bodies ++ (so_far.level tt).more) (so_far.level tt).on));
       lines = λ tells. IfOk-from_err c.from_residual.result _ failed;
       ends = λ to ends. IfOk-from_err c.from_residual.result _ failed;
@@ -89,9 +89,9 @@ returns-in_err-store_gauge-clause-stores g c =
 
 pub loop-gauge-preserved : goal.loop-gauge-preserved
 loop-gauge-preserved g c =
-    let known : c.loop-gauge.gauge < length c.args.bridge.now.gauges = omega (arith, ap length c.as_slice-gauge-end.ensures) in
+    let known : c.loop-gauge.gauge < length c.args.config.now.gauges = omega (arith, ap length c.as_slice-gauge-end.ensures) in
     let front = c.requires.fronts c.loop-gauge.gauge c.front.result.now known c.front.ensures in
-    let name = name_is c.args.bridge.now c.loop-gauge.gauge _ _ _ known c.as_slice.ensures c.as_str-name.ensures in
+    let name = name_is c.args.config.now c.loop-gauge.gauge _ _ _ known c.as_slice.ensures c.as_str-name.ensures in
     let held = c.in_ok-store_gauge.ensures.held in
     record {
       usable = c.in_ok-store_gauge.ensures.usable;
@@ -100,9 +100,9 @@ loop-gauge-preserved g c =
       there = c.in_ok-store_gauge.ensures.there;
       going = λ tells files kept stored stand.
           going_then (c.loop-gauge.invariant.going tells files kept stored stand)
-          (c.store_gauge.ensures.going tells (recordings c.args.bridge.now files) (are_names c.args.bridge.now c.requires.bridge)
-          (subst (λ (n : ℕ). n < length c.args.bridge.now.gauges) (sym front.gauge) known)
-          (ap (name_of c.args.bridge.now) front.gauge ∙ name) kept (c.loop-gauge.invariant.stored tells kept stored stand)
+          (c.store_gauge.ensures.going tells (recordings c.args.config.now files) (are_names c.args.config.now c.requires.config)
+          (subst (λ (n : ℕ). n < length c.args.config.now.gauges) (sym front.gauge) known)
+          (ap (name_of c.args.config.now) front.gauge ∙ name) kept (c.loop-gauge.invariant.stored tells kept stored stand)
           (stand c.loop-gauge.gauge c.front.result.now known c.front.ensures));
       stored = λ tells kept stored stand.
           c.in_ok-store_gauge.ensures.stored tells kept (c.loop-gauge.invariant.stored tells kept stored stand)
@@ -110,14 +110,14 @@ loop-gauge-preserved g c =
       paced = λ tells same bodies on.
           let was = c.loop-gauge.invariant.paced tells same bodies on in
           let short = subst (λ (b : ℕ). c.front.result.now.to ≤ c.front.result.now.from + BLOCKS_PER_WINDOW * b) same front.short in
-          paced_where (λ done. refl) (paced_then was tt (c.in_ok-store_gauge.ensures.paced tells (name_of c.args.bridge.now)
-          (ap (name_of c.args.bridge.now) front.gauge ∙ name) (window_of c.args.bridge.now) short (bodies ++ (was.level tt).more)
+          paced_where (λ done. refl) (paced_then was tt (c.in_ok-store_gauge.ensures.paced tells (name_of c.args.config.now)
+          (ap (name_of c.args.config.now) front.gauge ∙ name) (window_of c.args.config.now) short (bodies ++ (was.level tt).more)
           (was.level tt).on));
-      told = λ tells. round_more (name_of c.args.bridge.now) (slice_index (ends_of c.args.store.now.held))
+      told = λ tells. round_more (name_of c.args.config.now) (slice_index (ends_of c.args.store.now.held))
           (slice_index (ends_of c.loop-gauge.store.held)) (slice_index (ends_of c.store_gauge.new.store.held)) c.loop-gauge.gauge
           c.front.result.now.from c.front.result.now.to _ _ _ (c.loop-gauge.invariant.told tells)
           (told_named (g.K.Station.told c.loop-gauge.station) (g.K.Station.told c.store_gauge.new.station)
-          (name_of c.args.bridge.now c.loop-gauge.gauge) c.as_str-name.result.now c.front.result.now.from c.front.result.now.to
+          (name_of c.args.config.now c.loop-gauge.gauge) c.as_str-name.result.now c.front.result.now.from c.front.result.now.to
           (c.in_ok-store_gauge.ensures.told tells) name)
           (sym front.next) (ap (slice_index (ends_of c.store_gauge.new.store.held)) (sym front.gauge) ∙ held.here)
           (λ h lt. sym (held.others h (not_same h c.loop-gauge.gauge _ lt front.gauge)));
@@ -132,7 +132,7 @@ loop-gauge-preserved g c =
 pub returns-clause-stores : goal.returns-clause-stores
 returns-clause-stores g c =
     let was = c.loop-gauge.invariant in
-    let all : c.loop-gauge.gauge ≡ length c.args.bridge.now.gauges = omega
+    let all : c.loop-gauge.gauge ≡ length c.args.config.now.gauges = omega
     (arith, c.loop-gauge-test.false, ap length c.as_slice-gauge-end.ensures) in
     let told = g.K.Station.told in
     record {
@@ -141,7 +141,7 @@ returns-clause-stores g c =
       paced = λ tells same bodies on. paced_where (λ done. tt) (was.paced tells same bodies on);
       lines = λ tells.
           subst (λ (k : ℕ). told c.loop-gauge.station ≡ told c.args.station.now ++
-          round_lines (name_of c.args.bridge.now) (slice_index (ends_of c.args.store.now.held))
+          round_lines (name_of c.args.config.now) (slice_index (ends_of c.args.store.now.held))
           (slice_index (ends_of c.loop-gauge.store.held)) k) all (was.told tells);
       ends = λ to ends h lt. was.before to ends h (omega (arith, lt, all));
       there = was.there;

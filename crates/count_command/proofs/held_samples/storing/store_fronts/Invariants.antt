@@ -22,21 +22,21 @@ invariant-loop-gauge g l =
       gauges : length l.store.held ≡ length l.fn.store.held;
       there : k.tells → IsThere l.store (k.seen l.station) (k.leaves l.station);
       going : k.tells → (files : Files) (kept : Kept) → IsStoredAs kept l.fn.store (k.seen l.fn.station) (k.leaves l.fn.station) →
-          FrontsFollow kept (length l.bridge.gauges) l.board →
-          HoldsSince kept (recordings l.bridge files) (ends_of l.fn.store.held) (k.clock l.fn.station) (k.moments l.fn.station)
+          FrontsFollow kept (length l.config.gauges) l.board →
+          HoldsSince kept (recordings l.config files) (ends_of l.fn.store.held) (k.clock l.fn.station) (k.moments l.fn.station)
           (k.told l.fn.station)
           (k.clock l.station) (k.moments l.station) (k.told l.station) (k.leaves l.station) (ends_of l.store.held);
       stored : k.tells → (kept : Kept) → IsStoredAs kept l.fn.store (k.seen l.fn.station) (k.leaves l.fn.station) →
-          FrontsFollow kept (length l.bridge.gauges) l.board →
+          FrontsFollow kept (length l.config.gauges) l.board →
           IsStoredAs kept l.store (k.seen l.station) (k.leaves l.station);
-      paced : k.tells → l.board.block ≡ l.bridge.block → (bodies : List PartsValue) →
+      paced : k.tells → l.board.block ≡ l.config.block → (bodies : List PartsValue) →
           IsOn l.fn.store bodies (k.seen l.fn.station) (k.leaves l.fn.station) →
-          Paced (name_of l.bridge) (window_of l.bridge) l.fn.store.head bodies (k.clock l.fn.station) (k.moments l.fn.station)
+          Paced (name_of l.config) (window_of l.config) l.fn.store.head bodies (k.clock l.fn.station) (k.moments l.fn.station)
           (k.told l.fn.station) (k.clock l.station) (k.moments l.station) (k.told l.station) (k.seen l.station) (k.leaves l.station) l.store
           (Unit {0});
-      told : k.tells → k.told l.station ≡ k.told l.fn.station ++ round_lines (name_of l.bridge) (slice_index (ends_of l.fn.store.held))
+      told : k.tells → k.told l.station ≡ k.told l.fn.station ++ round_lines (name_of l.config) (slice_index (ends_of l.fn.store.held))
           (slice_index (ends_of l.store.held)) l.gauge;
-      before : (to : ℕ → ℕ) → FrontsEnd to l.board (length l.bridge.gauges) → (h : ℕ) → h < l.gauge →
+      before : (to : ℕ → ℕ) → FrontsEnd to l.board (length l.config.gauges) → (h : ℕ) → h < l.gauge →
           slice_index (ends_of l.store.held) h ≡ to h;
       after : (h : ℕ) → l.gauge ≤ h → slice_index (ends_of l.store.held) h ≡ slice_index (ends_of l.fn.store.held) h;
       later : k.faults l.fn.station ≤ k.faults l.station;

@@ -1,5 +1,4 @@
-use Rattle.std.proofs.Common.{◌≡◌, ◌≤◌, ◌∷◌, ◌++◌, [], List, ℕ, inl, inr, refl, slice_index_or, ◌∙◌, ap, arith}
-use Rattle.count_command.specs.declared.watching.ends.TheConstants.{MOST_ENDS_BESIDE}
+use Rattle.std.proofs.Common.{◌≡◌, ◌∷◌, ◌++◌, [], List, ℕ, inl, inr, refl, slice_index_or, ◌∙◌, ap, arith}
 use Rattle.count_command.specs.held_samples.Told.{seen_line}
 use Rattle.count_command.specs.watching.Steps.{IsSeenLineOf, IsStep}
 use Rattle.count_command.proofs.on_held_samples.Going.{told_either}

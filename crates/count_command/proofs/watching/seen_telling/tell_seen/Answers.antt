@@ -16,10 +16,10 @@ use Rattle.count_command.proofs.watching.seen_telling.tell_seen.Goals as goal
 
 pub tell_gauge-requires-clause-short : goal.tell_gauge-requires-clause-short
 tell_gauge-requires-clause-short g c =
-    let known : c.loop-gauge.gauge < length c.args.bridge.now.gauges = omega (arith, ap length c.as_slice-gauge-end.ensures) in
-    let name = name_is c.args.bridge.now c.loop-gauge.gauge _ _ _ known c.as_slice.ensures c.as_str-name.ensures in
-    subst (λ (l : List ℕ). length l ≤ MAX_NAME_BYTES) name (short_name (name_of c.args.bridge.now c.loop-gauge.gauge)
-    (c.requires.bridge.names c.loop-gauge.gauge known))
+    let known : c.loop-gauge.gauge < length c.args.config.now.gauges = omega (arith, ap length c.as_slice-gauge-end.ensures) in
+    let name = name_is c.args.config.now c.loop-gauge.gauge _ _ _ known c.as_slice.ensures c.as_str-name.ensures in
+    subst (λ (l : List ℕ). length l ≤ MAX_NAME_BYTES) name (short_name (name_of c.args.config.now c.loop-gauge.gauge)
+    (c.requires.config.names c.loop-gauge.gauge known))
 
 -- the line of a gauge that is told is one of what was seen
 gauge_line : (c : Config) (starts ends : List ℕ) (k start step held : ℕ) (name : List ℕ) → k < length c.gauges → name_of c k ≡ name
@@ -36,12 +36,12 @@ gauge_line c starts ends k start step held name known named from by to line of =
 
 pub returns-in_err-tell_gauge-clause-only : goal.returns-in_err-tell_gauge-clause-only
 returns-in_err-tell_gauge-clause-only g c =
-    let known : c.loop-gauge.gauge < length c.args.bridge.now.gauges = omega (arith, ap length c.as_slice-gauge-end.ensures) in
+    let known : c.loop-gauge.gauge < length c.args.config.now.gauges = omega (arith, ap length c.as_slice-gauge-end.ensures) in
     let held : c.name-held.result.to ≡ slice_index (ends_of c.args.store.now.held) c.loop-gauge.gauge =
     ap (λ (n : Name). n.to) c.name-held.ensures.value ∙ c.held.ensures.end in
-    λ tells. only_then g.K.Station _ _ _ _ _ (gauge_line c.args.bridge.now c.args.ends.now (ends_of c.args.store.now.held)
+    λ tells. only_then g.K.Station _ _ _ _ _ (gauge_line c.args.config.now c.args.ends.now (ends_of c.args.store.now.held)
     c.loop-gauge.gauge _ _ _ c.as_str-name.result.now known
-    (name_is c.args.bridge.now c.loop-gauge.gauge _ _ _ known c.as_slice.ensures c.as_str-name.ensures) c.start.ensures
+    (name_is c.args.config.now c.loop-gauge.gauge _ _ _ known c.as_slice.ensures c.as_str-name.ensures) c.start.ensures
     (ap (λ (b : ℕ). BLOCKS_PER_WINDOW * b) c.from.ensures) held) (c.loop-gauge.invariant.only tells) (c.tell_gauge.ensures.only tells)
 
 pub loop-gauge-init : goal.loop-gauge-init
@@ -53,16 +53,16 @@ loop-gauge-init g c = record {
 
 pub loop-gauge-preserved : goal.loop-gauge-preserved
 loop-gauge-preserved g c =
-    let known : c.loop-gauge.gauge < length c.args.bridge.now.gauges = omega (arith, ap length c.as_slice-gauge-end.ensures) in
+    let known : c.loop-gauge.gauge < length c.args.config.now.gauges = omega (arith, ap length c.as_slice-gauge-end.ensures) in
     let held : c.name-held.result.to ≡ slice_index (ends_of c.args.store.now.held) c.loop-gauge.gauge =
     ap (λ (n : Name). n.to) c.name-held.ensures.value ∙ c.held.ensures.end in
-    let name = name_is c.args.bridge.now c.loop-gauge.gauge _ _ _ known c.as_slice.ensures c.as_str-name.ensures in
+    let name = name_is c.args.config.now c.loop-gauge.gauge _ _ _ known c.as_slice.ensures c.as_str-name.ensures in
     record {
-      only = λ tells. only_then g.K.Station _ _ _ _ _ (gauge_line c.args.bridge.now c.args.ends.now (ends_of c.args.store.now.held)
+      only = λ tells. only_then g.K.Station _ _ _ _ _ (gauge_line c.args.config.now c.args.ends.now (ends_of c.args.store.now.held)
           c.loop-gauge.gauge _ _ _ c.as_str-name.result.now known name c.start.ensures
           (ap (λ (b : ℕ). BLOCKS_PER_WINDOW * b) c.from.ensures) held) (c.loop-gauge.invariant.only tells)
           (c.tell_gauge.ensures.only tells);
-      told = λ tells. seen_more (name_of c.args.bridge.now) (slice_index c.args.ends.now) (slice_index (ends_of c.args.store.now.held))
+      told = λ tells. seen_more (name_of c.args.config.now) (slice_index c.args.ends.now) (slice_index (ends_of c.args.store.now.held))
           (BLOCKS_PER_WINDOW * c.from.result) c.loop-gauge.gauge c.as_str-name.result.now c.start.result c.name-held.result.to _ _ _
           (c.loop-gauge.invariant.told tells) (c.in_ok-tell_gauge.ensures.told tells) name c.start.ensures held;
       later = omega (arith, c.loop-gauge.invariant.later, c.tell_gauge.ensures.cause.later);
@@ -71,10 +71,10 @@ loop-gauge-preserved g c =
 pub returns-clause-told : goal.returns-clause-told
 returns-clause-told g c = λ tells files held.
     let k = g.K.Station in
-    let past : c.loop-gauge.gauge ≡ length c.args.bridge.now.gauges =
+    let past : c.loop-gauge.gauge ≡ length c.args.config.now.gauges =
     omega (arith, c.loop-gauge-test.false, ap length c.as_slice-gauge-end.ensures) in
-    seen_all c.args.bridge.now.block (recordings c.args.bridge.now files) c.args.ends.now (ends_of c.args.store.now.held) c.loop-gauge.gauge
-    _ _ c.requires.bridge.block.0 past held
-    (subst (λ (b : ℕ). SeenSoFar (name_of c.args.bridge.now) (slice_index c.args.ends.now) (slice_index (ends_of c.args.store.now.held))
+    seen_all c.args.config.now.block (recordings c.args.config.now files) c.args.ends.now (ends_of c.args.store.now.held) c.loop-gauge.gauge
+    _ _ c.requires.config.block.0 past held
+    (subst (λ (b : ℕ). SeenSoFar (name_of c.args.config.now) (slice_index c.args.ends.now) (slice_index (ends_of c.args.store.now.held))
     (BLOCKS_PER_WINDOW * b) c.loop-gauge.gauge (k.told c.args.station.now) (k.told c.loop-gauge.station)) c.from.ensures
     (c.loop-gauge.invariant.told tells))

@@ -10,8 +10,8 @@ abbrev pub invariant-loop-gauge : goal.invariant-loop-gauge
 invariant-loop-gauge g l =
     let k = g.K.Station in
     record {
-      only : k.tells → TellsOnlySeen k (IsSeenLine l.bridge l.ends (ends_of l.store.held)) l.fn.station l.station;
-      told : k.tells → SeenSoFar (name_of l.bridge) (slice_index l.ends) (slice_index (ends_of l.store.held)) l.step l.gauge
+      only : k.tells → TellsOnlySeen k (IsSeenLine l.config l.ends (ends_of l.store.held)) l.fn.station l.station;
+      told : k.tells → SeenSoFar (name_of l.config) (slice_index l.ends) (slice_index (ends_of l.store.held)) l.step l.gauge
           (k.told l.fn.station) (k.told l.station);
       later : k.faults l.fn.station ≤ k.faults l.station;
     }
