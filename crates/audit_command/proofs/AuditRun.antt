@@ -3,12 +3,11 @@
 --   left_early    the line of the answer was told at most
 --   left_unread   the configuration was refused, or memory ran out before it was read
 --   by_refused    the answer for a store that is refused; store_early, ..: what it is and is not
-use Rattle.std.proofs.Common.{◌≡◌, ◌≢◌, ◌⊎◌, inl, ℕ, ℤ, List, [], ◌∷◌, ◌++◌, ◌∙◌, refl, sym, subst}
+use Rattle.std.proofs.Common.{◌≡◌, ◌≢◌, ◌⊎◌, inl, ℕ, ℤ, List, [], ◌∷◌, ◌++◌, refl, subst}
 use Rattle.std.specs.Prelude.{Result, Ok, Err}
 use Rattle.outside.specs.Fault.{CountRose}
 use Rattle.outside.specs.Site.{Files, Asked, AsksNothing}
 use Rattle.outside.specs.station.Station.{Image}
-use Rattle.segment_store.specs.Held.{ends_of}
 use Rattle.segment_store.specs.Moments.{StoreValue}
 use Rattle.segment_store.specs.Opening.{Resumes}
 use Rattle.segment_store.specs.declared.fault.ResumeFault.{ResumeFault}
@@ -18,9 +17,8 @@ use Rattle.site_config.specs.declared.config.Config.{Config}
 use Rattle.site_config.specs.declared.fault.ConfigFault.{ConfigFault}
 use Rattle.site_config.specs.recorded.Asked.{names_in}
 use Rattle.site_config.proofs.on_recorded.Asking.{none_is_first}
-use Rattle.status.specs.Printing.{IsPrinting}
 use Rattle.status.specs.Refused.{store_status}
-use Rattle.status.specs.Shown.{Shown, Tells, line_for}
+use Rattle.status.specs.Shown.{Shown, Tells}
 use Rattle.status.specs.config_reading.Reading.{MeansAs, IsRefusal}
 use Rattle.status.specs.declared.status.Status.{Status}
 use Rattle.status.specs.declared.status.Status.TheVariants.{Done, Usage, Config as BadConfig, Store as BadStore, Recording, Torn, ReadFault, WriteFault, DiskFault, OutOfMemory, TooLong, Differs}
@@ -86,9 +84,9 @@ module _ (before after : Shown) (s : Status) where
       let line = same_line [] (name_by (config_of_bytes before.config) s) s early in
       record {
         answer_is = λ k t c. answers k c;
-        complete = λ k t c sound config site station out. complete k c sound config station;
-        stands = λ k t c bridge is w n holds. finds_early bridge _ _ s early;
-        prints = λ o c bridge is. prints_early bridge before.written after.written written s early;
+        complete = λ k t c sound source site station out. complete k c sound source station;
+        stands = λ k t c config is w n holds. finds_early config _ _ s early;
+        prints = λ o c config is. prints_early config before.written after.written written s early;
         nothing = λ o other. written;
         quiet = λ k c. subst (λ (l : List ℕ). Tells l before after) line (told k);
         silent = λ k done. absurd (subst IsEarly done early);
@@ -111,7 +109,7 @@ module _ (before after : Shown) (s : Status) where
       let read = config_of_bytes before.config in
       left_early (by_refusal IsEarly (λ f. tt) tt tt s is) told ends written none steady
       (λ k c. unread_answer read before.seen before.files s is (means c))
-      (λ k c sound config station. unread_complete read before.seen before.files s is (means c) sound (λ e. config (cause e))) cause
+      (λ k c sound source station. unread_complete read before.seen before.files s is (means c) sound (λ e. source (cause e))) cause
       (λ e. absurd ((unread_other s is).1 e))
 
 module _ (read : Result Config ConfigFault) (c : Config) (is : read ≡ Ok c) (image : Image) (files : Files) where

@@ -1,5 +1,5 @@
 -- What each answer of `audit` says.
-use Rattle.std.proofs.Common.{◌≡◌, ◌≢◌, ◌<◌, ◌≤◌, ◌⊎◌, inl, inr, ℕ, ℤ, List, length, take, get_or, refl, sym, ap, subst, ◌∙◌, arith}
+use Rattle.std.proofs.Common.{◌≡◌, ◌≢◌, ◌<◌, ◌⊎◌, inl, inr, ℕ, ℤ, List, length, take, get_or, refl, sym, subst, ◌∙◌}
 use Rattle.std.specs.Prelude.{slice_index, Result, Ok, Err}
 use Rattle.outside.specs.Site.{Files}
 use Rattle.outside.specs.station.Station.{Image}
@@ -181,17 +181,17 @@ held_complete c heads bodies ends files s kind a opened same r w =
     (record { what = x; held = y; found = z }) other.1 none.1 other.2 none.2 other.3 none.3)))
     s kind a r w
 
-pub unread_answer : (bridge : Result Config ConfigFault) (image : Image) (files : Files) (s : Status) → IsRefusal s → MeansAs bridge (Err s)
-    → AuditAnswers bridge image files s
-unread_answer bridge image files s is =
-    by_refusal (λ (x : Status). MeansAs bridge (Err x) → AuditAnswers bridge image files x) (λ f m. m) (λ m. tt) (λ m. tt) s is
+pub unread_answer : (config : Result Config ConfigFault) (image : Image) (files : Files) (s : Status) → IsRefusal s → MeansAs config (Err s)
+    → AuditAnswers config image files s
+unread_answer config image files s is =
+    by_refusal (λ (x : Status). MeansAs config (Err x) → AuditAnswers config image files x) (λ f m. m) (λ m. tt) (λ m. tt) s is
 
 -- a sound configuration is refused for a read that failed, or for want of memory
-pub unread_complete : (bridge : Result Config ConfigFault) (image : Image) (files : Files) (s : Status) → IsRefusal s →
-    MeansAs bridge (Err s)
-    → IsSound bridge image files → s ≢ ReadFault → (s ≡ Done) ⊎ (s ≡ OutOfMemory)
-unread_complete bridge image files s is m sound read =
-    by_refusal (λ (x : Status). MeansAs bridge (Err x) → x ≢ ReadFault → (x ≡ Done) ⊎ (x ≡ OutOfMemory))
+pub unread_complete : (config : Result Config ConfigFault) (image : Image) (files : Files) (s : Status) → IsRefusal s →
+    MeansAs config (Err s)
+    → IsSound config image files → s ≢ ReadFault → (s ≡ Done) ⊎ (s ≡ OutOfMemory)
+unread_complete config image files s is m sound read =
+    by_refusal (λ (x : Status). MeansAs config (Err x) → x ≢ ReadFault → (x ≡ Done) ⊎ (x ≡ OutOfMemory))
     (λ f m r. absurd (clash (sym m ∙ sound.1))) (λ m r. absurd (r refl)) (λ m r. inr refl) s is m read
   where
     clash : {f : ConfigFault} {c : Config} → ◌≡◌ {A = Result Config ConfigFault} (Err f) (Ok c) → ⊥

@@ -82,15 +82,15 @@ not_recounted X kept held file left g recount.OutOfMemory s is opened behind few
     subst (λ (x : Status). SourceAnswers {X = X} (fault_of kept held file) g (Err x)) (sym is) tt
 
 -- the first fault of a gauge's recording, by that of the file that was fetched
-module _ (bridge : Config) (heads : List Head) (n : ℕ → ℕ) (files : Files) (g : ℕ) (lt : g < length heads) (name file : List ℕ)
-    (is : files name ≡ Some file) (same : file_of bridge g ≡ name) (heads2 : List Head) (here : Head) (k : ℕ) (kept : heads2 ≡ heads)
+module _ (config : Config) (heads : List Head) (n : ℕ → ℕ) (files : Files) (g : ℕ) (lt : g < length heads) (name file : List ℕ)
+    (is : files name ≡ Some file) (same : file_of config g ≡ name) (heads2 : List Head) (here : Head) (k : ℕ) (kept : heads2 ≡ heads)
     (held : k ≡ n g) where
   fault_here : (fault : Option RecordingFault) → fault_of (slice_index_or heads2 g here) k file ≡ fault →
-      FaultOf bridge heads n files g fault
-  fault_here = gauge_fault bridge heads n files g lt name file is same heads2 here k kept held
+      FaultOf config heads n files g fault
+  fault_here = gauge_fault config heads n files g lt name file is same heads2 here k kept held
 
   pub gauge_answers : {X : Type 0} (r : Result X Status) → SourceAnswers {X = X} (fault_of (slice_index_or heads2 g here) k file) g r
-      → GaugeAnswers {A = X} bridge heads n files g r
+      → GaugeAnswers {A = X} config heads n files g r
   gauge_answers (Ok x) a = fault_here None a
   gauge_answers (Err (status.Recording h f)) a = (a.0, fault_here (Some f) a.1)
   gauge_answers (Err status.Done) a = tt

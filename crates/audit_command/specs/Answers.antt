@@ -45,10 +45,10 @@ MayAnswerOver c image files status =
     (r : IsStoreOf c.setup image) × HeldAnswers c r.head.heads (HasKept r.bodies) r.ends files status
 
 abbrev pub AuditAnswers : Result Config ConfigFault → Image → Files → Status → Type 0
-AuditAnswers bridge image files (BadConfig fault) = bridge ≡ Err fault
-AuditAnswers bridge image files ReadFault = Unit {0}
-AuditAnswers bridge image files OutOfMemory = Unit {0}
-AuditAnswers bridge image files status = (c : Config) × (bridge ≡ Ok c) × MayAnswerOver c image files status
+AuditAnswers config image files (BadConfig fault) = config ≡ Err fault
+AuditAnswers config image files ReadFault = Unit {0}
+AuditAnswers config image files OutOfMemory = Unit {0}
+AuditAnswers config image files status = (c : Config) × (config ≡ Ok c) × MayAnswerOver c image files status
 
 -- the recordings begin with samples that were counted as it holds
 abbrev pub IsAudited : Config → Image → Files → Type 0
@@ -57,7 +57,7 @@ IsAudited c image files =
     × AllSame c (HasKept r.bodies) (held_of (recordings c files).samples r.ends) (length c.gauges)
 
 abbrev pub IsSound : Result Config ConfigFault → Image → Files → Type 0
-IsSound bridge image files = (c : Config) × (bridge ≡ Ok c) × IsAudited c image files
+IsSound config image files = (c : Config) × (config ≡ Ok c) × IsAudited c image files
 
 -- the answers of auditing a store
 abbrev pub IsAuditing : Status → Type 0

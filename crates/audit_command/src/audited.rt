@@ -22,25 +22,25 @@ use std::alloc::Global;
 /// that of counting is taken first.
 pub(crate) fn audit_held<T: Site, O: Sink>(
     alloc: Global,
-    bridge: &Config,
+    config: &Config,
     store: &Store,
     site: &mut T,
     out: &mut O,
 ) -> Status
-    requires bridge { IsConfig bridge.now }
-    requires setup { store.now.head.setup ≡ bridge.now.setup }
-    requires held { length store.now.held ≡ length bridge.now.gauges }
-    requires heads { length store.now.head.heads ≡ length bridge.now.gauges }
+    requires config { IsConfig config.now }
+    requires setup { store.now.head.setup ≡ config.now.setup }
+    requires held { length store.now.held ≡ length config.now.gauges }
+    requires heads { length store.now.head.heads ≡ length config.now.gauges }
     requires home { T.out site.old ≡ 0 }
-    ensures prints { O.tells → Prints result bridge.now (O.written out.old) (O.written out.new) }
-    ensures answer { T.tells → HeldAnswers bridge.now store.now.head.heads (IsItem store.now.held)
+    ensures prints { O.tells → Prints result config.now (O.written out.old) (O.written out.new) }
+    ensures answer { T.tells → HeldAnswers config.now store.now.head.heads (IsItem store.now.held)
         (ends_of store.now.held) (T.files site.old) result }
     ensures kind { IsAuditing result }
     ensures read { result ≡ ReadFault → CountRose (T.faults site.old) (T.faults site.new) }
     ensures steady { result ≢ ReadFault → T.faults site.new ≡ T.faults site.old }
     ensures write { result ≡ WriteFault → CountRose (O.faults out.old) (O.faults out.new) }
     ensures asked { AuditAsks result (T.names_asked site.old) (T.names_asked site.new)
-        (file_names bridge.now) }
+        (file_names config.now) }
     ensures back { T.out site.new ≡ 0 }
     ensures files { T.tells → T.files site.new ≡ T.files site.old }
     ensures later { T.faults site.old ≤ T.faults site.new }
@@ -48,16 +48,16 @@ pub(crate) fn audit_held<T: Site, O: Sink>(
     let Ok(mut line) = line_room(alloc) else {
         return Status::OutOfMemory;
     };
-    let Ok(mut recounts) = Vec::with_capacity(alloc, bridge.gauges.as_slice().len()) else {
+    let Ok(mut recounts) = Vec::with_capacity(alloc, config.gauges.as_slice().len()) else {
         return Status::OutOfMemory;
     };
-    if let Err(status) = recount_all(alloc, bridge, store, site, &mut recounts) {
+    if let Err(status) = recount_all(alloc, config, store, site, &mut recounts) {
         return status;
     }
-    if let Some(status) = first_other(bridge, store, &recounts) {
+    if let Some(status) = first_other(config, store, &recounts) {
         return status;
     }
-    match print_same(bridge, &mut line, out) {
+    match print_same(config, &mut line, out) {
         Ok(()) => Status::Done,
         Err(_) => Status::WriteFault,
     }

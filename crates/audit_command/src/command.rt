@@ -35,14 +35,14 @@ pub fn audit_command<C: Source, T: Site, K: Station, O: Sink>(
         tell_no_memory(station);
         return Status::OutOfMemory;
     };
-    let bridge = match read_config(alloc, config) {
-        Ok(bridge) => bridge,
+    let config = match read_config(alloc, config) {
+        Ok(config) => config,
         Err(status) => {
             tell_fault(station, &mut line, status, "");
             return status;
         }
     };
-    let store = match Store::resume(alloc, station, &bridge.setup) {
+    let store = match Store::resume(alloc, station, &config.setup) {
         Ok(store) => store,
         Err(fault) => {
             let status = status_of(fault);
@@ -50,7 +50,7 @@ pub fn audit_command<C: Source, T: Site, K: Station, O: Sink>(
             return status;
         }
     };
-    let status = audit_held(alloc, &bridge, &store, site, out);
-    tell_fault(station, &mut line, status, name_in(&bridge, status));
+    let status = audit_held(alloc, &config, &store, site, out);
+    tell_fault(station, &mut line, status, name_in(&config, status));
     status
 }

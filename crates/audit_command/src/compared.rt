@@ -9,14 +9,14 @@ use site_config::Config;
 use status::Status;
 
 /// The first difference between what is held and what was counted again, in order of gauge.
-pub(crate) fn first_other(bridge: &Config, store: &Store, recounts: &[Recount]) -> Option<Status>
-    requires bridge { IsConfig bridge.now }
-    requires setup { store.now.head.setup ≡ bridge.now.setup }
-    requires held { length store.now.held ≡ length bridge.now.gauges }
-    requires all { length recounts.now ≡ length bridge.now.gauges }
-    requires classes { AreOver bridge.now recounts.now }
-    ensures finds { (w : ℕ → List ℤ) → AreOf bridge.now recounts.now w →
-        FirstOther bridge.now (IsItem store.now.held) w result }
+pub(crate) fn first_other(config: &Config, store: &Store, recounts: &[Recount]) -> Option<Status>
+    requires config { IsConfig config.now }
+    requires setup { store.now.head.setup ≡ config.now.setup }
+    requires held { length store.now.held ≡ length config.now.gauges }
+    requires all { length recounts.now ≡ length config.now.gauges }
+    requires classes { AreOver config.now recounts.now }
+    ensures finds { (w : ℕ → List ℤ) → AreOf config.now recounts.now w →
+        FirstOther config.now (IsItem store.now.held) w result }
     ensures kind { IfSome result IsOther }
 {
     for gauge in 0..recounts.len() {

@@ -34,35 +34,35 @@ use std::alloc::Global;
 /// recounts so far are left in `recounts`. Every source is back at the site.
 pub(crate) fn recount_all<T: Site>(
     alloc: Global,
-    bridge: &Config,
+    config: &Config,
     store: &Store,
     site: &mut T,
     recounts: &mut Vec<Recount>,
 ) -> Result<(), Status>
-    requires bridge { IsConfig bridge.now }
-    requires setup { store.now.head.setup ≡ bridge.now.setup }
-    requires held { length store.now.held ≡ length bridge.now.gauges }
-    requires heads { length store.now.head.heads ≡ length bridge.now.gauges }
+    requires config { IsConfig config.now }
+    requires setup { store.now.head.setup ≡ config.now.setup }
+    requires held { length store.now.held ≡ length config.now.gauges }
+    requires heads { length store.now.head.heads ≡ length config.now.gauges }
     requires home { T.out site.old ≡ 0 }
     requires none { vec_len recounts.old ≡ 0 }
-    requires room { length bridge.now.gauges ≤ vec_capacity recounts.old }
-    ensures all { OnOk result (vec_len recounts.new ≡ length bridge.now.gauges) }
-    ensures counted { AreRecounts bridge.now T.tells
-        (recordings bridge.now (T.files site.old)).samples
+    requires room { length config.now.gauges ≤ vec_capacity recounts.old }
+    ensures all { OnOk result (vec_len recounts.new ≡ length config.now.gauges) }
+    ensures counted { AreRecounts config.now T.tells
+        (recordings config.now (T.files site.old)).samples
         (slice_index (ends_of store.now.held)) recounts.new.items }
-    ensures answer { T.tells → OpenAnswers bridge.now store.now.head.heads
+    ensures answer { T.tells → OpenAnswers config.now store.now.head.heads
         (slice_index (ends_of store.now.held)) (T.files site.old) result }
     ensures kind { IfErr result IsRecounting }
     ensures asked { OpeningAsks result (T.names_asked site.old) (T.names_asked site.new)
-        (file_names bridge.now) }
+        (file_names config.now) }
     ensures back { T.out site.new ≡ 0 }
     ensures files { T.tells → T.files site.new ≡ T.files site.old }
     ensures cause { result ≡ Err ReadFault → CountRose (T.faults site.old) (T.faults site.new) }
     ensures steady { result ≢ Err ReadFault → T.faults site.new ≡ T.faults site.old }
     ensures later { T.faults site.old ≤ T.faults site.new }
 {
-    for gauge in 0..bridge.gauges.as_slice().len() {
-        match recount_gauge(alloc, bridge, store, gauge as u16, site) {
+    for gauge in 0..config.gauges.as_slice().len() {
+        match recount_gauge(alloc, config, store, gauge as u16, site) {
             Ok(recount) => recounts.push_reserved(recount),
             Err(status) => return Err(status),
         }
@@ -73,32 +73,32 @@ pub(crate) fn recount_all<T: Site>(
 // Counts the held samples of the recording of a gauge again.
 fn recount_gauge<T: Site>(
     alloc: Global,
-    bridge: &Config,
+    config: &Config,
     store: &Store,
     gauge: u16,
     site: &mut T,
 ) -> Result<Recount, Status>
-    requires bridge { IsConfig bridge.now }
-    requires known { gauge < length bridge.now.gauges }
-    requires held { length store.now.held ≡ length bridge.now.gauges }
-    requires heads { length store.now.head.heads ≡ length bridge.now.gauges }
+    requires config { IsConfig config.now }
+    requires known { gauge < length config.now.gauges }
+    requires held { length store.now.held ≡ length config.now.gauges }
+    requires heads { length store.now.head.heads ≡ length config.now.gauges }
     requires home { T.out site.old ≡ 0 }
-    ensures counted { IfOk result (IsOfFirst bridge.now T.tells
-        (recordings bridge.now (T.files site.old)).samples
+    ensures counted { IfOk result (IsOfFirst config.now T.tells
+        (recordings config.now (T.files site.old)).samples
         (slice_index (ends_of store.now.held)) gauge) }
-    ensures answer { T.tells → GaugeAnswers bridge.now store.now.head.heads
+    ensures answer { T.tells → GaugeAnswers config.now store.now.head.heads
         (slice_index (ends_of store.now.held)) (T.files site.old) gauge result }
     ensures kind { IfErr result IsRecounting }
     ensures own { IfErr result (IsOfGauge gauge) }
     ensures asked { Asks (T.names_asked site.old) (T.names_asked site.new)
-        (file_of bridge.now gauge ∷ []) }
+        (file_of config.now gauge ∷ []) }
     ensures back { T.out site.new ≡ 0 }
     ensures files { T.tells → T.files site.new ≡ T.files site.old }
     ensures cause { result ≡ Err ReadFault → CountRose (T.faults site.old) (T.faults site.new) }
     ensures steady { result ≢ Err ReadFault → T.faults site.new ≡ T.faults site.old }
     ensures later { T.faults site.old ≤ T.faults site.new }
 {
-    let name = bridge.gauges.as_slice()[gauge as usize].file.as_str();
+    let name = config.gauges.as_slice()[gauge as usize].file.as_str();
     let mut src = match site.fetch(name) {
         Ok(src) => src,
         Err(_) => return Err(Status::ReadFault),
@@ -107,8 +107,8 @@ fn recount_gauge<T: Site>(
         alloc,
         &mut src,
         &store.head().heads.as_slice()[gauge as usize],
-        &bridge.setup.gains.as_slice()[gauge as usize],
-        &bridge.setup.grid,
+        &config.setup.gains.as_slice()[gauge as usize],
+        &config.setup.grid,
         gauge,
         store.held(gauge).name().to,
     );

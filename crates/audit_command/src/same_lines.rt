@@ -1,4 +1,4 @@
-ghost use Rattle.std.specs.Prelude.{◌≡◌, ◌≤◌, ◌+◌, ◌++◌, [], IfOk, OnOk, OnErr, length};
+ghost use Rattle.std.specs.Prelude.{◌≡◌, ◌≤◌, ◌+◌, ◌++◌, IfOk, OnOk, OnErr, length};
 ghost use Rattle.outside.specs.Fault.{HasCause};
 ghost use Rattle.outside.specs.Sink.{AppendsPrefix};
 ghost use Rattle.site_config.specs.Valid.{IsConfig};
@@ -23,20 +23,20 @@ pub(crate) fn line_room(alloc: Global) -> Result<LineRoom, AllocError>
 
 /// Prints the line of each gauge.
 pub(crate) fn print_same<O: Sink>(
-    bridge: &Config,
+    config: &Config,
     line: &mut LineRoom,
     out: &mut O,
 ) -> Result<(), Failed>
-    requires bridge { IsConfig bridge.now }
+    requires config { IsConfig config.now }
     requires room { line.old.room ≡ MAX_LINE_BYTES }
     ensures ok { O.tells → OnOk result (O.written out.new ≡ O.written out.old ++
-        same_lines bridge.now) }
+        same_lines config.now) }
     ensures failed { O.tells → OnErr result (AppendsPrefix (O.written out.old) (O.written out.new)
-        (same_lines bridge.now)) }
+        (same_lines config.now)) }
     ensures cause { HasCause (O.faults out.old) (O.faults out.new) result }
 {
-    for gauge in 0..bridge.gauges.as_slice().len() {
-        push_same(line, bridge.gauges.as_slice()[gauge].name.as_str());
+    for gauge in 0..config.gauges.as_slice().len() {
+        push_same(line, config.gauges.as_slice()[gauge].name.as_str());
         out.put(line.bytes())?;
     }
     Ok(())

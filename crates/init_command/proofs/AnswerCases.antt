@@ -9,7 +9,7 @@
 --   init_complete   the answer where all is sound and nothing outside fails
 use Rattle.std.proofs.Common.{◌≡◌, ◌≢◌, ◌⊎◌, inl, inr, ℕ, List, [], ◌∙◌, length, refl, ap, subst, arith}
 use Rattle.std.specs.Prelude.{Option, Some, Result, Ok, Err}
-use Rattle.outside.specs.Site.{Files, Asked, Asks}
+use Rattle.outside.specs.Site.{Files}
 use Rattle.outside.specs.station.Station.{Image}
 use Rattle.recording.specs.Head.{recording_head}
 use Rattle.recording.specs.declared.head.Head.{Head}

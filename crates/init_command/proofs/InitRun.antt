@@ -2,7 +2,7 @@
 --   left_unmade   at most this line was told, which is that of the answer
 --   left_unread   the configuration was refused, or memory ran out before it was read
 use Rattle.std.proofs.Common.{◌≡◌, ◌≢◌, ◌⊎◌, inl, inr, ⊎_elim, List, [], ◌∷◌, ◌++◌, ℕ, length, ap, ◌∙◌, subst, arith}
-use Rattle.std.specs.Prelude.{Result, Err}
+use Rattle.std.specs.Prelude.{Err}
 use Rattle.outside.specs.Fault.{CountRose}
 use Rattle.outside.specs.Site.{AsksNothing}
 use Rattle.site_config.specs.Configuration.{config_of_bytes}
@@ -36,9 +36,9 @@ module _ (before after : Shown) (s : Status) where
       record {
         made = λ k t c done. absurd (subst IsUnmade done unmade);
         told = λ k c done. absurd (subst IsUnmade done unmade);
-        any_moment = λ k t c bridge reads empty. last_alone bridge before.files before.told (line_for before s) before.clock after.clock
+        any_moment = λ k t c config reads empty. last_alone config before.files before.told (line_for before s) before.clock after.clock
             before.moments after.moments before.leaves empty (tells k c).run;
-        ended = λ k t c bridge reads empty. inl (
+        ended = λ k t c config reads empty. inl (
           (tells k c).told_at_most,
           inl (omega (arith, empty before.seen (counts k), ap length (tells k c).seen_same)),
         );
@@ -47,9 +47,9 @@ module _ (before after : Shown) (s : Status) where
         last = λ k c other. ⊎_elim (λ rose. inl rose)
             (λ last. inr (before.told, last ∙ ap (λ (l : List ℕ). before.told ++ l ∷ []) (is c))) (ends k);
         answer_is = answers;
-        complete = λ k t c bridge reads sound empty config site station.
-            init_complete (config_of_bytes before.config) bridge before.files before.seen reads sound empty s (answers k t c)
-            (λ e. ⊎_elim config site (cause e)) (λ e. absurd (subst IsUnmade e unmade));
+        complete = λ k t c config reads sound empty source site station.
+            init_complete (config_of_bytes before.config) config before.files before.seen reads sound empty s (answers k t c)
+            (λ e. ⊎_elim source site (cause e)) (λ e. absurd (subst IsUnmade e unmade));
         kind = kind;
         read = cause;
         steady = none;

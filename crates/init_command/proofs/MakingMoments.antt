@@ -4,18 +4,15 @@
 --   told_made    its line was told or was not, of the new store
 --   then_last    and then the line of the answer
 --   last_alone   that line alone, over an empty station
-use Rattle.std.proofs.Common.{◌≡◌, ◌⊎◌, inl, inr, ⊎_elim, ℕ, List, [], ◌∷◌, ◌++◌, length, refl, sym, ◌∙◌, ap, subst, arith}
+use Rattle.std.proofs.Common.{◌≡◌, ◌⊎◌, inl, inr, ⊎_elim, ℕ, List, [], ◌∷◌, ◌++◌, length, refl, ◌∙◌, ap, subst, arith}
 use Rattle.std.specs.Prelude.{Result, Ok, Err}
 use Rattle.outside.specs.Site.{Files}
 use Rattle.outside.specs.station.Station.{Image, Lines, MomentsSince, Elapses, Since, Only, SameImages, Tells}
 use Rattle.outside.proofs.on_station.Moments.{started, goes_on, continues, entails}
 use Rattle.recording.specs.declared.head.Head.{Head}
 use Rattle.site_config.specs.declared.config.Config.{Config}
-use Rattle.site_config.specs.declared.fault.ConfigFault.{ConfigFault}
 use Rattle.store_bytes.specs.store_head.Head.{empty_store}
 use Rattle.segment_store.specs.Beginning.{IsBegunAs, InInit}
-use Rattle.status.specs.declared.status.Status.{Status}
-use Rattle.status.specs.fault_lines.FaultLine.{fault_line, name_for, name_by}
 use Rattle.status.specs.fault_lines.Telling.{InFault}
 use Rattle.init_command.specs.Heads.{AreHeads}
 use Rattle.init_command.specs.Init.{init_line, head_for, IsBegun, AddsAtMost, InMaking}

@@ -64,11 +64,11 @@ AnswersBy c files image OutOfMemory = ⊤
 AnswersBy c files image status = ⊥
 
 abbrev pub InitAnswers : Result Config ConfigFault → Files → Image → Status → Type 0
-InitAnswers bridge files image (BadConfig fault) = bridge ≡ Err fault
+InitAnswers config files image (BadConfig fault) = config ≡ Err fault
 -- a fault of the outside has a clause of its own, and want of memory none
-InitAnswers bridge files image ReadFault = ⊤
-InitAnswers bridge files image OutOfMemory = ⊤
-InitAnswers bridge files image status = (c : Config) × (bridge ≡ Ok c) × AnswersBy c files image status
+InitAnswers config files image ReadFault = ⊤
+InitAnswers config files image OutOfMemory = ⊤
+InitAnswers config files image status = (c : Config) × (config ≡ Ok c) × AnswersBy c files image status
 
 -- which answers there are
 abbrev pub IsInit : Status → Type 0

@@ -35,22 +35,22 @@ pub fn init_command<C: Source, T: Site, K: Station>(
         tell_no_memory(station);
         return Status::OutOfMemory;
     };
-    let bridge = match read_config(alloc, config) {
-        Ok(bridge) => bridge,
+    let config = match read_config(alloc, config) {
+        Ok(config) => config,
         Err(status) => {
             tell_fault(station, &mut line, status, "");
             return status;
         }
     };
-    let heads = match read_heads(alloc, &bridge, site) {
+    let heads = match read_heads(alloc, &config, site) {
         Ok(heads) => heads,
         Err(status) => {
-            tell_fault(station, &mut line, status, name_in(&bridge, status));
+            tell_fault(station, &mut line, status, name_in(&config, status));
             return status;
         }
     };
     let head = StoreHead {
-        setup: bridge.setup,
+        setup: config.setup,
         heads,
     };
     let status = make_store(alloc, &head, station);

@@ -17,26 +17,26 @@ use store_bytes::store_head::Heads;
 /// Reads the heads of all recordings, in order of gauge.
 pub(crate) fn read_heads<T: Site>(
     alloc: Global,
-    bridge: &Config,
+    config: &Config,
     site: &mut T,
 ) -> Result<Heads, Status>
-    requires bridge { IsConfig bridge.now }
+    requires config { IsConfig config.now }
     requires home { T.out site.old ≡ 0 }
-    ensures answer { T.tells → HeadsAnswer bridge.now (T.files site.old) result }
-    ensures all { IfOk result (λ heads. length heads ≡ length bridge.now.gauges) }
+    ensures answer { T.tells → HeadsAnswer config.now (T.files site.old) result }
+    ensures all { IfOk result (λ heads. length heads ≡ length config.now.gauges) }
     ensures kind { IfErr result IsHeadsStatus }
     ensures cause { result ≡ Err ReadFault → CountRose (T.faults site.old) (T.faults site.new) }
     ensures steady { result ≢ Err ReadFault → T.faults site.new ≡ T.faults site.old }
     ensures later { T.faults site.old ≤ T.faults site.new }
     // Where a head is refused no later file is asked for.
     ensures asked { MatchResult result (λ heads. Asks (T.names_asked site.old)
-        (T.names_asked site.new) (file_names bridge.now))
+        (T.names_asked site.new) (file_names config.now))
         (λ status. InitAsks status (T.names_asked site.old) (T.names_asked site.new)
-        (file_names bridge.now)) }
+        (file_names config.now)) }
     ensures back { T.out site.new ≡ 0 }
     ensures files { T.tells → T.files site.new ≡ T.files site.old }
 {
-    let gauges = bridge.gauges.as_slice();
+    let gauges = config.gauges.as_slice();
     let Ok(mut heads) = Vec::with_capacity(alloc, gauges.len()) else {
         return Err(Status::OutOfMemory);
     };

@@ -1,13 +1,14 @@
 ghost use Rattle.std.specs.Prelude.{◌≡◌, ◌≤◌, ◌<◌, ◌++◌, [], ◌∷◌, IfOk, length};
 ghost use Rattle.outside.specs.Fault.{CountRose};
-ghost use Rattle.outside.specs.station.Station.{Image, Since, Only};
+ghost use Rattle.outside.specs.station.Station.{Image, Only};
 ghost use Rattle.store_bytes.specs.declared.segment_bytes.layout.Layout.TheVariants.{Two};
 ghost use Rattle.store_bytes.specs.store_head.Head.{see_head, empty_store};
-ghost use Rattle.segment_store.specs.Quiet.{IsQuiet};
+ghost use Rattle.segment_store.specs.Quiet.{StaysQuiet};
 ghost use Rattle.status.specs.declared.status.Status.TheVariants.{Done, DiskFault};
 ghost use Rattle.init_command.specs.Init.{init_line};
 ghost use Rattle.init_command.specs.Making.{InStore, MakesBy, IsMaking, WhereUnmade, init_status as init_status_of};
 ghost use Rattle.calibration.specs.declared.limits.TheConstants.{MAX_GAUGES};
+ghost use Rattle.segment_store.specs.Moments.{EachMoment};
 
 use outside::station::Station;
 use segment_store::{InitFault, init};
@@ -29,18 +30,13 @@ pub(crate) fn make_store<K: Station>(alloc: Global, head: &StoreHead, station: &
     ensures told { K.tells → result ≡ Done → K.told station.new ≡
         K.told station.old ++ init_line (length head.now.setup.gains) ∷ [] }
     ensures any_moment { K.tells → ((c : Image) → K.leaves station.old c → length c ≡ 0) →
-        Since (K.clock station.old) (K.moments station.old) (K.clock station.new)
-        (K.moments station.new) (InStore (K.told station.old)
+        EachMoment ⟦<K as Station>⟧ station.old station.new (InStore (K.told station.old)
         (init_line (length head.now.setup.gains)) (empty_store (see_head Two head.now))) }
     // Over a station that is not empty nothing is done, and so where it is refused.
-    ensures quiet { K.tells → 0 < length (K.seen station.old) → IsQuiet (K.clock station.old)
-        (K.moments station.old) (K.clock station.new) (K.moments station.new)
-        (K.told station.old) (K.told station.new) (K.seen station.old) (K.seen station.new)
-        (K.leaves station.old) (K.leaves station.new) }
-    ensures unmade { K.tells → WhereUnmade result (IsQuiet (K.clock station.old)
-        (K.moments station.old) (K.clock station.new) (K.moments station.new)
-        (K.told station.old) (K.told station.new) (K.seen station.old) (K.seen station.new)
-        (K.leaves station.old) (K.leaves station.new)) }
+    ensures quiet { K.tells → 0 < length (K.seen station.old) →
+        StaysQuiet ⟦<K as Station>⟧ station.old station.new }
+    ensures unmade { K.tells → WhereUnmade result
+        (StaysQuiet ⟦<K as Station>⟧ station.old station.new) }
     ensures answer { K.tells → MakesBy (length (K.seen station.old)) result }
     ensures kind { IsMaking result }
     ensures disk { result ≡ DiskFault → CountRose (K.faults station.old) (K.faults station.new) }

@@ -6,7 +6,8 @@ use Rattle.status.specs.Shown.{Shown, TellsAnswer}
 use Rattle.demo_command.specs.DemoRun.{DemoRuns}
 
 -- With this seed and so many samples.
-pub record ToldDemoRuns (seed samples : ℕ) (same_config : Type 0) (before after : Shown) (answer : Status) : Type 0 where
+pub record ToldDemoRuns (seed samples : ℕ) (same_config : Type 0) (before after : Shown) (answer : Status)
+    : Type 0 where
   -- What it printed and answered.
   pub run : DemoRuns seed samples before.output_tells before.written after.written before.output_faults
       after.output_faults answer

@@ -2,7 +2,7 @@ ghost use Rattle.std.specs.Prelude.{◌≡◌, ◌≢◌, ◌≤◌, ◌⊎◌, 
 ghost use Rattle.outside.specs.Fault.{CountRose};
 ghost use Rattle.calibration.specs.declared.limits.TheConstants.{MAX_WORKERS};
 ghost use Rattle.status.specs.fault_lines.FaultLine.{fault_line};
-ghost use Rattle.status.specs.fault_lines.Telling.{TellsAtMost, EndsIn};
+ghost use Rattle.status.specs.fault_lines.Telling.{TellsOnly, EndsIn};
 ghost use Rattle.demo_command.specs.DemoRun.{DemoRuns};
 ghost use Rattle.demo_command.specs.declared.TheConstants.{MAX_SEED, MAX_DEMO_SAMPLES};
 
@@ -27,10 +27,8 @@ pub(crate) fn told_demo<
     requires workers { (1 ≤ workers) × (workers ≤ MAX_WORKERS) }
     ensures run { DemoRuns seed samples O.tells (O.written out.old) (O.written out.new)
         (O.faults out.old) (O.faults out.new) result }
-    ensures told { K.tells → TellsAtMost (fault_line result [])
-        (K.clock station.old) (K.moments station.old) (K.clock station.new) (K.moments station.new)
-        (K.told station.old) (K.told station.new) (K.seen station.old) (K.seen station.new)
-        (K.leaves station.old) (K.leaves station.new) }
+    ensures told { K.tells → TellsOnly ⟦<K as Station>⟧ (fault_line result [])
+        station.old station.new }
     ensures silent { K.tells → result ≡ Status.Done → K.told station.new ≡ K.told station.old }
     ensures last { K.tells → result ≢ Status.Done →
         CountRose (K.faults station.old) (K.faults station.new) ⊎

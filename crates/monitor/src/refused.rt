@@ -1,7 +1,7 @@
 ghost use Rattle.std.specs.Prelude.{◌≡◌, ◌⊎◌, []};
 ghost use Rattle.outside.specs.Fault.{CountRose};
 ghost use Rattle.status.specs.fault_lines.FaultLine.{fault_line};
-ghost use Rattle.status.specs.fault_lines.Telling.{TellsAtMost, EndsIn};
+ghost use Rattle.status.specs.fault_lines.Telling.{TellsOnly, EndsIn};
 
 use outside::station::Station;
 use status::Status;
@@ -11,10 +11,8 @@ use std::alloc::Global;
 /// Tells that the words are no command.
 pub(crate) fn usage<K: Station>(alloc: Global, station: &mut K) -> Status
     ensures status { (result ≡ Status.Usage) ⊎ (result ≡ Status.OutOfMemory) }
-    ensures told { K.tells → TellsAtMost (fault_line result [])
-        (K.clock station.old) (K.moments station.old) (K.clock station.new) (K.moments station.new)
-        (K.told station.old) (K.told station.new) (K.seen station.old) (K.seen station.new)
-        (K.leaves station.old) (K.leaves station.new) }
+    ensures told { K.tells → TellsOnly ⟦<K as Station>⟧ (fault_line result [])
+        station.old station.new }
     ensures last { K.tells → CountRose (K.faults station.old) (K.faults station.new) ⊎
         EndsIn (fault_line result []) (K.told station.new) }
 {
@@ -28,10 +26,8 @@ pub(crate) fn usage<K: Station>(alloc: Global, station: &mut K) -> Status
 /// Tells that memory ran out.
 pub(crate) fn no_memory<K: Station>(station: &mut K) -> Status
     ensures status { result ≡ Status.OutOfMemory }
-    ensures told { K.tells → TellsAtMost (fault_line Status.OutOfMemory [])
-        (K.clock station.old) (K.moments station.old) (K.clock station.new) (K.moments station.new)
-        (K.told station.old) (K.told station.new) (K.seen station.old) (K.seen station.new)
-        (K.leaves station.old) (K.leaves station.new) }
+    ensures told { K.tells → TellsOnly ⟦<K as Station>⟧ (fault_line Status.OutOfMemory [])
+        station.old station.new }
     ensures last { K.tells → CountRose (K.faults station.old) (K.faults station.new) ⊎
         EndsIn (fault_line Status.OutOfMemory []) (K.told station.new) }
 {

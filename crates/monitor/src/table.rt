@@ -1,7 +1,7 @@
 ghost use Rattle.std.specs.Prelude.{◌≡◌, ◌≢◌, ◌⊎◌};
 ghost use Rattle.outside.specs.Fault.{CountRose};
 ghost use Rattle.status.specs.fault_lines.FaultLine.{fault_line};
-ghost use Rattle.status.specs.fault_lines.Telling.{TellsAtMost, EndsIn};
+ghost use Rattle.status.specs.fault_lines.Telling.{TellsOnly, EndsIn};
 ghost use Rattle.file_commands.specs.file_tasks.Run.{Runs, no_memory_task, outside};
 ghost use Rattle.monitor.specs.Task.{table_task};
 
@@ -30,10 +30,8 @@ pub(crate) fn told_table<T: Site, K: Station, O: Sink>(
         (outside ⟦<T as Site>⟧ ⟦<O as Sink>⟧ site.old out.old)
         (outside ⟦<T as Site>⟧ ⟦<O as Sink>⟧ site.new out.new) result }
     ensures named { result ≢ Status.Usage }
-    ensures told { K.tells → TellsAtMost (fault_line result file.now)
-        (K.clock station.old) (K.moments station.old) (K.clock station.new) (K.moments station.new)
-        (K.told station.old) (K.told station.new) (K.seen station.old) (K.seen station.new)
-        (K.leaves station.old) (K.leaves station.new) }
+    ensures told { K.tells → TellsOnly ⟦<K as Station>⟧ (fault_line result file.now)
+        station.old station.new }
     ensures silent { K.tells → result ≡ Status.Done → K.told station.new ≡ K.told station.old }
     ensures last { K.tells → result ≢ Status.Done →
         CountRose (K.faults station.old) (K.faults station.new) ⊎

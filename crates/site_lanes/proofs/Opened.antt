@@ -39,11 +39,11 @@ behind {n} {k} {body} {before} {left} {end} more same takes =
     }
 
 -- the first fault of a gauge's recording, by that of the file that was fetched
-module _ (bridge : Config) (heads : List Head) (n : ℕ → ℕ) (files : Files) (g : ℕ) (lt : g < length heads) (name file : List ℕ)
-    (is : files name ≡ Some file) (same : file_of bridge g ≡ name) (heads2 : List Head) (here : Head) (k : ℕ) (kept : heads2 ≡ heads)
+module _ (config : Config) (heads : List Head) (n : ℕ → ℕ) (files : Files) (g : ℕ) (lt : g < length heads) (name file : List ℕ)
+    (is : files name ≡ Some file) (same : file_of config g ≡ name) (heads2 : List Head) (here : Head) (k : ℕ) (kept : heads2 ≡ heads)
     (held : k ≡ n g) where
   pub gauge_fault : (fault : Option RecordingFault) → fault_of (slice_index_or heads2 g here) k file ≡ fault
-      → FaultOf bridge heads n files g fault
+      → FaultOf config heads n files g fault
   gauge_fault fault opened = (
     file,
     ap files same ∙ is,
@@ -53,11 +53,11 @@ module _ (bridge : Config) (heads : List Head) (n : ℕ → ℕ) (files : Files)
   )
 
   pub gauge_refused : (A : Type 0) (fault : OpenFault) (s : Status) → s ≡ opened_status g fault
-      → IsOpeningAnswer (fault_of (slice_index_or heads2 g here) k file) (Err fault) → GaugeAnswers {A = A} bridge heads n files g (Err s)
+      → IsOpeningAnswer (fault_of (slice_index_or heads2 g here) k file) (Err fault) → GaugeAnswers {A = A} config heads n files g (Err s)
   gauge_refused A (Recording f) s is_status opened =
-      subst (λ (x : Status). GaugeAnswers {A = A} bridge heads n files g (Err x)) (sym is_status) (refl, gauge_fault (Some f) opened)
+      subst (λ (x : Status). GaugeAnswers {A = A} config heads n files g (Err x)) (sym is_status) (refl, gauge_fault (Some f) opened)
   gauge_refused A ReadFault s is_status opened =
-      subst (λ (x : Status). GaugeAnswers {A = A} bridge heads n files g (Err x)) (sym is_status) tt
+      subst (λ (x : Status). GaugeAnswers {A = A} config heads n files g (Err x)) (sym is_status) tt
 
 -- of all gauges, where those below are sound
 pub open_refused : (A : Type 0) (c : Config) (heads : List Head) (n : ℕ → ℕ) (files : Files) (g : ℕ) → g < length c.gauges

@@ -16,8 +16,8 @@ num = 1000
 
 #[test]
 fn the_memory_of_a_report_is_taken_at_once(rt: HostRuntime) -> Result<(), Fail> {
-    let bridge = read(rt.alloc(), CONFIG.as_bytes()).expect(&rt, "it is sound");
-    let report = Report::new(rt.alloc(), &bridge)?;
+    let config = read(rt.alloc(), CONFIG.as_bytes()).expect(&rt, "it is sound");
+    let report = Report::new(rt.alloc(), &config)?;
     let _ = report;
     Ok(())
 }

@@ -5,14 +5,14 @@
 use Rattle.std.proofs.Common.{◌≡◌, ◌≢◌, ◌⊎◌, inl, inr, ⊎_elim, ℕ, List, [], ◌∷◌, ◌++◌, ◌∙◌, ap, refl, sym, subst}
 use Rattle.std.specs.Prelude.{Result, Err}
 use Rattle.outside.specs.Fault.{CountRose}
-use Rattle.outside.specs.Site.{Files, AsksNothing}
+use Rattle.outside.specs.Site.{AsksNothing}
 use Rattle.site_config.specs.Configuration.{config_of_bytes}
 use Rattle.site_config.specs.declared.config.Config.{Config}
 use Rattle.site_config.specs.declared.fault.ConfigFault.{ConfigFault}
 use Rattle.site_config.specs.recorded.Asked.{names_in}
 use Rattle.status.specs.config_reading.Reading.{MeansAs, IsRefusal}
 use Rattle.status.specs.declared.status.Status.{Status}
-use Rattle.status.specs.declared.status.Status.TheVariants.{Done, Usage, Config as BadConfig, Store, Recording, Torn, ReadFault, WriteFault, DiskFault, OutOfMemory, TooLong, Differs}
+use Rattle.status.specs.declared.status.Status.TheVariants.{Done, Usage, Config as BadConfig, ReadFault, WriteFault, OutOfMemory}
 use Rattle.status.specs.fault_lines.FaultLine.{fault_line, name_by}
 use Rattle.status.specs.Shown.{Shown, Tells, line_for}
 use Rattle.status.proofs.on_config_reading.Refusing.{by_refusal}
@@ -39,7 +39,7 @@ module _ (before after : Shown) (s : Status) where
       → (before.config_tells → SheetAsks s before.names_asked after.names_asked (names_in (config_of_bytes before.config)))
       → SheetRuns before after s
   left_unprinted line left prints complete is told ends written may cause none asks = record {
-    prints = λ o t c bridge reads. prints _ before.written after.written written;
+    prints = λ o t c config reads. prints _ before.written after.written written;
     nothing = λ o d w. written;
     quiet = λ k c. subst (λ (l : List ℕ). Tells l before after) (is c) (told k);
     silent = λ k done. absurd (subst IsUnprinted done left);
@@ -47,7 +47,7 @@ module _ (before after : Shown) (s : Status) where
         (λ last. inr (before.told, last ∙ ap (λ (l : List ℕ). before.told ++ l ∷ []) (is c))) (ends k);
     named = λ usage. subst IsUnprinted usage left;
     answer_is = may;
-    complete = λ t c config site out. complete _ (may t c) (λ e. ⊎_elim config site (cause e));
+    complete = λ t c source site out. complete _ (may t c) (λ e. ⊎_elim source site (cause e));
     read = cause;
     steady = none;
     write = λ e. absurd (subst IsUnprinted e left);

@@ -37,21 +37,21 @@ pub fn sheet_command<C: Source, T: Site, K: Station, O: Sink>(
         tell_no_memory(station);
         return Status::OutOfMemory;
     };
-    let bridge = match read_config(alloc, config) {
-        Ok(bridge) => bridge,
+    let config = match read_config(alloc, config) {
+        Ok(config) => config,
         Err(status) => {
             tell_fault(station, &mut line, status, "");
             return status;
         }
     };
-    let recordings = match read_recordings(alloc, &bridge, site) {
+    let recordings = match read_recordings(alloc, &config, site) {
         Ok(recordings) => recordings,
         Err(status) => {
-            tell_fault(station, &mut line, status, name_in(&bridge, status));
+            tell_fault(station, &mut line, status, name_in(&config, status));
             return status;
         }
     };
-    let status = write_sheet(alloc, &bridge, recordings.as_slice(), out);
+    let status = write_sheet(alloc, &config, recordings.as_slice(), out);
     tell_fault(station, &mut line, status, "");
     status
 }

@@ -32,31 +32,31 @@ use std::alloc::{AllocError, Global};
 /// Reads all recordings whole, in order of gauge.
 pub(crate) fn read_recordings<T: Site>(
     alloc: Global,
-    bridge: &Config,
+    config: &Config,
     site: &mut T,
 ) -> Result<Vec<Samples>, Status>
-    requires bridge { IsConfig bridge.now }
+    requires config { IsConfig config.now }
     requires home { T.out site.old ≡ 0 }
     ensures samples { T.tells → IfOk result (λ recordings.
-        map (λ w. w.items) recordings.items ≡ recordings_of bridge.now.gauges (T.files site.old)) }
+        map (λ w. w.items) recordings.items ≡ recordings_of config.now.gauges (T.files site.old)) }
     ensures many { IfOk result (λ recordings.
-        length recordings.items ≡ length bridge.now.gauges) }
-    ensures sound { T.tells → OnOk result (answer_over bridge.now (T.files site.old) ≡ Done) }
+        length recordings.items ≡ length config.now.gauges) }
+    ensures sound { T.tells → OnOk result (answer_over config.now (T.files site.old) ≡ Done) }
     ensures refused { T.tells → IfErr result
-        (MayAnswer (answer_over bridge.now (T.files site.old))) }
+        (MayAnswer (answer_over config.now (T.files site.old))) }
     ensures kind { IfErr result IsReadStatus }
     ensures cause { result ≡ Err ReadFault → CountRose (T.faults site.old) (T.faults site.new) }
     ensures steady { result ≢ Err ReadFault → T.faults site.new ≡ T.faults site.old }
     ensures later { T.faults site.old ≤ T.faults site.new }
     // Where a recording is refused no later file is asked for.
     ensures asked { MatchResult result (λ recordings. Asks (T.names_asked site.old)
-        (T.names_asked site.new) (file_names bridge.now))
+        (T.names_asked site.new) (file_names config.now))
         (λ status. SheetAsks status (T.names_asked site.old) (T.names_asked site.new)
-        (file_names bridge.now)) }
+        (file_names config.now)) }
     ensures back { T.out site.new ≡ 0 }
     ensures files { T.tells → T.files site.new ≡ T.files site.old }
 {
-    let gauges = bridge.gauges.as_slice();
+    let gauges = config.gauges.as_slice();
     let Ok(mut recordings) = Vec::with_capacity(alloc, gauges.len()) else {
         return Err(Status::OutOfMemory);
     };

@@ -16,20 +16,20 @@ use std::alloc::{AllocError, Global};
 /// Writes the sheet of these recordings, one for each gauge.
 pub(crate) fn write_sheet<O: Sink>(
     alloc: Global,
-    bridge: &Config,
+    config: &Config,
     recordings: &[Samples],
     out: &mut O,
 ) -> Status
-    requires bridge { IsConfig bridge.now }
-    requires pairs { length recordings.now ≡ length bridge.now.gauges }
+    requires config { IsConfig config.now }
+    requires pairs { length recordings.now ≡ length config.now.gauges }
     ensures prints { O.tells → Prints result
-        (sheet_text (gauge_names bridge.now.gauges)
+        (sheet_text (gauge_names config.now.gauges)
         (map (λ s. s.items) recordings.now))
         (O.written out.old) (O.written out.new) }
     ensures kind { IsPrintingOrNoMemory result }
     ensures write { result ≡ WriteFault → CountRose (O.faults out.old) (O.faults out.new) }
 {
-    let Ok(names) = names_of(alloc, bridge) else {
+    let Ok(names) = names_of(alloc, config) else {
         return Status::OutOfMemory;
     };
     let mut text = Vec::new(alloc);
@@ -43,11 +43,11 @@ pub(crate) fn write_sheet<O: Sink>(
 }
 
 // The names of all gauges.
-fn names_of(alloc: Global, bridge: &Config) -> Result<Vec<String>, AllocError>
+fn names_of(alloc: Global, config: &Config) -> Result<Vec<String>, AllocError>
     ensures { IfOk result (λ names. map string_bytes names.items ≡
-        gauge_names bridge.now.gauges) }
+        gauge_names config.now.gauges) }
 {
-    let gauges = bridge.gauges.as_slice();
+    let gauges = config.gauges.as_slice();
     let mut names = Vec::with_capacity(alloc, gauges.len())?;
     for gauge in gauges {
         names.push_reserved(String::from_str(alloc, gauge.name.as_str())?);

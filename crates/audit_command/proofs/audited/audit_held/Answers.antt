@@ -13,19 +13,19 @@ use Rattle.audit_command.proofs.audited.audit_held.Goals as goal
 
 pub first_other-requires-clause-classes : goal.first_other-requires-clause-classes
 first_other-requires-clause-classes g c =
-    subst (AreOver c.args.bridge.now) (sym c.deref.ensures.value) (are_over c.args.bridge.now g.T.Site.tells
-    (recordings c.args.bridge.now (g.T.Site.files c.args.site.now)).samples (slice_index (ends_of c.args.store.now.held))
+    subst (AreOver c.args.config.now) (sym c.deref.ensures.value) (are_over c.args.config.now g.T.Site.tells
+    (recordings c.args.config.now (g.T.Site.files c.args.site.now)).samples (slice_index (ends_of c.args.store.now.held))
     c.recount_all.new.recounts.items
     c.recount_all.ensures.counted)
 
 -- a recording is refused
 pub returns-in-Err-clause-prints : goal.returns-in-Err-clause-prints
 returns-in-Err-clause-prints g c =
-    λ writes. recounting_unprinted c.in-Err.status c.in-Err.ensures.kind c.args.bridge.now (g.O.Sink.written c.args.out.now)
+    λ writes. recounting_unprinted c.in-Err.status c.in-Err.ensures.kind c.args.config.now (g.O.Sink.written c.args.out.now)
 
 pub returns-in-Err-clause-answer : goal.returns-in-Err-clause-answer
 returns-in-Err-clause-answer g c = λ shows.
-    recounting_answers c.args.bridge.now c.args.store.now.head.heads (IsItem c.args.store.now.held) (ends_of c.args.store.now.held)
+    recounting_answers c.args.config.now c.args.store.now.head.heads (IsItem c.args.store.now.held) (ends_of c.args.store.now.held)
     (g.T.Site.files c.args.site.now) c.in-Err.status c.in-Err.ensures.kind (c.in-Err.ensures.answer shows)
 
 pub returns-in-Err-clause-kind : goal.returns-in-Err-clause-kind
@@ -37,18 +37,18 @@ returns-in-Err-clause-write g c = λ is. absurd (recounting_no_write c.in-Err.st
 pub returns-in-Err-clause-asked : goal.returns-in-Err-clause-asked
 returns-in-Err-clause-asked g c =
     recounting_asks (g.T.Site.names_asked c.args.site.now) (g.T.Site.names_asked c.recount_all.new.site)
-    (file_names c.args.bridge.now)
+    (file_names c.args.config.now)
     c.in-Err.status c.in-Err.ensures.kind c.in-Err.ensures.asked
 
 -- something differs
 pub returns-in-Some-clause-asked : goal.returns-in-Some-clause-asked
 returns-in-Some-clause-asked g c =
-    other_asks (g.T.Site.names_asked c.args.site.now) (g.T.Site.names_asked c.recount_all.new.site) (file_names c.args.bridge.now)
+    other_asks (g.T.Site.names_asked c.args.site.now) (g.T.Site.names_asked c.recount_all.new.site) (file_names c.args.config.now)
     c.in-Some.status c.in-Some.ensures.kind c.in_default-recount_all.ensures.asked
 
 pub returns-in-Some-clause-prints : goal.returns-in-Some-clause-prints
 returns-in-Some-clause-prints g c =
-    λ writes. other_unprinted c.in-Some.status c.in-Some.ensures.kind c.args.bridge.now (g.O.Sink.written c.args.out.now)
+    λ writes. other_unprinted c.in-Some.status c.in-Some.ensures.kind c.args.config.now (g.O.Sink.written c.args.out.now)
 
 pub returns-in-Some-clause-kind : goal.returns-in-Some-clause-kind
 returns-in-Some-clause-kind g c = other_kind c.in-Some.status c.in-Some.ensures.kind
@@ -61,41 +61,41 @@ returns-in-Some-clause-write g c = λ is. absurd ((other_no_fault c.in-Some.stat
 
 pub returns-in-Some-clause-answer : goal.returns-in-Some-clause-answer
 returns-in-Some-clause-answer g c = λ shows.
-    let bridge = c.args.bridge.now in
+    let config = c.args.config.now in
     let files = g.T.Site.files c.args.site.now in
     let ends = ends_of c.args.store.now.held in
-    let w = held_of (recordings c.args.bridge.now (g.T.Site.files c.args.site.now)).samples (ends_of c.args.store.now.held) in
-    let are = subst (λ (l : List Recount). AreOf c.args.bridge.now l
-    (held_of (recordings c.args.bridge.now (g.T.Site.files c.args.site.now)).samples (ends_of c.args.store.now.held)))
+    let w = held_of (recordings c.args.config.now (g.T.Site.files c.args.site.now)).samples (ends_of c.args.store.now.held) in
+    let are = subst (λ (l : List Recount). AreOf c.args.config.now l
+    (held_of (recordings c.args.config.now (g.T.Site.files c.args.site.now)).samples (ends_of c.args.store.now.held)))
     (sym c.deref.ensures.value)
-    (are_of bridge g.T.Site.tells (recordings bridge files).samples (slice_index ends) c.recount_all.new.recounts.items
+    (are_of config g.T.Site.tells (recordings config files).samples (slice_index ends) c.recount_all.new.recounts.items
     c.recount_all.ensures.counted shows) in
-    other_answers bridge c.args.store.now.head.heads (IsItem c.args.store.now.held) ends files c.in-Some.status c.in-Some.ensures.kind
+    other_answers config c.args.store.now.head.heads (IsItem c.args.store.now.held) ends files c.in-Some.status c.in-Some.ensures.kind
     (c.in_default-recount_all.ensures.answer shows, c.in-Some.ensures.finds w are)
 
 -- nothing differs
 pub returns-in-Ok-print_same-clause-answer : goal.returns-in-Ok-print_same-clause-answer
 returns-in-Ok-print_same-clause-answer g c = λ shows.
-    let bridge = c.args.bridge.now in
+    let config = c.args.config.now in
     let files = g.T.Site.files c.args.site.now in
     let ends = ends_of c.args.store.now.held in
-    let w = held_of (recordings c.args.bridge.now (g.T.Site.files c.args.site.now)).samples (ends_of c.args.store.now.held) in
-    let are = subst (λ (l : List Recount). AreOf c.args.bridge.now l
-    (held_of (recordings c.args.bridge.now (g.T.Site.files c.args.site.now)).samples (ends_of c.args.store.now.held)))
+    let w = held_of (recordings c.args.config.now (g.T.Site.files c.args.site.now)).samples (ends_of c.args.store.now.held) in
+    let are = subst (λ (l : List Recount). AreOf c.args.config.now l
+    (held_of (recordings c.args.config.now (g.T.Site.files c.args.site.now)).samples (ends_of c.args.store.now.held)))
     (sym c.deref.ensures.value)
-    (are_of bridge g.T.Site.tells (recordings bridge files).samples (slice_index ends) c.recount_all.new.recounts.items
+    (are_of config g.T.Site.tells (recordings config files).samples (slice_index ends) c.recount_all.new.recounts.items
     c.recount_all.ensures.counted shows) in
     (c.in_default-recount_all.ensures.answer shows, c.in_default-first_other.ensures.finds w are)
 
 pub returns-clause-answer : goal.returns-clause-answer
 returns-clause-answer g c = λ shows.
-    let bridge = c.args.bridge.now in
+    let config = c.args.config.now in
     let files = g.T.Site.files c.args.site.now in
     let ends = ends_of c.args.store.now.held in
-    let w = held_of (recordings c.args.bridge.now (g.T.Site.files c.args.site.now)).samples (ends_of c.args.store.now.held) in
-    let are = subst (λ (l : List Recount). AreOf c.args.bridge.now l
-    (held_of (recordings c.args.bridge.now (g.T.Site.files c.args.site.now)).samples (ends_of c.args.store.now.held)))
+    let w = held_of (recordings c.args.config.now (g.T.Site.files c.args.site.now)).samples (ends_of c.args.store.now.held) in
+    let are = subst (λ (l : List Recount). AreOf c.args.config.now l
+    (held_of (recordings c.args.config.now (g.T.Site.files c.args.site.now)).samples (ends_of c.args.store.now.held)))
     (sym c.deref.ensures.value)
-    (are_of bridge g.T.Site.tells (recordings bridge files).samples (slice_index ends) c.recount_all.new.recounts.items
+    (are_of config g.T.Site.tells (recordings config files).samples (slice_index ends) c.recount_all.new.recounts.items
     c.recount_all.ensures.counted shows) in
     (c.in_default-recount_all.ensures.answer shows, c.in_default-first_other.ensures.finds w are)

@@ -1,4 +1,4 @@
-use Rattle.std.proofs.Common.{◌≡◌, ◌≢◌, ◌⊎◌, inr, ℕ, List, [], ◌∷◌, ◌++◌, length, sym, ◌∙◌, ap, subst, arith, refl}
+use Rattle.std.proofs.Common.{◌≡◌, inr, ℕ, List, [], length, sym, ◌∙◌, ap, subst, arith, refl}
 use Rattle.std.specs.Prelude.{Err}
 use Rattle.outside.proofs.Faults.{rose_more}
 use Rattle.outside.proofs.on_station.Told.{last_after}
@@ -47,9 +47,9 @@ returns-in-Err-resume-clause-run g c =
     (λ tells. last_after _ _ _ _ _ _ (fault_line c.status_of-status.result []) c.resume.ensures.later (quiet tells).told_same
     (end.last tells (λ done. subst IsEarly done early)))
     refl (λ names has. has) refl
-    (λ tells reads. rw is (by_refused _ c.in-Ok-read_config.bridge (means reads) (g.K.Station.seen c.args.station.now) (g.T.Site.files c.args.site.now)
+    (λ tells reads. rw is (by_refused _ c.in-Ok-read_config.config (means reads) (g.K.Station.seen c.args.station.now) (g.T.Site.files c.args.site.now)
     (λ (store : StoreValue). (store.place, ends_of store.held)) f (refused.answer tells)))
-    (λ tells reads sound config station.
+    (λ tells reads sound source station.
     let r = subst (λ (x : Config). IsAudited x (g.K.Station.seen c.args.station.now) (g.T.Site.files c.args.site.now))
     (same_ok sound.1 (means reads)) sound.2 in
     rw is (refused_complete StoreValue f _ _ _ (refused.unharmed tells r.0.head r.0.bodies r.0.ends r.0.of_setup r.0.reads)
@@ -64,30 +64,30 @@ returns-clause-run g c =
     let s = c.audit_held-status.result in
     let run = c.audit_held-status.ensures in
     let end = c.tell_fault-2.ensures in
-    let bridge = c.in-Ok-read_config.bridge in
+    let config = c.in-Ok-read_config.config in
     let means = c.in-Ok-read_config.ensures.meaning in
     let files = g.T.Site.files c.args.site.now in
     let mid = c.resume.new.station in
     let quiet = c.resume.ensures.quiet in
     let store = c.in-Ok-resume.store in
     let resumed = c.in-Ok-resume.ensures in
-    let many : length store.held ≡ length bridge.gauges = resumed.gauges ∙ c.in-Ok-read_config.ensures.valid.gains in
+    let many : length store.held ≡ length config.gauges = resumed.gauges ∙ c.in-Ok-read_config.ensures.valid.gains in
     record {
       answer_is = λ tells shows reads.
           let there = resumed.on tells in
-          answers_over _ bridge (k.seen c.args.station.now) files (means reads)
-          (read_as store there.0 (k.seen mid) (k.leaves mid) there.1 bridge.setup _ resumed.setup (quiet tells).seen_same) s run.kind
-          (answers_by bridge store.head.heads (IsItem store.held) (HasKept there.0) (ends_of store.held) files
+          answers_over _ config (k.seen c.args.station.now) files (means reads)
+          (read_as store there.0 (k.seen mid) (k.leaves mid) there.1 config.setup _ resumed.setup (quiet tells).seen_same) s run.kind
+          (answers_by config store.head.heads (IsItem store.held) (HasKept there.0) (ends_of store.held) files
           (λ h v lt is. items_keep store there.0 (k.seen mid) (k.leaves mid) there.1 h v (omega (arith, lt, many)) is) s run.kind
           (run.answer shows));
-      complete = λ tells shows reads sound config site station out.
+      complete = λ tells shows reads sound source site station out.
           let is = subst (λ (x : Config). IsAudited x (k.seen c.args.station.now) files) (same_ok sound.1 (means reads)) sound.2 in
           let r = is.0 in
           let found = resumed.reads tells r.head r.bodies r.ends r.of_setup r.reads in
-          held_complete bridge r.head.heads r.bodies r.ends files s run.kind
-          (subst (λ (x : HeadValue). HeldAnswers bridge x.heads (HasKept r.bodies) r.ends files s) found.0
-          (subst (λ (e : List ℕ). HeldAnswers bridge store.head.heads (HasKept r.bodies) e files s) found.1
-          (answers_by bridge store.head.heads (IsItem store.held) (HasKept r.bodies) (ends_of store.held) files
+          held_complete config r.head.heads r.bodies r.ends files s run.kind
+          (subst (λ (x : HeadValue). HeldAnswers config x.heads (HasKept r.bodies) r.ends files s) found.0
+          (subst (λ (e : List ℕ). HeldAnswers config store.head.heads (HasKept r.bodies) e files s) found.1
+          (answers_by config store.head.heads (IsItem store.held) (HasKept r.bodies) (ends_of store.held) files
           (λ j v lt item. items_keep store r.bodies (k.seen mid) (k.leaves mid) found.2 j v (omega (arith, lt, many)) item) s run.kind
           (run.answer shows))))
           is.1 is.2 (λ e. site (run.read e)) (λ e. out (run.write e));
@@ -95,15 +95,15 @@ returns-clause-run g c =
           let same = same_ok is (means reads) in
           let h = subst (λ (y : Config). Holds y.setup w n (k.seen c.args.station.now)) same holds in
           let found = resumed.reads tells h.head h.bodies n h.of_setup h.reads in
-          rw same (subst (λ (e : List ℕ). FindsDifference bridge (IsStanding bridge (held_of w e))
-          (held_of (recordings bridge files).samples e) s) found.1
-          (finds_by bridge (IsItem store.held) (IsStanding bridge (held_of w (ends_of store.held)))
-          (held_of (recordings bridge files).samples (ends_of store.held))
-          (λ j v lt item. items_stand store h.bodies (k.seen mid) (k.leaves mid) found.2 bridge w resumed.setup h.stand j v
+          rw same (subst (λ (e : List ℕ). FindsDifference config (IsStanding config (held_of w e))
+          (held_of (recordings config files).samples e) s) found.1
+          (finds_by config (IsItem store.held) (IsStanding config (held_of w (ends_of store.held)))
+          (held_of (recordings config files).samples (ends_of store.held))
+          (λ j v lt item. items_stand store h.bodies (k.seen mid) (k.leaves mid) found.2 config w resumed.setup h.stand j v
           (omega (arith, lt, many)) item)
-          s (finds_of bridge store.head.heads (IsItem store.held) (ends_of store.held) files s run.kind (run.answer shows))));
+          s (finds_of config store.head.heads (IsItem store.held) (ends_of store.held) files s run.kind (run.answer shows))));
       prints = λ writes reads x is. rw (same_ok is (means reads)) (run.prints writes);
-      nothing = λ writes other. not_printed bridge _ _ s run.kind other (run.prints writes);
+      nothing = λ writes other. not_printed config _ _ s run.kind other (run.prints writes);
       quiet = λ tells reads. rw (means reads, ← c.name_in.ensures)
           (quiet_tells _ _ _ _ _ _ _ _ _ _ _ _ _ _ _ _ (quiet tells) (end.tells tells));
       silent = λ tells done. end.nothing tells done ∙ (quiet tells).told_same;

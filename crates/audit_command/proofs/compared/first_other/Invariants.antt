@@ -5,4 +5,4 @@ use Rattle.audit_command.proofs.compared.first_other.Given as goal
 
 -- nothing differs in the gauges before this one
 abbrev pub invariant-loop-gauge : goal.invariant-loop-gauge
-invariant-loop-gauge l = (w : ℕ → List ℤ) → AreOf l.bridge l.recounts w → AllSame l.bridge (IsItem l.store.held) w l.gauge
+invariant-loop-gauge l = (w : ℕ → List ℤ) → AreOf l.config l.recounts w → AllSame l.config (IsItem l.store.held) w l.gauge

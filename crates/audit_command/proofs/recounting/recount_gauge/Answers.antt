@@ -18,10 +18,10 @@ recount_source-answer-requires-clause-few g c κs within =
 
 pub returns-clause-answer : goal.returns-clause-answer
 returns-clause-answer g c = λ shows.
-    gauge_answers c.args.bridge.now c.args.store.now.head.heads (slice_index (ends_of c.args.store.now.held))
+    gauge_answers c.args.config.now c.args.store.now.head.heads (slice_index (ends_of c.args.store.now.held))
     (g.T.Site.files c.args.site.now) c.args.gauge
     (omega (arith, c.requires.known, c.requires.heads)) _ _ (c.in-Ok.ensures.file shows)
-    (file_is c.args.bridge.now c.args.gauge _ _ _ c.requires.known c.as_slice.ensures c.as_str-name.ensures) c.as_slice-2.result.now _ _
+    (file_is c.args.config.now c.args.gauge _ _ _ c.requires.known c.as_slice.ensures c.as_str-name.ensures) c.as_slice-2.result.now _ _
     (c.as_slice-2.ensures ∙ ap (λ (h : HeadValue). h.heads) c.head.ensures)
     (ap (λ (x : Name). x.to) c.name.ensures.value ∙ c.held.ensures.end)
     c.recount_source-answer.result (c.recount_source-answer.ensures.answer (c.in-Ok.ensures.source_tells shows))
@@ -29,27 +29,27 @@ returns-clause-answer g c = λ shows.
 pub returns-clause-counted : goal.returns-clause-counted
 returns-clause-counted g c =
     let files = g.T.Site.files c.args.site.now in
-    recounted_first c.args.bridge.now g.T.Site.tells g.T.Src.Source.tells
-    (recordings c.args.bridge.now (g.T.Site.files c.args.site.now)).samples
+    recounted_first c.args.config.now g.T.Site.tells g.T.Src.Source.tells
+    (recordings c.args.config.now (g.T.Site.files c.args.site.now)).samples
     (slice_index (ends_of c.args.store.now.held)) c.args.gauge _ (samples (body_in (Some (g.T.Src.Source.left c.in-Ok.src))))
     c.name.result.to
     c.recount_source-answer.result
-    (gain_is c.args.bridge.now c.args.gauge c.as_slice-3.result.now c.index-as_slice-gauge-2.result
-    (omega (arith, c.requires.known, c.requires.bridge.gains))
+    (gain_is c.args.config.now c.args.gauge c.as_slice-3.result.now c.index-as_slice-gauge-2.result
+    (omega (arith, c.requires.known, c.requires.config.gains))
     c.as_slice-3.ensures c.index-as_slice-gauge-2.is) (ap (λ (x : Name). x.to) c.name.ensures.value ∙ c.held.ensures.end)
     c.in-Ok.ensures.source_tells
     (λ shows. ap (λ (o : Option (List ℕ)). samples (body_in o)) (sym (ap files
-    (file_is c.args.bridge.now c.args.gauge _ _ _ c.requires.known c.as_slice.ensures c.as_str-name.ensures) ∙ c.in-Ok.ensures.file shows)))
+    (file_is c.args.config.now c.args.gauge _ _ _ c.requires.known c.as_slice.ensures c.as_str-name.ensures) ∙ c.in-Ok.ensures.file shows)))
     c.recount_source-answer.ensures.counted
 
 pub returns-in-Err-clause-asked : goal.returns-in-Err-clause-asked
 returns-in-Err-clause-asked g c =
-    asks_file c.args.bridge.now c.args.gauge _ _ _ c.requires.known c.as_slice.ensures c.as_str-name.ensures
+    asks_file c.args.config.now c.args.gauge _ _ _ c.requires.known c.as_slice.ensures c.as_str-name.ensures
     (g.T.Site.names_asked c.args.site.now) (g.T.Site.names_asked c.fetch.new.self) c.fetch.ensures.asked
 
 pub returns-clause-asked : goal.returns-clause-asked
 returns-clause-asked g c =
     let asked = g.T.Site.names_asked in
-    asks_no_more (asked c.args.site.now) (asked c.fetch.new.self) (asked c.give_back.new.self) (file_of c.args.bridge.now c.args.gauge ∷ [])
-    (asks_file c.args.bridge.now c.args.gauge _ _ _ c.requires.known c.as_slice.ensures c.as_str-name.ensures (asked c.args.site.now)
+    asks_no_more (asked c.args.site.now) (asked c.fetch.new.self) (asked c.give_back.new.self) (file_of c.args.config.now c.args.gauge ∷ [])
+    (asks_file c.args.config.now c.args.gauge _ _ _ c.requires.known c.as_slice.ensures c.as_str-name.ensures (asked c.args.site.now)
     (asked c.fetch.new.self) c.fetch.ensures.asked) c.give_back.ensures.asked

@@ -9,7 +9,7 @@ use Rattle.audit_command.proofs.same_lines.print_same.Given as goal
 abbrev pub invariant-loop-gauge : goal.invariant-loop-gauge
 invariant-loop-gauge g l = record {
   room : l.line.room ≡ MAX_LINE_BYTES;
-  printed : g.O.Sink.tells → IsPrinted (g.O.Sink.written l.fn.out) (g.O.Sink.written l.out) (same_lines l.bridge)
-      (lines_from (line_of_gauge l.bridge) l.gauge (length l.bridge.gauges - l.gauge));
+  printed : g.O.Sink.tells → IsPrinted (g.O.Sink.written l.fn.out) (g.O.Sink.written l.out) (same_lines l.config)
+      (lines_from (line_of_gauge l.config) l.gauge (length l.config.gauges - l.gauge));
   later : g.O.Sink.faults l.fn.out ≤ g.O.Sink.faults l.out;
 }

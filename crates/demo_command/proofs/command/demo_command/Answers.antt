@@ -1,4 +1,4 @@
-use Rattle.std.proofs.Common.{◌≡◌, ◌≢◌, List, ℕ, refl, sym, subst}
+use Rattle.std.proofs.Common.{◌≢◌, refl, sym, subst}
 use Rattle.status.specs.declared.status.Status.TheVariants.{Done, WriteFault}
 use Rattle.status.proofs.AnswerCases.{by_printing}
 use Rattle.demo_command.specs.Answer.{IsDemoAnswer}

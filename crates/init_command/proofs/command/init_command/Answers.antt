@@ -45,7 +45,7 @@ returns-in-Err-read_heads-clause-run g c =
     (λ tells. g.met.K.Station.seen_counts tells c.args.station.now)
     (λ reads. rw (means reads) (ap (fault_line s) c.name_in.ensures)) c.tell_fault-in-Err-read_heads.ensures.tells
     (λ tells. c.tell_fault-in-Err-read_heads.ensures.last tells (λ done. subst IsHeadsStatus done heads.kind))
-    (λ tells shows reads. heads_answer _ c.in-Ok-read_config.bridge (means reads) (g.T.Site.files c.args.site.now)
+    (λ tells shows reads. heads_answer _ c.in-Ok-read_config.config (means reads) (g.T.Site.files c.args.site.now)
     (g.K.Station.seen c.args.station.now) s heads.kind (heads.answer shows))
     (λ is. inr (heads.cause (ap Err is))) (λ other. heads.steady (λ is. other cc)) (λ reads. rw (means reads) heads.asked)
 
@@ -55,7 +55,7 @@ returns-clause-run g c =
     let k = g.K.Station in
     let s = c.make_store-status.result in
     let files = g.T.Site.files c.args.site.now in
-    let bridge = c.in-Ok-read_config.bridge in
+    let config = c.in-Ok-read_config.config in
     let heads = c.in-Ok-read_heads.heads in
     let are = c.in-Ok-read_heads.ensures in
     let read = config_of_bytes (g.C.Source.left c.args.config.now) in
@@ -68,7 +68,7 @@ returns-clause-run g c =
     let end = c.tell_fault-2.ensures in
     let before = shown_by g.C.Source g.T.Site k no_output c.args.config.now c.args.site.now old tt in
     let after = shown_by g.C.Source g.T.Site k no_output c.read_config.new.config c.read_heads.new.site new tt in
-    let line : g.C.Source.tells → line_for before s ≡ fault_line s [] = λ reads. ap (fault_line s) (no_name read bridge (means reads) s
+    let line : g.C.Source.tells → line_for before s ≡ fault_line s [] = λ reads. ap (fault_line s) (no_name read config (means reads) s
     run.kind) in
     let gauges = ap init_line c.in-Ok-read_config.ensures.valid.gains in
     let at_most : g.C.Source.tells → k.tells → IsQuiet (k.clock old) (k.moments old) (k.clock mid) (k.moments mid) (k.told old) (k.told mid)
@@ -80,11 +80,11 @@ returns-clause-run g c =
     λ tells shows reads x is none.
     let made = run.any_moment tells none in
     rw (line reads, one_config is (means reads))
-    (then_last bridge files (k.told old) (fault_line s []) heads (are.answer shows) (k.clock old) (k.clock mid)
-    (k.clock new) (k.moments old) (k.moments mid) (k.moments new) (init_line (length bridge.setup.gains)) (k.told mid) (k.leaves mid)
+    (then_last config files (k.told old) (fault_line s []) heads (are.answer shows) (k.clock old) (k.clock mid)
+    (k.clock new) (k.moments old) (k.moments mid) (k.moments new) (init_line (length config.setup.gains)) (k.told mid) (k.leaves mid)
     gauges made (λ image has. g.met.K.Station.counts_now tells mid (k.clock old) image made.later has) (end.tells tells).run) in
     let answers : k.tells → g.T.Site.tells → g.C.Source.tells → InitAnswers read files (k.seen old) s = λ tells shows reads.
-    made_answer read bridge (means reads) files (k.seen old) heads (are.answer shows) s run.kind (run.answer tells) in
+    made_answer read config (means reads) files (k.seen old) heads (are.answer shows) s run.kind (run.answer tells) in
     record {
       made = λ tells shows reads done x is.
           let made = run.made tells done in
@@ -114,5 +114,5 @@ returns-clause-run g c =
       steady = λ other. are.steady (λ is. absurd cc);
       disk = λ is. rose_more _ _ _ (run.disk is) end.later;
       asked = λ reads. rw (means reads)
-          (making_asks (asked c.args.site.now) (asked c.read_heads.new.site) (file_names bridge) are.asked s run.kind);
+          (making_asks (asked c.args.site.now) (asked c.read_heads.new.site) (file_names config) are.asked s run.kind);
     }

@@ -19,10 +19,10 @@ pub returns-in-Err-clause-answer : goal.returns-in-Err-clause-answer
 returns-in-Err-clause-answer g c = λ shows.
     let was = c.loop-gauge.invariant in
     let n = slice_index (ends_of c.args.store.now.held) in
-    open_refused (Lane g.row.T-Src.Denot) c.args.bridge.now c.args.store.now.head.heads n (g.T.Site.files c.args.site.now)
+    open_refused (Lane g.row.T-Src.Denot) c.args.config.now c.args.store.now.head.heads n (g.T.Site.files c.args.site.now)
     c.loop-gauge.gauge
     (omega (arith, ap length c.as_slice-gauge-end.ensures)) (was.sound shows) c.in-Err.status
-    (subst (λ (f : Files). GaugeAnswers {A = Lane g.row.T-Src.Denot} c.args.bridge.now c.args.store.now.head.heads n f c.loop-gauge.gauge
+    (subst (λ (f : Files). GaugeAnswers {A = Lane g.row.T-Src.Denot} c.args.config.now c.args.store.now.head.heads n f c.loop-gauge.gauge
     (Err c.in-Err.status)) (was.files shows) (c.in-Err.ensures.answer shows))
 
 pub loop-gauge-preserved : goal.loop-gauge-preserved
@@ -35,7 +35,7 @@ loop-gauge-preserved g c =
     let is = c.push_reserved.ensures.items in
     let long : c.loop-gauge.gauge ≡ length old = omega (arith, was.many, c.loop-gauge.lanes.ok.0) in
     let n = slice_index (ends_of c.args.store.now.held) in
-    let r = recordings c.args.bridge.now (g.T.Site.files c.args.site.now) in
+    let r = recordings c.args.config.now (g.T.Site.files c.args.site.now) in
     let asked = g.T.Site.names_asked in
     record {
       out = omega (arith, now.one_more, was.out, c.push_reserved.ensures.len);
@@ -49,13 +49,13 @@ loop-gauge-preserved g c =
       source_tells = λ shows some. now.source_tells shows;
       lanes = λ shows. each_more (λ (k : ℕ) (x : Lane g.row.T-Src.Denot). IsLane g.T.Src.Source.tells g.T.Src.Source.left r k x) old more l
           c.loop-gauge.gauge is long (was.lanes shows)
-          (subst (λ (f : Files). IsLane g.T.Src.Source.tells g.T.Src.Source.left (recordings c.args.bridge.now f) c.loop-gauge.gauge l)
+          (subst (λ (f : Files). IsLane g.T.Src.Source.tells g.T.Src.Source.left (recordings c.args.config.now f) c.loop-gauge.gauge l)
           (was.files shows) (now.lane shows));
-      sound = λ shows. all_more_opened c.args.bridge.now c.args.store.now.head.heads n (g.T.Site.files c.args.site.now) c.loop-gauge.gauge
+      sound = λ shows. all_more_opened c.args.config.now c.args.store.now.head.heads n (g.T.Site.files c.args.site.now) c.loop-gauge.gauge
           (was.sound shows)
-          (subst (λ (f : Files). FaultOf c.args.bridge.now c.args.store.now.head.heads n f c.loop-gauge.gauge None) (was.files shows)
+          (subst (λ (f : Files). FaultOf c.args.config.now c.args.store.now.head.heads n f c.loop-gauge.gauge None) (was.files shows)
           (now.answer shows));
-      asked = asks_more c.args.bridge.now c.loop-gauge.gauge (asked c.args.site.now) (asked c.loop-gauge.site) was.asked
+      asked = asks_more c.args.config.now c.loop-gauge.gauge (asked c.args.site.now) (asked c.loop-gauge.site) was.asked
           (asked c.open_lane.new.site) (omega (arith, ap length c.as_slice-gauge-end.ensures)) c.open_lane.ensures.asked;
       files = λ shows. c.open_lane.ensures.files shows ∙ was.files shows;
       faults = c.open_lane.ensures.steady (λ e. absurd cc) ∙ was.faults;
@@ -70,12 +70,12 @@ returns-clause-answer g c =
 pub returns-in-Err-clause-asked : goal.returns-in-Err-clause-asked
 returns-in-Err-clause-asked g c =
     let asked = g.T.Site.names_asked in
-    refused_asks c.loop-gauge.gauge (asked c.args.site.now) (asked c.open_lane.new.site) (file_names c.args.bridge.now)
-    (up_to c.args.bridge.now c.loop-gauge.gauge (asked c.args.site.now) (asked c.loop-gauge.site) c.loop-gauge.invariant.asked
+    refused_asks c.loop-gauge.gauge (asked c.args.site.now) (asked c.open_lane.new.site) (file_names c.args.config.now)
+    (up_to c.args.config.now c.loop-gauge.gauge (asked c.args.site.now) (asked c.loop-gauge.site) c.loop-gauge.invariant.asked
     (asked c.open_lane.new.site) (omega (arith, ap length c.as_slice-gauge-end.ensures)) c.open_lane.ensures.asked)
     c.in-Err.status c.in-Err.ensures.own
 
 pub returns-clause-asked : goal.returns-clause-asked
 returns-clause-asked g c =
-    all_asked c.args.bridge.now c.loop-gauge.gauge (g.T.Site.names_asked c.args.site.now) (g.T.Site.names_asked c.loop-gauge.site)
+    all_asked c.args.config.now c.loop-gauge.gauge (g.T.Site.names_asked c.args.site.now) (g.T.Site.names_asked c.loop-gauge.site)
     c.loop-gauge.invariant.asked (omega (arith, c.loop-gauge-test.false, ap length c.as_slice-gauge-end.ensures))

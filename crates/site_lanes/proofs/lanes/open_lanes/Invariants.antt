@@ -21,9 +21,9 @@ invariant-loop-gauge g l =
       new : All IsNew l.lanes.items;
       held : AreHeldTo (ends_of l.store.held) l.lanes.items;
       source_tells : t.tells → 0 < l.gauge → g.T.Src.Source.tells;
-      lanes : t.tells → AreLanes g.T.Src.Source.tells g.T.Src.Source.left (recordings l.bridge (t.files l.fn.site)) l.lanes.items;
-      sound : t.tells → AllOpened l.bridge l.store.head.heads (slice_index (ends_of l.store.held)) (t.files l.fn.site) l.gauge;
-      asked : Asks (t.names_asked l.fn.site) (t.names_asked l.site) (take l.gauge (file_names l.bridge));
+      lanes : t.tells → AreLanes g.T.Src.Source.tells g.T.Src.Source.left (recordings l.config (t.files l.fn.site)) l.lanes.items;
+      sound : t.tells → AllOpened l.config l.store.head.heads (slice_index (ends_of l.store.held)) (t.files l.fn.site) l.gauge;
+      asked : Asks (t.names_asked l.fn.site) (t.names_asked l.site) (take l.gauge (file_names l.config));
       files : t.tells → t.files l.site ≡ t.files l.fn.site;
       faults : t.faults l.site ≡ t.faults l.fn.site;
       fresh : All (HasNoFaults g.T.Src.Source.faults) l.lanes.items;

@@ -1,8 +1,7 @@
-use Rattle.std.proofs.Common.{◌≡◌, ◌≢◌, ◌⊎◌, ℕ, List, [], inl, inr, ⊎_elim, refl, sym, ◌∙◌, ap, subst}
-use Rattle.std.specs.Prelude.{Ok, Err}
+use Rattle.std.proofs.Common.{◌≡◌, ◌≢◌, ◌⊎◌, ℕ, List, [], inl, inr, ⊎_elim, refl, ap, subst}
+use Rattle.std.specs.Prelude.{Err}
 use Rattle.lemmas.proofs.Outcomes.{same_ok}
 use Rattle.site_config.specs.Configuration.{config_of_bytes}
-use Rattle.site_config.specs.declared.config.Config.{Config}
 use Rattle.site_config.specs.recorded.Asked.{file_names}
 use Rattle.status.specs.config_reading.Reading.{IsRefusal}
 use Rattle.status.specs.declared.status.Status.{Status}
@@ -51,14 +50,14 @@ returns-clause-run g c =
     let run = c.write_sheet-status.ensures in
     let end = c.tell_fault-2.ensures in
     let all = c.in-Ok-read_recordings.ensures in
-    let bridge = c.in-Ok-read_config.bridge in
+    let config = c.in-Ok-read_config.config in
     let read = config_of_bytes (g.C.Source.left c.args.config.now) in
     let means = c.in-Ok-read_config.ensures.meaning in
     let files = g.T.Site.files c.args.site.now in
     let asked = g.T.Site.names_asked in
     let old = g.O.Sink.written c.args.out.now in
     let new = g.O.Sink.written c.write_sheet-status.new.out in
-    let named : name_for bridge s ≡ [] = by_printed (λ x. name_for bridge x ≡ []) refl refl refl s run.kind in
+    let named : name_for config s ≡ [] = by_printed (λ x. name_for config x ≡ []) refl refl refl s run.kind in
     let may : g.T.Site.tells → g.C.Source.tells → MayAnswer (sheet_answer read files) s = λ shows reads.
     rw (means reads, all.sound shows) (by_printed (MayAnswer Done) refl refl tt s run.kind) in
     let not_read = printing_no_read s run.kind in
@@ -74,12 +73,12 @@ returns-clause-run g c =
           (⊎_elim (λ rose. inl rose) (λ is. inr (g.K.Station.told c.args.station.now, is)) (end.last tells other));
       named = by_printed (λ x. x ≢ Usage) (λ is. cc) (λ is. cc) (λ is. cc) s run.kind;
       answer_is = may;
-      complete = λ shows reads config site out.
+      complete = λ shows reads source site out.
           by_printed (λ x. MayAnswer (sheet_answer read files) x → x ≢ WriteFault → (x ≡ sheet_answer read files) ⊎ (x ≡ OutOfMemory))
           (λ m w. inl m) (λ m w. absurd (w refl)) (λ m w. inr refl) s run.kind (may shows reads) (λ e. out (run.write e));
       read = λ is. absurd (not_read is);
       steady = λ other. all.steady (λ is. absurd cc);
       write = run.write;
       asked = λ reads. rw (means reads)
-          (printing_asks (asked c.args.site.now) (asked c.read_recordings.new.site) (file_names bridge) all.asked s run.kind);
+          (printing_asks (asked c.args.site.now) (asked c.read_recordings.new.site) (file_names config) all.asked s run.kind);
     }

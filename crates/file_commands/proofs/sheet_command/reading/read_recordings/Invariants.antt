@@ -9,15 +9,15 @@ use Rattle.file_commands.proofs.sheet_command.reading.read_recordings.Given as g
 abbrev pub invariant-loop-number : goal.invariant-loop-number
 invariant-loop-number g l = record {
   read : g.T.Site.tells → map (λ w. w.items) l.recordings.items
-      ++ recordings_of (drop l.number l.bridge.gauges) (g.T.Site.files l.fn.site) ≡
-      recordings_of l.bridge.gauges (g.T.Site.files l.fn.site);
-  sound : g.T.Site.tells → answer_from l.number (states_of (drop l.number l.bridge.gauges) (g.T.Site.files l.fn.site))
-      ≡ answer_over l.bridge
+      ++ recordings_of (drop l.number l.config.gauges) (g.T.Site.files l.fn.site) ≡
+      recordings_of l.config.gauges (g.T.Site.files l.fn.site);
+  sound : g.T.Site.tells → answer_from l.number (states_of (drop l.number l.config.gauges) (g.T.Site.files l.fn.site))
+      ≡ answer_over l.config
       (g.T.Site.files l.fn.site);
   many : length l.recordings.items ≡ l.number;
-  room : length l.bridge.gauges ≤ vec_capacity l.recordings;
+  room : length l.config.gauges ≤ vec_capacity l.recordings;
   steady : g.T.Site.faults l.site ≡ g.T.Site.faults l.fn.site;
-  asked : Asks (g.T.Site.names_asked l.fn.site) (g.T.Site.names_asked l.site) (take l.number (file_names l.bridge));
+  asked : Asks (g.T.Site.names_asked l.fn.site) (g.T.Site.names_asked l.site) (take l.number (file_names l.config));
   back : g.T.Site.out l.site ≡ 0;
   files : g.T.Site.tells → g.T.Site.files l.site ≡ g.T.Site.files l.fn.site;
 }
