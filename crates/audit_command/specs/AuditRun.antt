@@ -1,9 +1,8 @@
 -- What a run of `audit` did.
-use Rattle.std.specs.Prelude.{◌≡◌, ◌≢◌, ◌⊎◌, ℕ, ℤ, List, ◌∷◌, [], ◌++◌, Ok}
+use Rattle.std.specs.Prelude.{◌≡◌, ◌≢◌, ◌⊎◌, ℕ, ℤ, List, ◌∷◌, [], ◌++◌}
 use Rattle.outside.specs.Fault.{CountRose}
 use Rattle.segment_store.specs.Holds.{Holds, held_of}
 use Rattle.site_config.specs.Configuration.{config_of_bytes}
-use Rattle.site_config.specs.declared.config.Config.{Config}
 use Rattle.site_config.specs.recorded.Recorded.{recordings}
 use Rattle.site_config.specs.recorded.Asked.{names_in}
 use Rattle.status.specs.declared.status.Status.{Status}
@@ -13,7 +12,7 @@ use Rattle.audit_command.specs.Answers.{AuditAnswers, IsSound}
 use Rattle.audit_command.specs.Asked.{AuditAsks}
 use Rattle.audit_command.specs.Audited.{FindsDifference, IsStanding}
 use Rattle.audit_command.specs.Printing.{Prints}
-use Rattle.status.specs.Shown.{Shown, Tells, line_for}
+use Rattle.status.specs.Shown.{Shown, ByConfig, Tells, line_for}
 
 -- From what is shown before it to what is shown after it.
 pub record AuditRuns (before after : Shown) (answer : Status) : Type 0 where
@@ -27,12 +26,11 @@ pub record AuditRuns (before after : Shown) (answer : Status) : Type 0 where
       ¬ CountRose before.station_faults after.station_faults → ¬ CountRose before.output_faults after.output_faults →
       (answer ≡ Done) ⊎ (answer ≡ OutOfMemory)
   -- Where the bodies stand for samples, these are compared with what the recording begins with.
-  pub stands : before.station_tells → before.site_tells → before.config_tells → (c : Config) →
-      config_of_bytes before.config ≡ Ok c → (w : ℕ → List ℤ) (n : List ℕ) → Holds c.setup w n before.seen →
-      FindsDifference c (IsStanding c (held_of w n)) (held_of (recordings c before.files).samples n) answer
+  pub stands : before.station_tells → before.site_tells → ByConfig before (λ c. (w : ℕ → List ℤ) (n : List ℕ) →
+      Holds c.setup w n before.seen →
+      FindsDifference c (IsStanding c (held_of w n)) (held_of (recordings c before.files).samples n) answer)
   -- With `Done` a line for each gauge is printed, with `WriteFault` a front of them.
-  pub prints : before.output_tells → before.config_tells → (c : Config) →
-      config_of_bytes before.config ≡ Ok c → Prints answer c before.written after.written
+  pub prints : before.output_tells → ByConfig before (λ c. Prints answer c before.written after.written)
   -- With any other answer nothing is printed.
   pub nothing : before.output_tells → ¬ IsPrinting answer → after.written ≡ before.written
   -- At most the line of the answer is told, and the store stays.

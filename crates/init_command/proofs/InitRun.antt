@@ -34,8 +34,8 @@ module _ (before after : Shown) (s : Status) where
   left_unmade line unmade kind counts is told ends answers cause none asks =
       let tells : before.station_tells → before.config_tells → Tells (line_for before s) before after = λ k c. rw (← is c) (told k) in
       record {
-        made = λ k t c done. absurd (subst IsUnmade done unmade);
-        told = λ k c done. absurd (subst IsUnmade done unmade);
+        made = λ k t c config is done. absurd (subst IsUnmade done unmade);
+        told = λ k c config is done. absurd (subst IsUnmade done unmade);
         any_moment = λ k t c config reads empty. last_alone config before.files before.told (line_for before s) before.clock after.clock
             before.moments after.moments before.leaves empty (tells k c).run;
         ended = λ k t c config reads empty. inl (

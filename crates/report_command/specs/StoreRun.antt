@@ -5,7 +5,7 @@
 --   without_site   the same, of all that is shown
 --   StoreRuns      what it wrote, that it told its answer's line at most, and that its answer has its cause
 --   IsUntold       the same by a configuration, before anything is told
-use Rattle.std.specs.Prelude.{◌≡◌, ◌≢◌, ◌≤◌, ◌⊎◌, ◌++◌, ℕ, List, [], ◌∷◌, None, Ok}
+use Rattle.std.specs.Prelude.{◌≡◌, ◌≢◌, ◌≤◌, ◌⊎◌, ◌++◌, ℕ, List, [], ◌∷◌, None}
 use Rattle.outside.specs.Fault.{CountRose}
 use Rattle.outside.specs.declared.source.Source as source
 use Rattle.outside.specs.declared.site.Site as site
@@ -20,7 +20,7 @@ use Rattle.status.specs.fault_lines.FaultLine.{fault_line}
 use Rattle.status.specs.declared.status.Status.{Status}
 use Rattle.status.specs.declared.status.Status.TheVariants.{Done, ReadFault, WriteFault, DiskFault, OutOfMemory}
 use Rattle.status.specs.Printing.{IsPrinting, IsReporting}
-use Rattle.status.specs.Shown.{Shown, shown_by, Tells}
+use Rattle.status.specs.Shown.{Shown, ByConfig, shown_by, Tells}
 use Rattle.report_command.specs.Answers.{IsSound, ReportAnswers, MayAnswerOver}
 
 abbrev pub Writing : Type 1
@@ -39,9 +39,8 @@ without_site shown =
 
 pub record StoreRuns (Writes : Writing) (before after : Shown) (answer : Status) : Type 0 where
   -- With `Done` and `WriteFault` it wrote what it has to, over what a read of the store gives.
-  pub writes : before.output_tells → before.station_tells → before.config_tells → (c : Config) →
-      config_of_bytes before.config ≡ Ok c → IsPrinting answer →
-      Writes c before.seen answer before.written after.written
+  pub writes : before.output_tells → before.station_tells →
+      ByConfig before (λ c. IsPrinting answer → Writes c before.seen answer before.written after.written)
   -- With any other answer nothing is written.
   pub nothing : before.output_tells → ¬ IsPrinting answer → after.written ≡ before.written
   -- At most the line of the answer is told, and the store stays.

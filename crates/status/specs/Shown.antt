@@ -1,19 +1,22 @@
 -- What a whole run shows, before it and after it.
---   Shown        what the configuration, the site, the station and the output show at one moment
---   shown_by     the same of four objects
---   line_for     the line of an answer, by the configuration that is shown
---   Tells        nothing of the station changes but that this line is told at most
---   Ends         this line was told last, unless the station failed
---   TellsAnswer  the line of the answer alone is told
-use Rattle.std.specs.Prelude.{◌≡◌, ◌≢◌, ◌⊎◌, ℕ, List}
+--   Shown         what the configuration, the site, the station and the output show at one moment
+--   shown_by      the same of four objects
+--   ByConfig      what holds by the configuration that is shown
+--   AtEachMoment  a statement on each moment from before to after
+--   line_for      the line of an answer, by the configuration that is shown
+--   Tells         nothing of the station changes but that this line is told at most
+--   Ends          this line was told last, unless the station failed
+--   TellsAnswer   the line of the answer alone is told
+use Rattle.std.specs.Prelude.{◌≡◌, ◌≢◌, ◌⊎◌, ℕ, List, Ok}
 use Rattle.outside.specs.Fault.{CountRose}
 use Rattle.outside.specs.Site.{Files, Asked}
 use Rattle.outside.specs.declared.source.Source as source
 use Rattle.outside.specs.declared.site.Site as site
 use Rattle.outside.specs.declared.sink.Sink as sink
-use Rattle.outside.specs.station.Station.{Image, Lines, MomentsSince}
+use Rattle.outside.specs.station.Station.{Image, Lines, IsMoment, MomentsSince, Since}
 use Rattle.outside.specs.declared.station.station.Station as station
 use Rattle.site_config.specs.Configuration.{config_of_bytes}
+use Rattle.site_config.specs.declared.config.Config.{Config}
 use Rattle.status.specs.declared.status.Status.{Status}
 use Rattle.status.specs.declared.status.Status.TheVariants.{Done}
 use Rattle.status.specs.fault_lines.FaultLine.{fault_line, name_by}
@@ -71,6 +74,12 @@ shown_by t u v p c s k o = record {
   moments = v.moments k;
   written = p.written o;
 }
+
+abbrev pub ByConfig : Shown → (Config → Type 0) → Type 0
+ByConfig before P = before.config_tells → (c : Config) → config_of_bytes before.config ≡ Ok c → P c
+
+abbrev pub AtEachMoment : Shown → Shown → IsMoment → Type 0
+AtEachMoment before after P = Since before.clock before.moments after.clock after.moments P
 
 abbrev pub line_for : Shown → Status → List ℕ
 line_for before answer = fault_line answer (name_by (config_of_bytes before.config) answer)

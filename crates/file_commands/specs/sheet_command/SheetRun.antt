@@ -1,19 +1,18 @@
 -- What a run of `sheet` did.
-use Rattle.std.specs.Prelude.{◌≡◌, ◌≢◌, ◌⊎◌, Ok}
+use Rattle.std.specs.Prelude.{◌≡◌, ◌≢◌, ◌⊎◌}
 use Rattle.outside.specs.Fault.{CountRose}
 use Rattle.site_config.specs.Configuration.{config_of_bytes}
-use Rattle.site_config.specs.declared.config.Config.{Config}
 use Rattle.site_config.specs.recorded.Asked.{names_in}
 use Rattle.status.specs.declared.status.Status.{Status}
 use Rattle.status.specs.declared.status.Status.TheVariants.{Done, Usage, ReadFault, WriteFault, OutOfMemory}
 use Rattle.file_commands.specs.sheet_command.Sheet.{sheet_of, sheet_answer, MayAnswer, Prints, SheetAsks}
-use Rattle.status.specs.Shown.{Shown, Tells, Ends, line_for}
+use Rattle.status.specs.Shown.{Shown, ByConfig, Tells, Ends, line_for}
 
 -- From what is shown before it to what is shown after it.
 pub record SheetRuns (before after : Shown) (answer : Status) : Type 0 where
   -- The samples of the recordings under the names of their gauges are printed, a front of that text, or nothing.
-  pub prints : before.output_tells → before.site_tells → before.config_tells → (c : Config) →
-      config_of_bytes before.config ≡ Ok c → Prints answer (sheet_of c before.files) before.written after.written
+  pub prints : before.output_tells → before.site_tells →
+      ByConfig before (λ c. Prints answer (sheet_of c before.files) before.written after.written)
   -- With any answer but `Done` and `WriteFault` nothing is printed.
   pub nothing : before.output_tells → answer ≢ Done → answer ≢ WriteFault → after.written ≡ before.written
   -- At most the line of the answer is told, and the store stays.

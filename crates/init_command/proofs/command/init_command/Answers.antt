@@ -86,14 +86,14 @@ returns-clause-run g c =
     let answers : k.tells → g.T.Site.tells → g.C.Source.tells → InitAnswers read files (k.seen old) s = λ tells shows reads.
     made_answer read config (means reads) files (k.seen old) heads (are.answer shows) s run.kind (run.answer tells) in
     record {
-      made = λ tells shows reads done x is.
+      made = λ tells shows reads x is done.
           let made = run.made tells done in
           let told = end.tells tells in
           rw (one_config is (means reads)) (record {
             is = (heads, are.answer shows, told.seen_same ∙ made.0);
             durable = λ image has. made.1 image (told.none_new image has) ∙ sym told.seen_same;
           });
-      told = λ tells reads done x is.
+      told = λ tells reads x is done.
           rw (one_config is (means reads))
           (end.nothing tells done ∙ run.told tells done ∙ ap (λ (l : List ℕ). k.told old ++ l ∷ []) gauges);
       any_moment = moments;
