@@ -9,6 +9,7 @@
 #![tactic(auto)]
 
 pub mod config_reading;
+mod digits;
 pub mod fault_lines;
 pub mod line_room;
 mod recording_faults;

@@ -1,6 +1,8 @@
 ghost use Rattle.std.specs.Prelude.{◌≡◌, Some};
+ghost use Rattle.status.specs.FaultText.{recording_text, store_text};
 ghost use Rattle.status.specs.Status.{code_of};
 
+use crate::digits::{digest_digits, id_digits};
 use recount::What;
 use segment_store::Damage;
 use site_config::ConfigFault;
@@ -34,18 +36,17 @@ pub enum RecordingFault {
 }
 
 impl fmt::Display for RecordingFault {
-    ghost use Rattle.status.specs.FaultText.{recording_fault_text};
+    ghost output = { λ fault. Some (recording_text fault) };
 
-    ghost output = { λ fault. Some (recording_fault_text fault) };
-
-    // An id is told by none of its bytes.
     fn fmt<W: fmt::Write>(&self, f: &mut fmt::Formatter<W>) -> fmt::Result {
         match self {
-            RecordingFault::Short => f.write_str("shorter than 32 bytes"),
-            RecordingFault::Magic => f.write_str("no SGRC at the front"),
-            RecordingFault::Version(version) => write!(f, "version {version} in place of 1"),
-            RecordingFault::NotZero => f.write_str("a reserved byte that is not 0"),
-            RecordingFault::Id { .. } => f.write_str("another id than the one that is kept"),
+            RecordingFault::Short => f.write_str("short"),
+            RecordingFault::Magic => f.write_str("no SGRC"),
+            RecordingFault::Version(version) => write!(f, "version {version}"),
+            RecordingFault::NotZero => f.write_str("not zero"),
+            RecordingFault::Id { kept, found } => {
+                write!(f, "id was {}, is {}", id_digits(kept), id_digits(found))
+            }
             RecordingFault::Period { kept, found } => write!(f, "period was {kept}, is {found}"),
             RecordingFault::Fewer { held, there } => write!(f, "{held} held, {there} there"),
             RecordingFault::NoColumn => f.write_str("no column"),
@@ -73,9 +74,7 @@ pub enum StoreFault {
 }
 
 impl fmt::Display for StoreFault {
-    ghost use Rattle.status.specs.FaultText.{store_fault_text};
-
-    ghost output = { λ fault. Some (store_fault_text fault) };
+    ghost output = { λ fault. Some (store_text fault) };
 
     fn fmt<W: fmt::Write>(&self, f: &mut fmt::Formatter<W>) -> fmt::Result {
         match self {
@@ -84,6 +83,15 @@ impl fmt::Display for StoreFault {
             StoreFault::Differs { field, kept, found } => {
                 write!(f, "{field} was {kept}, is {found}")
             }
+            StoreFault::Damaged {
+                index,
+                damage: Damage::Digest { kept, found },
+            } => write!(
+                f,
+                "damaged at {index}, kept {}, found {}",
+                digest_digits(kept),
+                digest_digits(found),
+            ),
             StoreFault::Damaged { index, .. } => write!(f, "damaged at {index}"),
             StoreFault::NotEmpty { size } => write!(f, "not empty, {size} bytes"),
         }

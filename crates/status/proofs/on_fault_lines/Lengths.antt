@@ -28,7 +28,8 @@ use Rattle.status.specs.declared.status.StoreFault.TheVariants as store
 use Rattle.status.specs.declared.status.Status.{Status}
 use Rattle.status.specs.declared.status.Status.TheVariants.{Done, Usage, Config, Store, Recording, Torn, ReadFault, WriteFault, DiskFault, OutOfMemory, TooLong, Differs}
 use Rattle.store_bytes.specs.store_head.FaultText.{field_text}
-use Rattle.status.specs.fault_lines.FaultLine.{digest_digits, id_digits, damage_text, store_text, recording_text, what_text, differs_text, torn_text, recording_line, fault_line}
+use Rattle.status.specs.fault_lines.FaultLine.{what_text, differs_text, torn_text, recording_line, fault_line}
+use Rattle.status.specs.FaultText.{digest_digits, id_digits, damage_text, store_text, recording_text}
 use Rattle.status.specs.declared.fault_lines.line.TheConstants.{MAX_BYTES_BESIDE_NAME}
 use Rattle.lemmas.proofs.Lists.{length-append-le as appended, length-cond-le as either}
 

@@ -2,9 +2,10 @@ ghost use Rattle.std.specs.Prelude.{◌≡◌, ◌++◌, codes};
 ghost use Rattle.std.specs.Fmt.{decimal};
 ghost use Rattle.status.specs.line_room.Room.{Fits, with_text};
 ghost use Rattle.store_bytes.specs.store_head.FaultText.{field_text};
-ghost use Rattle.status.specs.fault_lines.FaultLine.{digest_digits, damage_text, store_text};
+ghost use Rattle.status.specs.FaultText.{damage_text, digest_digits as digest_digits_of, store_text};
 
 use crate::StoreFault;
+use crate::digits::digest_digits;
 use crate::line_room::LineRoom;
 use segment_store::Damage;
 use store_bytes::store_head::Field;
@@ -86,12 +87,8 @@ fn push_damage(line: &mut LineRoom, damage: Damage)
 
 // The 64 hexadecimal digits of a digest.
 fn push_digest(line: &mut LineRoom, digest: &[u8; 32])
-    requires { Fits line.old (digest_digits digest.now) }
-    ensures { line.new ≡ with_text line.old (digest_digits digest.now) }
+    requires { Fits line.old (digest_digits_of digest.now) }
+    ensures { line.new ≡ with_text line.old (digest_digits_of digest.now) }
 {
-    let mut digits = [0; 64];
-    match hex::encode_to_slice(digest, &mut digits) {
-        Ok(()) => line.push(&digits),
-        Err(_) => unreachable!(),
-    }
+    line.push(digest_digits(digest).as_bytes());
 }

@@ -4,16 +4,10 @@ ghost use Rattle.status.specs.line_room.Room.{Fits, with_text, shown_text};
 ghost use Rattle.site_config.specs.FaultText.{config_fault_text, place_behind};
 ghost use Rattle.site_config.specs.Keys.{key_text};
 ghost use Rattle.status.specs.declared.status.RecordingFault.TheVariants.{Id, ShortRow, Cell};
-ghost use Rattle.status.specs.fault_lines.FaultLine.{
-  fault_line,
-  id_digits,
-  recording_line,
-  recording_text,
-  torn_text,
-  what_text,
-  differs_text,
-};
+ghost use Rattle.status.specs.fault_lines.FaultLine.{fault_line, recording_line, torn_text, what_text, differs_text};
+ghost use Rattle.status.specs.FaultText.{id_digits as id_digits_of, recording_text};
 
+use crate::digits::id_digits;
 use crate::fault_lines::store_text::push_store;
 use crate::line_room::LineRoom;
 use crate::{RecordingFault, Status};
@@ -196,14 +190,10 @@ fn push_other_id(line: &mut LineRoom, kept: &[u8; 16], found: &[u8; 16])
 
 // The 32 hexadecimal digits of an id.
 fn push_id(line: &mut LineRoom, id: &[u8; 16])
-    requires { Fits line.old (id_digits id.now) }
-    ensures { line.new ≡ with_text line.old (id_digits id.now) }
+    requires { Fits line.old (id_digits_of id.now) }
+    ensures { line.new ≡ with_text line.old (id_digits_of id.now) }
 {
-    let mut digits = [0; 32];
-    match hex::encode_to_slice(id, &mut digits) {
-        Ok(()) => line.push(&digits),
-        Err(_) => unreachable!(),
-    }
+    line.push(id_digits(id).as_bytes());
 }
 
 fn push_torn(line: &mut LineRoom, name: &[u8], bytes: u8)

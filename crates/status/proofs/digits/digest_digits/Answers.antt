@@ -1,0 +1,9 @@
+use Rattle.std.proofs.Common.{◌≡◌, List, take, sym, ap, ◌∙◌, arith}
+use Rattle.std.proofs.lemmas.List.{take_all}
+use Rattle.hex.specs.Hex.{encode_lower}
+use Rattle.status.proofs.digits.digest_digits.Goals as goal
+
+pub returns : goal.returns
+returns c =
+    let whole : take 32 c.args.digest.now ≡ c.args.digest.now = take_all 32 c.args.digest.now (omega (arith, c.told-digest)) in
+    c.in-Ok.ensures.written ∙ sym (ap encode_lower whole)
