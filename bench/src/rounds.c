@@ -7,8 +7,11 @@
  *            once a round
  *   stay     the same over threads that outlive the rounds
  *   joins    as stay, with the joins of different gauges side by side: a thread that has nothing more to read or count joins its share
+ *   alone    one thread: each block is read, counted and joined before the next, and the puts of a round come before the next round
+ *   between  one thread reads all lanes of a round, makes the puts of the round before, and then joins; threads that stay count
+ *   kept     the threads that count stay; that of the round, which reads and joins, is started for each beside the puts
  *
- * Without a form all of them are run; blocks needs `workers=1`, and is left out with more. The names, with what stands where they are
+ * Without a form all of them are run; blocks and alone need `workers=1`, and are left out with more. The names, with what stands where they are
  * left out; the lengths are about what the program takes over traffic:
  *
  *   gauges 8, block 4096 (samples), workers 2 (threads that count), samples 4000000 (of all gauges together, in whole rounds)
@@ -359,16 +362,6 @@ static void *stay_for_rounds(void *argument) {
     return 0;
 }
 
-typedef struct { const char *name; void *(*round)(void *); int stays, has_one_worker, is_joined_beside; } Form;
-
-static const Form FORMS[] = {
-    {"phases", round_in_phases, 0, 0, 0},
-    {"blocks", round_of_blocks, 0, 1, 0},
-    {"once", round_with_one_start, 0, 0, 0},
-    {"stay", round_without_start, 1, 0, 0},
-    {"joins", round_without_start, 1, 0, 1},
-};
-enum { FORM_COUNT = sizeof FORMS / sizeof *FORMS };
 
 /* Before the first round there is nothing to put, so it has no thread of its own. */
 static void start_each_round(Site *site, void *(*round)(void *)) {
@@ -402,6 +395,71 @@ static void keep_threads(Site *site) {
     for (size_t i = 0; i <= last; i++) pthread_join(threads[i], 0);
 }
 
+/* The puts of a round come before the next round. */
+static void make_alone(Site *site) {
+    for (size_t made = 0; made < site->rounds; made++) {
+        round_of_blocks(site);
+        put_board(site, site->board);
+    }
+}
+
+static void round_between(Site *site, const Row *full) {
+    begin_round(site);
+    for (size_t worker = 0; worker < site->workers; worker++) feed(site->begins[worker], &go);
+    read_lanes(site);
+    if (full) put_board(site, full);
+    collect(site, 0);
+    for (size_t worker = 0; worker < site->workers; worker++) take(site->ends[worker]);
+}
+
+static void put_between(Site *site) {
+    pthread_t threads[MOST_WORKERS];
+    Seat seats[MOST_WORKERS];
+    for (size_t i = 0; i < site->workers; i++) {
+        seats[i] = (Seat){site, i};
+        threads[i] = started(stay_as_worker, &seats[i]);
+    }
+    Row *full = 0;
+    for (size_t made = 0; made < site->rounds; made++) {
+        round_between(site, full);
+        full = exchange(site);
+    }
+    put_board(site, full);
+    for (size_t i = 0; i < site->workers; i++) feed(site->begins[i], &mark);
+    for (size_t i = 0; i < site->workers; i++) pthread_join(threads[i], 0);
+}
+
+/* The workers stay, and the thread of the round is started for each beside the puts of the round before. */
+static void start_over_workers(Site *site) {
+    pthread_t threads[MOST_WORKERS];
+    Seat seats[MOST_WORKERS];
+    for (size_t i = 0; i < site->workers; i++) {
+        seats[i] = (Seat){site, i};
+        threads[i] = started(stay_as_worker, &seats[i]);
+    }
+    start_each_round(site, round_without_start);
+    for (size_t i = 0; i < site->workers; i++) feed(site->begins[i], &mark);
+    for (size_t i = 0; i < site->workers; i++) pthread_join(threads[i], 0);
+}
+
+static void start_phases(Site *site) { start_each_round(site, round_in_phases); }
+static void start_blocks(Site *site) { start_each_round(site, round_of_blocks); }
+static void start_once(Site *site) { start_each_round(site, round_with_one_start); }
+
+typedef struct { const char *name; void (*make)(Site *); int has_one_worker, is_joined_beside; } Form;
+
+static const Form FORMS[] = {
+    {"phases", start_phases, 0, 0},
+    {"blocks", start_blocks, 1, 0},
+    {"once", start_once, 0, 0},
+    {"stay", keep_threads, 0, 0},
+    {"joins", keep_threads, 0, 1},
+    {"alone", make_alone, 1, 0},
+    {"between", put_between, 0, 0},
+    {"kept", start_over_workers, 0, 0},
+};
+enum { FORM_COUNT = sizeof FORMS / sizeof *FORMS };
+
 /* Lanes from their beginning, and nothing held. */
 static void begin_anew(Site *site) {
     for (size_t gauge = 0; gauge < site->gauges; gauge++) site->lanes[gauge].state = gauge + 1;
@@ -421,10 +479,7 @@ static uint64_t checksum(const Site *site) {
 /* The checksum of all rounds without a thread, by which each form is judged. */
 static uint64_t plain_checksum(Site *site) {
     begin_anew(site);
-    for (size_t made = 0; made < site->rounds; made++) {
-        round_of_blocks(site);
-        put_board(site, site->board);
-    }
+    make_alone(site);
     return checksum(site);
 }
 
@@ -485,8 +540,7 @@ static int show(Site *site, const Form *form, uint64_t right) {
     begin_anew(site);
     site->collectors = form->is_joined_beside ? site->workers + 1 : 1;
     double start = now(CLOCK_MONOTONIC), used = now(CLOCK_PROCESS_CPUTIME_ID);
-    if (form->stays) keep_threads(site);
-    else start_each_round(site, form->round);
+    form->make(site);
     double samples = (double)(site->rounds * site->gauges * BLOCKS * site->block);
     double wall = (now(CLOCK_MONOTONIC) - start) / samples, processor = (now(CLOCK_PROCESS_CPUTIME_ID) - used) / samples;
     gather_units(site);
@@ -555,7 +609,7 @@ int main(int count, char **words) {
     int asked[FORM_COUNT] = {0}, is_right = 1;
     Lengths length = {0, 0, 0, 0};
     if (!take_words(count, words, asked, &site, &length) || !choose_forms(&site, asked)) {
-        fprintf(stderr, "usage: rounds [phases|blocks|once|stay|joins ..] [NAME=NUMBER ..]; the head of its source has the names\n");
+        fprintf(stderr, "usage: rounds [phases|blocks|once|stay|joins|alone|between|kept ..] [NAME=NUMBER ..]; the head of its source has the names\n");
         return 1;
     }
     make_memory(&site);
