@@ -11,7 +11,7 @@ use Rattle.segment.specs.Segment.{SegmentValue}
 use Rattle.board.specs.flow.Flow.{hits_of_name, hits}
 use Rattle.board.specs.flow.Kept.{between, over}
 use Rattle.board.proofs.on_flow.Counting.{over_same, hits_of_name_other, hits-append, hits_of_name_between, between_one}
-use Rattle.board.specs.Board.{BoardValue, Row, IsRow, IsBoard, CarriesSamples, StandsIn, SameBoard, spans, start_of, blocks_placed, Fits}
+use Rattle.board.specs.Board.{BoardValue, Row, IsRow, IsBoard, CarriesSamples, StandsIn, spans, start_of, blocks_placed, Fits}
 use Rattle.board.specs.Rows.{CanPlace, PlacesSegment, FindsDouble}
 use Rattle.board.specs.DepositAnswers.{IsBlockNumber, HasSample}
 use Rattle.board.proofs.Lists.{at_set}
@@ -53,9 +53,6 @@ module _ (b : BoardValue) (k : ℕ) (segment : SegmentValue) (new d : Row) (arri
     starts_same : (i : ℕ) → start_of placed_in i ≡ start_of b i
     starts_same i = at_set (λ j r. r.start ≡ start_of b j) b.rows g new i (record { start = 0; slots = [] }) known (λ e. refl)
         (λ e. start ∙ ap (λ r. r.start) (get_or_default b.rows g d (record { start = 0; slots = [] }) known))
-
-    pub placed_same : SameBoard b placed_in
-    placed_same = record { grid = refl; block = refl; gauges = length-set b.rows g new; starts = starts_same }
 
     module _ (h : IsBoard b) (kind : segment.grid ≡ b.grid) (fits : CanPlace was.start b.block k segment)
         (p : PlacesSegment was.start b.block was.slots new.slots segment) (grown : arrivals ≡ b.arrivals ++ (name_of segment) ∷ []) where

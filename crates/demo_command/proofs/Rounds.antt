@@ -24,7 +24,7 @@ use Rattle.site_config.specs.recorded.Recorded.{Recorded}
 use Rattle.site_lanes.specs.Lanes.{SourceStands, IsLane, AreReady, AreLanes, IsWhole}
 use Rattle.site_lanes.proofs.AfterRound.{stood_more}
 use Rattle.site_lanes.proofs.AllLanes.{ready_after, lanes_after, all_reached}
-use Rattle.demo_command.specs.declared.TheConstants.{MAX_DEMO_SAMPLES}
+use Rattle.calibration.specs.declared.limits.TheConstants.{MAX_DEMO_SAMPLES}
 use Rattle.demo_command.specs.declared.made.TheConstants.{GAUGES, BLOCK}
 use Rattle.demo_command.specs.Made.{demo_grid, demo_gain, made_at, IsStart}
 use Rattle.demo_command.specs.Totals.{IsTotal, CanJoin, HasJoined}

@@ -166,9 +166,6 @@ module _ (k : ℕ) (e : EndPoints) (r : List ℕ) (i : IsEnds k e) (a : Alike e 
   }
 
 module _ (v : SegmentValue) (s : IsSegment v) where
-  over_simple : IsSimple v.simple
-  over_simple = s.simple
-
   classes_are : v.simple.classes ≡ v.grid.classes
   classes_are = s.over.simple.0
 

@@ -16,10 +16,9 @@ use Rattle.segment_store.specs.declared.fault.ResumeFault.{ResumeFault}
 use Rattle.segment_store.specs.declared.fault.ResumeFault.TheVariants.{NotAStore, Version, Differs, Damaged, DiskFault, OutOfMemory}
 use Rattle.calibration.specs.declared.setup.Setup.{Setup}
 use Rattle.store_bytes.specs.declared.segment_bytes.layout.Layout.{Layout}
-use Rattle.store_bytes.specs.segment_bytes.Sizes.{max_body}
 use Rattle.store_bytes.specs.store_head.Head.{HeadValue, IsHead, head_of, start_of}
 use Rattle.segment_store.specs.Image.{open_bodies, IsNext, Reads, nothing_held}
-use Rattle.store_bytes.specs.store_head.HeadFaults.{gauge_fault, gauge_at, gauges_fault, head_fault, layout_in}
+use Rattle.store_bytes.specs.store_head.HeadFaults.{gauge_fault, gauge_at, gauges_fault, head_fault}
 use Rattle.segment_store.specs.Held.{AreHeld, ends_of}
 use Rattle.segment_store.specs.Moments.{StoreValue, IsAt, IsOn}
 use Rattle.segment_store.specs.Resuming.{Walks, StopsWalkAs}
@@ -64,16 +63,6 @@ module _ {X : Type 0} (lay : Layout) (s : Setup) (limit : ℕ) (image : Image) (
   unharmed_err index (stops.Damaged d) e = e
 
 module _ {X : Type 0} (s : Setup) (image : Image) (see : X → ℕ × List ℕ) where
-  pub resumes_all : (r : Result X ResumeFault) → head_fault s image ≡ None
-      → WalksAs (layout_in image) s (max_body (layout_in image) s.grid.classes) image see r → Resumes s image see r
-  resumes_all (Ok x) e w = (e, w)
-  resumes_all (Err NotAStore) e w = absurd w
-  resumes_all (Err (Version v)) e w = absurd w
-  resumes_all (Err (Differs field kept found)) e w = absurd w
-  resumes_all (Err (Damaged index d)) e w = (e, w)
-  resumes_all (Err DiskFault) e w = tt
-  resumes_all (Err OutOfMemory) e w = tt
-
   pub resumes_err : (Y : Type 0) (f : ResumeFault) → IsHeadAnswer {X = Y} (Err f) (head_fault s image) → Resumes s image see (Err f)
   resumes_err Y NotAStore e = e
   resumes_err Y (Version v) e = e

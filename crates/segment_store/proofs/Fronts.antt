@@ -36,9 +36,6 @@ front_more old now new whole piece rest p e = record {
   all = p.all ∙ sym (append_assoc p.front piece rest);
 }
 
-pub front_whole : (old now whole : List ℕ) → IsFront old now whole [] → now ≡ old ++ whole
-front_whole old now whole p = p.written ∙ ap (λ l. old ++ l) (sym (p.all ∙ append-nil p.front))
-
 -- a put that failed left a front of the whole
 pub front_failed : (old now new whole piece rest : List ℕ) → IsFront old now whole (piece ++ rest) → AppendsPrefix now new piece
     → AppendsPrefix old new whole

@@ -57,10 +57,6 @@ module _ (block workers : ℕ) (r : Round) where
       → through block workers r g v (k ++ l) ≡ through block workers r g v k ++ through block workers r g v l
   through_both g v k l = filter-append (passes g v) k l
 
-  -- the block that is fed
-  first_min : (a n : ℕ) → min a n < n → min a n ≡ a
-  first_min a n h = omega (arith, h)
-
   worker_is : (g k : ℕ) → 0 < block → worker_of block workers r (name_at block workers r g k) ≡ k % workers
   worker_is g k pos =
       let e : r.at g + k * block - r.at g ≡ k * block = omega arith in

@@ -56,16 +56,6 @@ pub record StepsSoFar (name : List ℕ) (start step held least most : ℕ) (told
   pub few : length ns ≤ most
   pub grew : told2 ≡ told ++ map (seen_line name) ns
 
-pub steps_start : (name : List ℕ) (start step held least : ℕ) (told : Lines) → StepsSoFar name start step held least 0 told told
-steps_start name start step held least told = record {
-  ns = [];
-  ascend = λ k lt. absurd (omega (arith, lt));
-  each = λ k d lt. absurd (omega (arith, lt));
-  below = λ k d lt. absurd (omega (arith, lt));
-  few = omega arith;
-  grew = same_lines told;
-}
-
 told_more : (name : List ℕ) (ns : List ℕ) (m : ℕ) (told told2 told3 : Lines) → told2 ≡ told ++ map (seen_line name) ns
     → told3 ≡ told2 ++ seen_line name m ∷ [] → told3 ≡ told ++ map (seen_line name) (ns ++ m ∷ [])
 told_more name ns m told told2 told3 so_far here =

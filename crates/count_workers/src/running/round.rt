@@ -1,4 +1,4 @@
-ghost use Rattle.std.specs.Prelude.{◌≡◌, length};
+ghost use Rattle.std.specs.Prelude.{◌≡◌};
 ghost use Rattle.std.specs.List.{All};
 ghost use Rattle.count_workers.specs.block_workers.Jobs.{CanRead, AllRead, SameSources};
 ghost use Rattle.count_workers.specs.block_workers.Working.{CanWork, AllBegun, AllEnd, AllWorked};

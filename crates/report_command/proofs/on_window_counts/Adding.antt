@@ -44,11 +44,6 @@ empty_more grid joined g v long is all k d lt = by (cases_eq k g)
         let short : k < length joined = omega (arith, lt, n, long, length-append joined (v ∷ [])) in
         get_or_append_left joined (v ∷ []) d k short ∙ all k d short
 
-pub empty_own : (grid : GridValue) (joined : List SegmentValue)
-    → ((k : ℕ) (d : SegmentValue) → k < length joined → get_or joined k d ≡ empty_at grid k 0 MAX_SAMPLES) → AreOwn grid joined
-empty_own grid joined all g d lt =
-    subst (IsOwn grid g) (sym (all g d lt)) (record { grid_is = refl; gauge_is = refl; longest_is = refl })
-
 -- one that was set
 module _ (grid : GridValue) (joined : List SegmentValue) (g : ℕ) (v w : SegmentValue) (known : g < length joined) where
   pub own_set : AreOwn grid joined → IsOwn grid g w → AreOwn grid (set joined g w)

@@ -24,6 +24,3 @@ le_then a b c h k = omega (arith, ints)
 
 pub lt_not : (a b c : ℤ) → a <ℤ b → b ≤ℤ c → c ≤ℤ a → ⊥
 lt_not a b c h k l = omega (arith, ints)
-
-pub lt_then : (a b c : ℤ) → a <ℤ b → b ≤ℤ c → a <ℤ c
-lt_then a b c h k = omega (arith, ints)

@@ -3,19 +3,15 @@
 --   file_is            the name of a gauge's file
 --   asks_file          it was asked for
 --   asks_more          and so was that of one gauge more
---   stops_behind       it was the last
---   first_names        the first so many
---   none_is_first, first_then_none, first_read
-use Rattle.std.proofs.Common.{◌≡◌, ◌<◌, ◌≤◌, ◌+◌, ℕ, List, [], ◌∷◌, ◌++◌, length, take, slice_index_or, sym, ◌∙◌, ap, subst, append_assoc, append-nil, arith}
-use Rattle.std.proofs.lemmas.List.{get_or_default, length-map, map_more, take-map}
-use Rattle.std.specs.Prelude.{Result, Ok}
+--   none_is_first, first_then_none
+use Rattle.std.proofs.Common.{◌≡◌, ◌<◌, ◌+◌, ℕ, List, [], ◌∷◌, ◌++◌, length, take, slice_index_or, sym, ◌∙◌, ap, subst, append_assoc, append-nil, arith}
+use Rattle.std.proofs.lemmas.List.{get_or_default, map_more, take-map}
 use Rattle.outside.specs.Site.{Asked, Asks, AsksNothing}
 use Rattle.outside.proofs.Asked.{asks_no_more}
 use Rattle.site_config.specs.Valid.{file_of, no_gauge}
 use Rattle.site_config.specs.declared.config.Config.{Config}
 use Rattle.site_config.specs.declared.config.Gauge.{Gauge}
-use Rattle.site_config.specs.declared.fault.ConfigFault.{ConfigFault}
-use Rattle.site_config.specs.recorded.Asked.{file_names, names_in, AsksFirst}
+use Rattle.site_config.specs.recorded.Asked.{file_names, AsksFirst}
 
 pub asks_none : (a : Asked) → Asks a a []
 asks_none a = λ names has. subst a (sym (append-nil names)) has
@@ -42,19 +38,8 @@ module _ (c : Config) (g : ℕ) (a b : Asked) (asks : Asks a b (take g (file_nam
       (append_assoc names (take g (file_names c)) (file_of c g ∷ []) ∙ ap (λ (l : List (List ℕ)). names ++ l) (sym (next_name c g lt)))
       (one (names ++ take g (file_names c)) (asks names has))
 
-  pub stops_behind : (d : Asked) → g < length c.gauges → Asks b d (file_of c g ∷ []) → AsksFirst a d (file_names c)
-  stops_behind d lt one = (g + 1, omega (arith, lt, length-map c.gauges (λ (gauge : Gauge). gauge.file)), asks_more d lt one)
-
-  pub first_names : g ≤ length c.gauges → AsksFirst a b (file_names c)
-  first_names le = (g, omega (arith, le, length-map c.gauges (λ (gauge : Gauge). gauge.file)), asks)
-
 pub none_is_first : (a b : Asked) (names : List (List ℕ)) → AsksNothing a b → AsksFirst a b names
 none_is_first a b names none = (0, omega arith, asks_no_more a a b [] (asks_none a) none)
 
 pub first_then_none : (a b d : Asked) (names : List (List ℕ)) → AsksFirst a b names → AsksNothing b d → AsksFirst a d names
 first_then_none a b d names first none = (first.0, first.1, asks_no_more a b d (take first.0 names) first.2 none)
-
--- of the configuration that was read
-pub first_read : (read : Result Config ConfigFault) (c : Config) (a b : Asked) → read ≡ Ok c → AsksFirst a b (file_names c) →
-    AsksFirst a b (names_in read)
-first_read read c a b is first = subst (λ (r : Result Config ConfigFault). AsksFirst a b (names_in r)) (sym is) first

@@ -2,11 +2,10 @@
 --   newest_two                   the two newest apart
 --   cycle_live, cycle_counted    X >= Y, and Y doesn't contain the starting point: its two points are dropped, and Y is counted
 --   open_live, open_counted      X < Y, or there are fewer than three points: the point is live, and nothing is counted
---   All-first_few, All-start     what holds of each live point
+--   All-first_few                what holds of each live point
 use Rattle.std.proofs.Common.{◌≡◌, ℕ, ◌+◌, ◌-◌, ◌<◌, ◌≤◌, ◌⊎◌, inl, inr, List, [], ◌∷◌, length, take, set, get_or, reverse, sym, ap, ◌∙◌, arith, get_or-take}
 use Rattle.std.specs.Prelude.{All}
 use Rattle.std.proofs.lemmas.List.{take_more_set, reverse-append, length-reverse, length-take, length-take-le}
-use Rattle.std.proofs.lemmas.List.Elements.{All-nil, All-cons}
 use Rattle.std.proofs.lemmas.Bool.{cases_lt}
 use Rattle.std.proofs.Math.Nat.{lt_of_not-le}
 use Rattle.lemmas.proofs.Lists.{take_by_last_two}
@@ -70,7 +69,3 @@ module _ (k : ℕ) where
       let f = get_or-take n s i d (omega arith) in
       let b = a i d (omega (arith, length-take-le n s room)) in
       omega arith
-
-  pub All-start : (s : List ℕ) (y : ℕ) → y < k → All (λ x. x < k) (take 1 (set s 0 y))
-  All-start [] y h = All-nil (λ x. x < k)
-  All-start (x ∷ s) y h = All-cons (λ x. x < k) y [] h (All-nil (λ x. x < k))

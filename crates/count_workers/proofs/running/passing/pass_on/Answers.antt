@@ -1,4 +1,4 @@
-use Rattle.std.proofs.Common.{◌≡◌, ◌<◌, length, get_or, set, subst, arith}
+use Rattle.std.proofs.Common.{◌<◌, length, get_or, set, subst, arith}
 use Rattle.std.proofs.lemmas.List.{get_or_default}
 use Rattle.std.proofs.Math.ListN.{length-set}
 use Rattle.count_workers.specs.block_workers.Working.{WorksOn}

@@ -1,5 +1,4 @@
 use Rattle.std.proofs.Common.{◌++◌, List, ℕ, ap, ◌∙◌, append_assoc}
-use Rattle.store_bytes.specs.store_head.Head.{numbers}
 use Rattle.store_bytes.proofs.store_head.writing.add_gauge.Goals as goal
 
 pub returns-clause-items : goal.returns-clause-items
