@@ -25,6 +25,7 @@
 mod classifier;
 mod gain;
 mod grid;
+mod items;
 pub mod laws;
 mod limits;
 mod reading;
@@ -34,7 +35,10 @@ mod single;
 pub use classifier::Classifier;
 pub use gain::{Gain, GainFault, MAX_DEN, MAX_NUM, MAX_OFFSET};
 pub use grid::{Grid, GridFault, MAX_CLASSES, MAX_LOW_KPA, MAX_SPAN, MIN_CLASSES, STEP_KPA};
-pub use limits::{MAX_BLOCK, MAX_GAUGES, MAX_NAME_BYTES, MAX_SAMPLES, MAX_WORKERS};
+pub use items::Items;
+pub use limits::{
+    MAX_BLOCK, MAX_DEMO_SAMPLES, MAX_GAUGES, MAX_NAME_BYTES, MAX_SAMPLES, MAX_SEED, MAX_WORKERS,
+};
 pub use reading::{LevelCounts, MISSING, Reading};
-pub use setup::{Gains, Setup};
+pub use setup::Setup;
 pub use single::level;

@@ -19,5 +19,5 @@ mod options;
 mod parse;
 mod readers;
 
-pub use command::{Command, MAX_DEMO_SAMPLES, MAX_PERIOD_US, MAX_SEED, MAX_WORKERS};
+pub use command::{Command, MAX_PERIOD_US};
 pub use readers::read_words;

@@ -2,12 +2,13 @@ ghost use Rattle.std.specs.Prelude.{◌≡◌, ◌≤◌, IfOk, IfSome, map, opt
 ghost use Rattle.command_words.specs.Line.{command_of, table_line, bare_line, count_line, watch_line, demo_line, column_line, window_line, workers_at, number_at, id_at, instant_at, demo_with, column_with, window_with};
 ghost use Rattle.command_words.specs.Commands.{AreWorkers, IsWithinRanges, IsInstant, command_in, meaning_of};
 
-use crate::command::{MAX_DEMO_SAMPLES, MAX_PERIOD_US, MAX_SEED, MAX_WORKERS};
+use crate::command::MAX_PERIOD_US;
 use crate::id::id_in;
 use crate::instant::instant_in;
 use crate::number::number_in;
 use crate::parse::read_by;
 use crate::{Command, options};
+use calibration::{MAX_DEMO_SAMPLES, MAX_SEED, MAX_WORKERS};
 use std::alloc::{AllocError, Global};
 
 /// The command that the words name, or `None` where they are no command.

@@ -5,7 +5,7 @@ use Rattle.std.specs.Prelude.{◌≡◌, ◌*◌, ◌<◌, ◌≤◌, ℕ, [], l
 use Rattle.board.specs.declared.flow.TheConstants.{BLOCKS_PER_WINDOW}
 use Rattle.board.specs.declared.block_pool.TheConstants.{MAX_BLOCK}
 use Rattle.calibration.specs.declared.limits.TheConstants.{MAX_GAUGES}
-use Rattle.count_workers.specs.declared.round_making.TheConstants.{MAX_WORKERS}
+use Rattle.calibration.specs.declared.limits.TheConstants.{MAX_WORKERS}
 use Rattle.count_workers.specs.round_making.Resting.{PreparedValue}
 use Rattle.count_workers.specs.round_making.Round.{ring_at}
 use Rattle.count_workers.specs.declared.plan.Plan.{Plan}

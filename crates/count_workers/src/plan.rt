@@ -9,6 +9,6 @@ pub struct Plan {
     pub gauges: u16,
     /// How many samples a block has, 1 to 4096.
     pub block: u32,
-    /// How many workers count, 1 to `MAX_WORKERS`.
+    /// How many workers count, 1 to [`calibration::MAX_WORKERS`].
     pub workers: u8,
 }

@@ -9,6 +9,3 @@
 mod making;
 
 pub use making::make_round;
-
-/// The most workers of a round.
-pub const MAX_WORKERS: u8 = calibration::MAX_WORKERS;

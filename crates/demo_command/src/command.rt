@@ -5,7 +5,7 @@ ghost use Rattle.status.specs.Printing.{IsPrinting};
 ghost use Rattle.status.specs.declared.status.Status.TheVariants.{Done, WriteFault};
 ghost use Rattle.calibration.specs.declared.limits.TheConstants.{MAX_WORKERS};
 ghost use Rattle.demo_command.specs.DemoRun.{DemoRuns};
-ghost use Rattle.demo_command.specs.declared.TheConstants.{MAX_SEED, MAX_DEMO_SAMPLES};
+ghost use Rattle.calibration.specs.declared.limits.TheConstants.{MAX_SEED, MAX_DEMO_SAMPLES};
 
 use crate::counting::count_made;
 use crate::text::summary_text;

@@ -1,6 +1,6 @@
 ghost use Rattle.std.specs.Prelude.{◌≡◌, ◌≤◌, ◌<◌, ℕ, length, slice_index_or, IfOk};
 ghost use Rattle.demo_command.specs.Totals.{IsTotal};
-ghost use Rattle.demo_command.specs.declared.TheConstants.{MAX_SEED, MAX_DEMO_SAMPLES};
+ghost use Rattle.calibration.specs.declared.limits.TheConstants.{MAX_SEED, MAX_DEMO_SAMPLES};
 ghost use Rattle.calibration.specs.declared.limits.TheConstants.{MAX_WORKERS};
 ghost use Rattle.demo_command.specs.declared.made.TheConstants.{GAUGES};
 

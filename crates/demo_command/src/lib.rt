@@ -18,9 +18,3 @@ mod text;
 mod totals;
 
 pub use command::demo_command;
-
-/// The greatest seed.
-pub const MAX_SEED: u64 = 9_223_372_036_854_775_807;
-
-/// The most samples of each gauge.
-pub const MAX_DEMO_SAMPLES: u64 = 1_000_000;

@@ -1,6 +1,6 @@
 ghost use Rattle.std.specs.Prelude.{◌≡◌, ◌≤◌, ◌<◌, ◌+◌, ℕ, length, slice_index_or};
 ghost use Rattle.demo_command.specs.Made.{demo_gain, demo_grid, IsStart};
-ghost use Rattle.demo_command.specs.declared.TheConstants.{MAX_SEED, MAX_DEMO_SAMPLES};
+ghost use Rattle.calibration.specs.declared.limits.TheConstants.{MAX_SEED, MAX_DEMO_SAMPLES};
 ghost use Rattle.demo_command.specs.declared.made.TheConstants.{GAUGES};
 
 use calibration::{Gain, Grid};

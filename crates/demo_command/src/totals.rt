@@ -2,7 +2,7 @@ ghost use Rattle.std.specs.Prelude.{◌≡◌, ◌≤◌, ◌<◌, ℕ, length, 
 ghost use Rattle.segment.specs.Segment.{empty_at};
 ghost use Rattle.demo_command.specs.Made.{demo_grid};
 ghost use Rattle.demo_command.specs.Totals.{CanJoin, HasJoined};
-ghost use Rattle.demo_command.specs.declared.TheConstants.{MAX_DEMO_SAMPLES};
+ghost use Rattle.calibration.specs.declared.limits.TheConstants.{MAX_DEMO_SAMPLES};
 ghost use Rattle.demo_command.specs.declared.made.TheConstants.{GAUGES};
 
 use crate::made::{GAUGES, grid_of_demo};

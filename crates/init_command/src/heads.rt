@@ -7,19 +7,19 @@ ghost use Rattle.status.specs.declared.status.Status.TheVariants.{ReadFault};
 ghost use Rattle.init_command.specs.Asked.{InitAsks};
 ghost use Rattle.init_command.specs.Heads.{HeadAnswer, HeadsAnswer, IsHeadStatus, IsHeadsStatus, head_status as head_status_of};
 
+use calibration::Items;
 use outside::Site;
 use recording::{Head, HeadFault, read_head};
 use site_config::Config;
 use status::{Status, recording_fault_of};
 use std::alloc::Global;
-use store_bytes::store_head::Heads;
 
 /// Reads the heads of all recordings, in order of gauge.
 pub(crate) fn read_heads<T: Site>(
     alloc: Global,
     config: &Config,
     site: &mut T,
-) -> Result<Heads, Status>
+) -> Result<Items<Head>, Status>
     requires config { IsConfig config.now }
     requires home { T.out site.old ≡ 0 }
     ensures answer { T.tells → HeadsAnswer config.now (T.files site.old) result }
@@ -46,7 +46,7 @@ pub(crate) fn read_heads<T: Site>(
             Err(status) => return Err(status),
         }
     }
-    Ok(Heads::from_vec(heads))
+    Ok(Items::from_vec(heads))
 }
 
 // The head of the recording of this gauge, which is in that file.

@@ -4,7 +4,7 @@ ghost use Rattle.calibration.specs.declared.limits.TheConstants.{MAX_WORKERS};
 ghost use Rattle.status.specs.fault_lines.FaultLine.{fault_line};
 ghost use Rattle.status.specs.fault_lines.Telling.{TellsOnly, EndsIn};
 ghost use Rattle.demo_command.specs.DemoRun.{DemoRuns};
-ghost use Rattle.demo_command.specs.declared.TheConstants.{MAX_SEED, MAX_DEMO_SAMPLES};
+ghost use Rattle.calibration.specs.declared.limits.TheConstants.{MAX_SEED, MAX_DEMO_SAMPLES};
 
 use demo_command::demo_command;
 use outside::station::Station;

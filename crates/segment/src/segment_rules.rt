@@ -10,7 +10,6 @@
 //! memory. That the lists are short is no condition: ascending keys of 16 bits come to an end.
 
 mod ends;
-mod lists;
 mod name;
 mod order;
 mod parts;
@@ -18,7 +17,6 @@ mod rule;
 mod rules;
 mod sums;
 
-pub use lists::{Bins, Cells, Levels};
 pub use name::Name;
 pub use parts::Parts;
 pub use rule::BrokenRule;

@@ -26,7 +26,7 @@ pub mod recorded;
 mod sections;
 mod text;
 
-pub use config::{Config, Details, Gauge, GaugeNames, NamedDetail};
+pub use config::{Config, Gauge, NamedDetail};
 pub use fault::{ConfigFault, Key, KeyName, Part};
 pub use limits::{
     DEFAULT_BLOCK, DEFAULT_WORKERS, MAX_BLOCK, MAX_BYTES, MAX_DETAILS, MAX_FILE_NAME_BYTES,

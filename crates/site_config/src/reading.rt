@@ -6,8 +6,8 @@ ghost use Rattle.site_config.specs.Configuration.{config_in, config_of_bytes, do
 
 use crate::limits::MAX_BYTES;
 use crate::sections::{count_of, details_in, gauges_in, grid_of};
-use crate::{Config, ConfigFault, Details, GaugeNames};
-use calibration::{Gains, Setup};
+use crate::{Config, ConfigFault};
+use calibration::{Items, Setup};
 use std::alloc::Global;
 use toml::Table;
 
@@ -52,10 +52,10 @@ fn config_of(alloc: Global, root: &Table) -> Result<Config, ConfigFault>
     Ok(Config {
         setup: Setup {
             grid,
-            gains: Gains::from_vec(gauges.gains),
+            gains: Items::from_vec(gauges.gains),
         },
-        gauges: GaugeNames::from_vec(gauges.names),
-        details: Details::from_vec(details),
+        gauges: Items::from_vec(gauges.names),
+        details: Items::from_vec(details),
         block,
         workers,
     })

@@ -1,4 +1,4 @@
-ghost use Rattle.std.specs.Prelude.{◌≡◌, ◌≤◌, ◌<◌, ◌-◌, ◌/◌, [], length, map, IfOk};
+ghost use Rattle.std.specs.Prelude.{◌≡◌, ◌≤◌, ◌<◌, ◌-◌, ◌/◌, length, map, IfOk};
 ghost use Rattle.toml.specs.Data.{as_table, as_array};
 ghost use Rattle.toml.specs.View.{view, table_view};
 ghost use Rattle.site_config.specs.declared.limits.TheConstants.{MAX_GAUGES};

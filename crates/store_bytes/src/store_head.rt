@@ -16,5 +16,5 @@ mod writing;
 
 pub use fault::{Field, HeadFault};
 pub use head_faults::{front_fault, gauge_fault, layout_of, recording_in};
-pub use setup::{FRONT_LENGTH, GAUGE_LENGTH, Heads, StoreHead};
+pub use setup::{FRONT_LENGTH, GAUGE_LENGTH, StoreHead};
 pub use writing::bytes_of;

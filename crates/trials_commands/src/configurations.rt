@@ -1,5 +1,5 @@
-use calibration::Setup;
-use site_config::{ConfigFault, Details, Gauge, GaugeNames, Key, KeyName, Part, read};
+use calibration::{Items, Setup};
+use site_config::{ConfigFault, Gauge, Key, KeyName, NamedDetail, Part, read};
 use std::process::Abort;
 use std::test::Fail;
 
@@ -63,7 +63,7 @@ fn assert_setup(rt: &impl Abort, setup: &Setup) {
     assert_eq!(rt; (gain.num(), gain.den(), gain.offset()), (1000, 1, 0));
 }
 
-fn assert_gauge(rt: &impl Abort, gauges: &GaugeNames) {
+fn assert_gauge(rt: &impl Abort, gauges: &Items<Gauge>) {
     assert_eq!(rt; gauges.as_slice().len(), 1);
     let gauge = &gauges.as_slice()[0];
     assert_eq!(rt;
@@ -72,7 +72,7 @@ fn assert_gauge(rt: &impl Abort, gauges: &GaugeNames) {
     );
 }
 
-fn assert_detail(rt: &impl Abort, details: &Details) {
+fn assert_detail(rt: &impl Abort, details: &Items<NamedDetail>) {
     assert_eq!(rt; details.as_slice().len(), 1);
     let named = &details.as_slice()[0];
     assert_eq!(rt; (named.name.as_str(), named.gauge), ("weld", 0));

@@ -1,6 +1,7 @@
 ghost use Rattle.std.specs.Prelude.{◌≤◌};
 
-use demo_command::{MAX_DEMO_SAMPLES, MAX_SEED, demo_command};
+use calibration::{MAX_DEMO_SAMPLES, MAX_SEED};
+use demo_command::demo_command;
 use outside::{OpenGate, VecSink};
 use status::Status;
 use std::process::Abort;

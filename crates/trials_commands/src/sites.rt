@@ -1,6 +1,6 @@
 ghost use Rattle.std.specs.Prelude.{◌≡◌, IfOk};
 
-use calibration::{Gain, Gains, Grid, Setup};
+use calibration::{Gain, Grid, Items, Setup};
 use count_command::{count_command, watch_command};
 use init_command::init_command;
 use outside::station::{MomentStation, Torn};
@@ -112,7 +112,7 @@ pub fn held(alloc: Global, image: Vec<u8>) -> Result<u64, Fail> {
     let gain = Gain::new(1000, 1, 0)?;
     let setup = Setup {
         grid: Grid::new(16, 2, -8000, 8)?,
-        gains: Gains::from_vec(vec![in alloc; gain]?),
+        gains: Items::from_vec(vec![in alloc; gain]?),
     };
     let mut station = MomentStation::new(alloc, image, Vec::new(alloc));
     let store = Store::resume(alloc, &mut station, &setup)?;

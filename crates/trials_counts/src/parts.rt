@@ -1,6 +1,6 @@
-use calibration::Grid;
+use calibration::{Grid, Items};
 use four_point::Reducer;
-use segment::segment_rules::{Bins, BrokenRule, Cells, Levels, Name, Parts, first_broken};
+use segment::segment_rules::{BrokenRule, Name, Parts, first_broken};
 use std::alloc::{AllocError, Global};
 use std::test::Fail;
 use tally::{Bin, Cell};
@@ -147,8 +147,8 @@ const ROWS: &[Row] = &[
     },
 ];
 
-fn bins(alloc: Global, entries: &[Bin]) -> Result<Bins, AllocError> {
-    Ok(Bins::from_vec(entries.to_vec(alloc)?))
+fn bins(alloc: Global, entries: &[Bin]) -> Result<Items<Bin>, AllocError> {
+    Ok(Items::from_vec(entries.to_vec(alloc)?))
 }
 
 fn parts_of(alloc: Global, row: &Row) -> Result<Parts, AllocError> {
@@ -166,8 +166,8 @@ fn parts_of(alloc: Global, row: &Row) -> Result<Parts, AllocError> {
             first: [8, 13],
             last: [8, 13],
         },
-        residue: Levels::from_vec(row.residue.to_vec(alloc)?),
-        cells: Cells::from_vec(row.cells.to_vec(alloc)?),
+        residue: Items::from_vec(row.residue.to_vec(alloc)?),
+        cells: Items::from_vec(row.cells.to_vec(alloc)?),
         crossings: bins(alloc, row.crossings)?,
         peaks: bins(alloc, row.peaks)?,
         valleys: bins(alloc, row.valleys)?,

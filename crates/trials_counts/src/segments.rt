@@ -1,5 +1,5 @@
-use calibration::{Classifier, Gain, Grid, MAX_SAMPLES};
-use segment::segment_rules::{Bins, Cells, Levels, Name, Parts};
+use calibration::{Classifier, Gain, Grid, Items, MAX_SAMPLES};
+use segment::segment_rules::{Name, Parts};
 use segment::{JoinRefusal, LoadFault, Segment};
 use std::alloc::{AllocError, Global};
 use std::process::Abort;
@@ -379,24 +379,24 @@ fn parts(alloc: Global, used: u64, cycles: u64, second: u16) -> Result<Parts, Al
             first: [8, 13],
             last: [8, 13],
         },
-        residue: Levels::from_vec(vec![in alloc; 8, second]?),
-        cells: Cells::from_vec(vec![in alloc;
+        residue: Items::from_vec(vec![in alloc; 8, second]?),
+        cells: Items::from_vec(vec![in alloc;
             Cell {
                 lo: 8,
                 hi: 13,
                 n: cycles
             },
         ]?),
-        crossings: Bins::from_vec(vec![in alloc;
+        crossings: Items::from_vec(vec![in alloc;
             bin(9, 2),
             bin(10, 2),
             bin(11, 2),
             bin(12, 2),
             bin(13, 2),
         ]?),
-        peaks: Bins::from_vec(vec![in alloc; bin(13, 1)]?),
-        valleys: Bins::from_vec(Vec::new(alloc)),
-        ranges: Bins::from_vec(vec![in alloc; bin(5, 3)]?),
+        peaks: Items::from_vec(vec![in alloc; bin(13, 1)]?),
+        valleys: Items::from_vec(Vec::new(alloc)),
+        ranges: Items::from_vec(vec![in alloc; bin(5, 3)]?),
     })
 }
 

@@ -4,9 +4,8 @@ ghost use Rattle.count_workers.specs.lane_loans.Lent.{CanRound};
 ghost use Rattle.calibration.specs.declared.limits.TheConstants.{MAX_GAUGES, MAX_BLOCK, MAX_WORKERS};
 
 use board::block_pool::{Counted, Pool};
-use calibration::{Gain, Grid, MAX_SAMPLES};
+use calibration::{Gain, Grid, MAX_SAMPLES, MAX_WORKERS};
 use count_workers::lane_loans::Lane;
-use count_workers::round_making::MAX_WORKERS;
 use count_workers::{Plan, Prepared};
 use outside::{BytesSource, HoldGate, OpenGate};
 use recording::lane_ends::End;

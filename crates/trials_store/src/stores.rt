@@ -1,7 +1,7 @@
 ghost use Rattle.std.specs.Prelude.{◌≡◌, ◌<◌, ◌≤◌, length, IfOk};
 ghost use Rattle.calibration.specs.declared.limits.TheConstants.{MAX_GAUGES};
 
-use calibration::{Gain, Gains, Grid, MAX_SAMPLES, Setup};
+use calibration::{Gain, Grid, Items, MAX_SAMPLES, Setup};
 use outside::station::{MomentStation, Torn};
 use recording::Head;
 use segment::Segment;
@@ -10,7 +10,7 @@ use std::alloc::Global;
 use std::process::Abort;
 use std::test::Fail;
 use store_bytes::segment_bytes::Layout;
-use store_bytes::store_head::{Heads, StoreHead};
+use store_bytes::store_head::StoreHead;
 
 /// What is counted of a gauge in one piece.
 #[derive(Clone, Copy)]
@@ -55,7 +55,7 @@ pub fn setup(alloc: Global, gauges: usize) -> Result<Setup, Fail>
     let gain = Gain::new(1000, 1, 0)?;
     Ok(Setup {
         grid: Grid::new(16, 2, -8000, 8)?,
-        gains: Gains::from_vec(vec![in alloc; gain; gauges]?),
+        gains: Items::from_vec(vec![in alloc; gain; gauges]?),
     })
 }
 
@@ -69,7 +69,7 @@ fn head(alloc: Global, gauges: usize) -> Result<StoreHead, Fail>
     };
     Ok(StoreHead {
         setup: setup(alloc, gauges)?,
-        heads: Heads::from_vec(vec![in alloc; head; gauges]?),
+        heads: Items::from_vec(vec![in alloc; head; gauges]?),
     })
 }
 

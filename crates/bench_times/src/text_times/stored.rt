@@ -2,13 +2,13 @@ ghost use Rattle.std.specs.Prelude.{◌≡◌, ◌≤◌, IfOk, length};
 ghost use Rattle.calibration.specs.declared.limits.TheConstants.{MAX_GAUGES};
 
 use crate::text_times::made::gain;
-use calibration::{Gains, Grid, Setup};
+use calibration::{Grid, Items, Setup};
 use outside::station::{MomentStation, Torn};
 use recording::Head;
 use segment::Segment;
 use segment_store::{Store, init};
 use std::alloc::{AllocError, Global};
-use store_bytes::store_head::{Heads, StoreHead};
+use store_bytes::store_head::StoreHead;
 
 /// One gauge over a grid.
 pub fn setup_of(alloc: Global, grid: &Grid) -> Result<Setup, AllocError>
@@ -17,7 +17,7 @@ pub fn setup_of(alloc: Global, grid: &Grid) -> Result<Setup, AllocError>
 {
     Ok(Setup {
         grid: *grid,
-        gains: Gains::from_vec(vec![in alloc; gain(); 1]?),
+        gains: Items::from_vec(vec![in alloc; gain(); 1]?),
     })
 }
 
@@ -31,7 +31,7 @@ fn head_of(alloc: Global, grid: &Grid) -> Result<StoreHead, AllocError>
     };
     Ok(StoreHead {
         setup: setup_of(alloc, grid)?,
-        heads: Heads::from_vec(vec![in alloc; head; 1]?),
+        heads: Items::from_vec(vec![in alloc; head; 1]?),
     })
 }
 

@@ -12,7 +12,7 @@ use Rattle.board.specs.block_pool.Units.{PoolValue}
 use Rattle.board.specs.declared.block_pool.TheConstants.{MAX_BLOCK}
 use Rattle.calibration.specs.declared.limits.TheConstants.{MAX_GAUGES}
 use Rattle.board.specs.Board.{BoardValue}
-use Rattle.count_workers.specs.declared.round_making.TheConstants.{MAX_WORKERS}
+use Rattle.calibration.specs.declared.limits.TheConstants.{MAX_WORKERS}
 use Rattle.board.specs.declared.flow.TheConstants.{BLOCKS_PER_WINDOW}
 use Rattle.count_workers.specs.declared.block_workers.item.Item.{Item}
 use Rattle.count_workers.specs.declared.block_workers.worker.Worker.{Worker}

@@ -1,5 +1,6 @@
-use crate::segment_rules::lists::{Bins, Cells, Levels};
 use crate::segment_rules::name::Name;
+use calibration::Items;
+use tally::{Bin, Cell};
 use turning_points::Ends;
 
 /// The parts of a segment, as lists: what stands of it on a disk. [`crate::first_broken`] tells
@@ -13,14 +14,15 @@ pub struct Parts {
     pub refused: u64,
     /// The number of points, the first two and the last two.
     pub ends: Ends,
-    pub residue: Levels,
-    /// The full cycles.
-    pub cells: Cells,
+    /// The levels of the residue, the oldest first.
+    pub residue: Items<u16>,
+    /// The full cycles, by unordered pair of levels.
+    pub cells: Items<Cell>,
     /// By boundary.
-    pub crossings: Bins,
+    pub crossings: Items<Bin>,
     /// By level.
-    pub peaks: Bins,
-    pub valleys: Bins,
+    pub peaks: Items<Bin>,
+    pub valleys: Items<Bin>,
     /// Simple ranges, in half cycles.
-    pub ranges: Bins,
+    pub ranges: Items<Bin>,
 }

@@ -10,7 +10,8 @@ ghost use Rattle.store_bytes.specs.segment_bytes.Views.{cells_body, four, rows_b
 use crate::segment_bytes::entries::{Four, RowLists, lists_of, row_lists_of};
 use crate::segment_bytes::fault::BytesFault;
 use crate::segment_bytes::numbers::{NameAndCounts, ends_of, name_and_counts_of};
-use segment::segment_rules::{Bins, Cells, Levels, Name, Parts};
+use calibration::Items;
+use segment::segment_rules::{Name, Parts};
 use std::alloc::Global;
 use tally::Cell;
 use turning_points::Ends;
@@ -38,12 +39,12 @@ fn parts_of_body(
         missing: front.missing,
         refused: front.refused,
         ends: *ends,
-        residue: Levels::from_vec(residue),
-        cells: Cells::from_vec(cells),
-        crossings: Bins::from_vec(back.crossings),
-        peaks: Bins::from_vec(back.peaks),
-        valleys: Bins::from_vec(back.valleys),
-        ranges: Bins::from_vec(back.ranges),
+        residue: Items::from_vec(residue),
+        cells: Items::from_vec(cells),
+        crossings: Items::from_vec(back.crossings),
+        peaks: Items::from_vec(back.peaks),
+        valleys: Items::from_vec(back.valleys),
+        ranges: Items::from_vec(back.ranges),
     }
 }
 
