@@ -10,6 +10,8 @@
 //! calls. Bytes become samples a buffer at a time. No call here takes memory. A `fill` costs the
 //! takes and about one copy of the bytes, a `skip` what the skips of its source cost.
 //!
+//! [`take_all`] fills a buffer of bytes from a source, whatever the bytes are.
+//!
 //! [`lane_ends`] says how the samples of a block end: whether more may follow.
 #![tactic(auto)]
 
@@ -27,6 +29,7 @@ pub use filling::fill;
 pub use head::{HEAD_LENGTH, Head, HeadFault, read_head, write_head};
 pub use skipping::skip;
 pub use synth::Synth;
+pub use taking::{ByteFill, Stop, take_all};
 pub use writing::write_samples;
 
 /// The samples that a recording is read by, where it is read to its end: 64 KiB. Larger pieces

@@ -12,21 +12,26 @@ pub(crate) const SMALL: usize = 4096;
 pub(crate) const LARGE: usize = 65536;
 
 /// How far takes have filled a buffer of bytes.
-#[derive(Clone, Copy)]
-pub(crate) struct ByteFill {
-    pub(crate) n: usize,
-    pub(crate) stop: Stop,
+#[derive(Clone, Copy, Debug, PartialEq, Eq)]
+pub struct ByteFill {
+    /// So many bytes were put into the buffer's front.
+    pub n: usize,
+    pub stop: Stop,
 }
 
-#[derive(Clone, Copy)]
-pub(crate) enum Stop {
+/// Why no more bytes were taken.
+#[derive(Clone, Copy, Debug, PartialEq, Eq)]
+pub enum Stop {
+    /// The buffer is full.
     Full,
+    /// The input has ended.
     Ended,
+    /// A take failed.
     Failed,
 }
 
 /// Takes until the buffer is full, input ends or a take fails.
-pub(crate) fn take_all<S: Source>(src: &mut S, bytes: &mut [u8]) -> ByteFill
+pub fn take_all<S: Source>(src: &mut S, bytes: &mut [u8]) -> ByteFill
     ensures length { length bytes.new ≡ length bytes.old }
     ensures within { result.n ≤ length bytes.old }
     ensures bytes { S.tells → S.left src.old ≡ take result.n bytes.new ++ S.left src.new }

@@ -4,6 +4,5 @@
 //! gives more than a configuration may have, one byte more than that is taken.
 
 mod reading;
-mod taking;
 
 pub use reading::read_config;

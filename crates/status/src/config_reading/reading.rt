@@ -7,8 +7,8 @@ ghost use Rattle.status.specs.config_reading.Reading.{MeansAs, IsRefusal};
 ghost use Rattle.status.specs.declared.status.Status.TheVariants.{ReadFault};
 
 use crate::Status;
-use crate::config_reading::taking::take_front;
 use outside::Source;
+use recording::{Stop, take_all};
 use site_config::{Config, ConfigFault, MAX_BYTES, read};
 use std::alloc::Global;
 
@@ -36,9 +36,10 @@ fn read_front<C: Source>(alloc: Global, config: &mut C, bytes: &mut [u8]) -> Res
     ensures cause { result ≡ Err ReadFault → CountRose (C.faults config.old) (C.faults config.new) }
     ensures later { C.faults config.old ≤ C.faults config.new }
 {
-    match take_front(config, bytes) {
-        Ok(n) => meaning_of(alloc, &bytes[..n]),
-        Err(_) => Err(Status::ReadFault),
+    let taken = take_all(config, bytes);
+    match taken.stop {
+        Stop::Full | Stop::Ended => meaning_of(alloc, &bytes[..taken.n]),
+        Stop::Failed => Err(Status::ReadFault),
     }
 }
 
