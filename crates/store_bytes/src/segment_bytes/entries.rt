@@ -6,75 +6,32 @@ ghost use Rattle.store_bytes.specs.segment_bytes.RowReading.{rows_at};
 ghost use Rattle.store_bytes.specs.segment_bytes.Views.{lists, row_lists, four};
 
 use crate::segment_bytes::fault::BytesFault;
-use crate::segment_bytes::numbers::{bin_of, cell_of, u16_at, u32_at};
+use crate::segment_bytes::numbers::{Entry, u16_at, u32_at};
 use crate::segment_bytes::row_reading::{Rows, rows_of};
 use std::alloc::Global;
 use tally::{Bin, Cell};
 
-fn levels_of(
-    alloc: Global,
-    have: usize,
-    count: u16,
-    bytes: &[u8],
-) -> Result<(Vec<u16>, &[u8]), BytesFault>
-    requires within { length bytes.now ≤ have }
-    requires small { have < 2 ^ 63 }
-    ensures reads { Gives (λ x. (x.0.items, x.1.now)) result
-        (entry_list (number_at w16) count have bytes.now) }
-    ensures rest { IfOk result (λ x. length x.1.now ≤ length bytes.now) }
-{
-    let mut levels = Vec::with_capacity(alloc, usize::from(count).min(bytes.len() / 2))?;
-    let mut rest = bytes;
-    for _ in 0..count {
-        let (level, after) = u16_at(have, rest)?;
-        levels.push(level)?;
-        rest = after;
-    }
-    Ok((levels, rest))
-}
-
-fn cells_of(
+// So many of one kind.
+fn entries_of<T: Entry + Drop>(
     alloc: Global,
     have: usize,
     count: u32,
     bytes: &[u8],
-) -> Result<(Vec<Cell>, &[u8]), BytesFault>
+) -> Result<(Vec<T>, &[u8]), BytesFault>
     requires within { length bytes.now ≤ have }
     requires small { have < 2 ^ 63 }
     ensures reads { Gives (λ x. (x.0.items, x.1.now)) result
-        (entry_list cell_at count have bytes.now) }
+        (entry_list T.at count have bytes.now) }
     ensures rest { IfOk result (λ x. length x.1.now ≤ length bytes.now) }
 {
-    let mut cells = Vec::with_capacity(alloc, (count as usize).min(bytes.len() / 12))?;
+    let mut entries = Vec::with_capacity(alloc, (count as usize).min(bytes.len() / T::WIDTH))?;
     let mut rest = bytes;
     for _ in 0..count {
-        let (cell, after) = cell_of(have, rest)?;
-        cells.push(cell)?;
+        let (entry, after) = T::entry_of(have, rest)?;
+        entries.push(entry)?;
         rest = after;
     }
-    Ok((cells, rest))
-}
-
-fn bins_of(
-    alloc: Global,
-    have: usize,
-    count: u16,
-    bytes: &[u8],
-) -> Result<(Vec<Bin>, &[u8]), BytesFault>
-    requires within { length bytes.now ≤ have }
-    requires small { have < 2 ^ 63 }
-    ensures reads { Gives (λ x. (x.0.items, x.1.now)) result
-        (entry_list bin_at count have bytes.now) }
-    ensures rest { IfOk result (λ x. length x.1.now ≤ length bytes.now) }
-{
-    let mut bins = Vec::with_capacity(alloc, usize::from(count).min(bytes.len() / 10))?;
-    let mut rest = bytes;
-    for _ in 0..count {
-        let (bin, after) = bin_of(have, rest)?;
-        bins.push(bin)?;
-        rest = after;
-    }
-    Ok((bins, rest))
+    Ok((entries, rest))
 }
 
 fn levels_in(alloc: Global, have: usize, bytes: &[u8]) -> Result<(Vec<u16>, &[u8]), BytesFault>
@@ -85,7 +42,7 @@ fn levels_in(alloc: Global, have: usize, bytes: &[u8]) -> Result<(Vec<u16>, &[u8
     ensures rest { IfOk result (λ x. length x.1.now ≤ length bytes.now) }
 {
     let (count, rest) = u16_at(have, bytes)?;
-    levels_of(alloc, have, count, rest)
+    entries_of(alloc, have, u32::from(count), rest)
 }
 
 fn cells_in(alloc: Global, have: usize, bytes: &[u8]) -> Result<(Vec<Cell>, &[u8]), BytesFault>
@@ -96,7 +53,7 @@ fn cells_in(alloc: Global, have: usize, bytes: &[u8]) -> Result<(Vec<Cell>, &[u8
     ensures rest { IfOk result (λ x. length x.1.now ≤ length bytes.now) }
 {
     let (count, rest) = u32_at(have, bytes)?;
-    cells_of(alloc, have, count, rest)
+    entries_of(alloc, have, count, rest)
 }
 
 fn bins_in(alloc: Global, have: usize, bytes: &[u8]) -> Result<(Vec<Bin>, &[u8]), BytesFault>
@@ -107,7 +64,7 @@ fn bins_in(alloc: Global, have: usize, bytes: &[u8]) -> Result<(Vec<Bin>, &[u8])
     ensures rest { IfOk result (λ x. length x.1.now ≤ length bytes.now) }
 {
     let (count, rest) = u16_at(have, bytes)?;
-    bins_of(alloc, have, count, rest)
+    entries_of(alloc, have, u32::from(count), rest)
 }
 
 fn rows_in(

@@ -2,7 +2,7 @@ ghost use Rattle.std.specs.Prelude.{◌≡◌, ◌+◌, ◌-◌, ◌≤◌, ◌<
 ghost use Rattle.std.specs.Int.{w16, w32, w64};
 ghost use Rattle.turning_points.specs.Ends.{end_points};
 ghost use Rattle.store_bytes.specs.segment_bytes.Fields.{Gives, number_at};
-ghost use Rattle.store_bytes.specs.segment_bytes.Grammar.{bin_at, cell_at, ends_at, name_and_counts_at};
+ghost use Rattle.store_bytes.specs.segment_bytes.Grammar.{ends_at, name_and_counts_at};
 ghost use Rattle.store_bytes.specs.segment_bytes.Views.{name_and_counts};
 ghost use Rattle.store_bytes.specs.declared.segment_bytes.fault.BytesFault.TheVariants.{Short};
 
@@ -69,28 +69,86 @@ fn u64_at(have: usize, bytes: &[u8]) -> Result<(u64, &[u8]), BytesFault>
     Ok((number, rest))
 }
 
-pub(crate) fn cell_of(have: usize, bytes: &[u8]) -> Result<(Cell, &[u8]), BytesFault>
-    requires within { length bytes.now ≤ have }
-    requires small { have < 2 ^ 63 }
-    ensures reads { Gives (λ x. (x.0, x.1.now)) result (cell_at have bytes.now) }
-    ensures rest { IfOk result (λ x. length x.1.now ≤ length bytes.now) }
-{
-    let (lo, rest) = u16_at(have, bytes)?;
-    let (hi, rest) = u16_at(have, rest)?;
-    let (n, rest) = u64_at(have, rest)?;
-    Ok((Cell { lo, hi, n }, rest))
+/// What a list in a body has many of: levels, cells or bins.
+pub(crate) trait Entry: Sized {
+    ghost use Rattle.std.specs.Prelude.{◌≡◌, ◌≤◌, ◌<◌, ◌^◌, ℕ, length, IfOk};
+    ghost use Rattle.store_bytes.specs.segment_bytes.Fields.{Gives, Reader};
+
+    // The bytes of one.
+    const WIDTH: usize;
+
+    ghost WIDTH: { ℕ };
+
+    ghost some: { 1 ≤ WIDTH };
+
+    // One, and the bytes after it, of a body of so many bytes.
+    ghost at: { Reader Self };
+
+    fn entry_of(have: usize, bytes: &[u8]) -> Result<(Self, &[u8]), BytesFault>
+        requires within { length bytes.now ≤ have }
+        requires small { have < 2 ^ 63 }
+        ensures reads { Gives (λ x. (x.0, x.1.now)) result (at have bytes.now) }
+        ensures rest { IfOk result (λ x. length x.1.now ≤ length bytes.now) };
 }
 
-#[inline(always)]
-pub(crate) fn bin_of(have: usize, bytes: &[u8]) -> Result<(Bin, &[u8]), BytesFault>
-    requires within { length bytes.now ≤ have }
-    requires small { have < 2 ^ 63 }
-    ensures reads { Gives (λ x. (x.0, x.1.now)) result (bin_at have bytes.now) }
-    ensures rest { IfOk result (λ x. length x.1.now ≤ length bytes.now) }
-{
-    let (key, rest) = u16_at(have, bytes)?;
-    let (n, rest) = u64_at(have, rest)?;
-    Ok((Bin { key, n }, rest))
+impl Entry for u16 {
+    ghost use Rattle.std.proofs.Common.{lit≤};
+    ghost use Rattle.std.specs.Int.{w16};
+    ghost use Rattle.store_bytes.specs.segment_bytes.Fields.{number_at};
+
+    const WIDTH: usize = 2;
+
+    ghost WIDTH = { 2 };
+
+    ghost some = { lit≤ tt };
+
+    ghost at = { number_at w16 };
+
+    #[inline(always)]
+    fn entry_of(have: usize, bytes: &[u8]) -> Result<(u16, &[u8]), BytesFault> {
+        u16_at(have, bytes)
+    }
+}
+
+impl Entry for Cell {
+    ghost use Rattle.std.proofs.Common.{lit≤};
+    ghost use Rattle.store_bytes.specs.segment_bytes.Grammar.{cell_at};
+
+    const WIDTH: usize = 12;
+
+    ghost WIDTH = { 12 };
+
+    ghost some = { lit≤ tt };
+
+    ghost at = { cell_at };
+
+    #[inline(always)]
+    fn entry_of(have: usize, bytes: &[u8]) -> Result<(Cell, &[u8]), BytesFault> {
+        let (lo, rest) = u16_at(have, bytes)?;
+        let (hi, rest) = u16_at(have, rest)?;
+        let (n, rest) = u64_at(have, rest)?;
+        Ok((Cell { lo, hi, n }, rest))
+    }
+}
+
+impl Entry for Bin {
+    ghost use Rattle.std.proofs.Common.{lit≤};
+    ghost use Rattle.store_bytes.specs.segment_bytes.Grammar.{bin_at};
+
+    const WIDTH: usize = 10;
+
+    ghost WIDTH = { 10 };
+
+    ghost some = { lit≤ tt };
+
+    ghost at = { bin_at };
+
+    #[inline(always)]
+    fn entry_of(have: usize, bytes: &[u8]) -> Result<(Bin, &[u8]), BytesFault> {
+        let (key, rest) = u16_at(have, bytes)?;
+        let (n, rest) = u64_at(have, rest)?;
+        Ok((Bin { key, n }, rest))
+    }
 }
 
 // The six numbers at the front.

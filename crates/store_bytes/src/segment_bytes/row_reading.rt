@@ -7,9 +7,9 @@ ghost use Rattle.store_bytes.specs.segment_bytes.RowReading.{with_row, with_rows
 ghost use Rattle.store_bytes.specs.segment_bytes.Views.{see_rows};
 
 use crate::segment_bytes::fault::BytesFault;
-use crate::segment_bytes::numbers::{bin_of, u16_at};
+use crate::segment_bytes::numbers::{Entry, u16_at};
 use std::alloc::Global;
-use tally::Cell;
+use tally::{Bin, Cell};
 
 /// What the rows that were read have come to: their cells, the least lower level of the next row,
 /// and the place of the first row, or cell in a row, that breaks the order.
@@ -39,7 +39,7 @@ fn push_cells<'a>(
 {
     let mut rest = bytes;
     for _ in 0..count {
-        let (bin, after) = bin_of(have, rest)?;
+        let (bin, after) = Bin::entry_of(have, rest)?;
         cells.push(Cell {
             lo,
             hi: bin.key,

@@ -1,4 +1,4 @@
-use Rattle.std.proofs.Common.{◌≡◌, ◌+◌, ◌++◌, length, take}
+use Rattle.std.proofs.Common.{◌≡◌, ◌++◌, length, take}
 use Rattle.std.specs.Prelude.{All}
 use Rattle.calibration.specs.Gain.{IsGain}
 use Rattle.recording.specs.Head.{IsRecorded}
