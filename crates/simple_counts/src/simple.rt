@@ -17,7 +17,7 @@ use calibration::Grid;
 use std::alloc::{AllocError, Global};
 use std::marker::Model;
 use tally::Bin;
-use tally::tables::{add_to, empty, fill as fill_bins, lower, raise, raise_if};
+use tally::tables::{add_if, add_to, empty, fill as fill_bins, lower, raise};
 use turning_points::{Ends, ends_of, join_ends, no_ends, put_before, put_behind};
 
 /// Counts of simple ranges, peaks and valleys of a history. The last range is not in the table
@@ -282,8 +282,8 @@ impl Simple {
         let e = self.ends;
         let turns = turns(level, &e);
         let extreme = decides_extreme(self.reference, level, &e);
-        raise_if(&mut self.decided, range(e.last[0], e.last[1]), turns);
-        raise_if(&mut self.extremes, usize::from(e.last[1]), extreme);
+        add_if(&mut self.decided, range(e.last[0], e.last[1]), turns);
+        add_if(&mut self.extremes, usize::from(e.last[1]), extreme);
         let ends = put_behind(level, &e);
         self.ends = ends;
     }

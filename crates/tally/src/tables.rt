@@ -4,7 +4,7 @@
 //! the clauses of a caller speak of the items of its fields.
 
 ghost use Rattle.tally.specs.tables.Tables.{sum_of_tables, table_with_bins, lower, raise};
-ghost use Rattle.std.specs.Prelude.{All, if◌then◌else◌, slice_index, length, replicate, sum, ◌+◌, ◌<◌, ◌≡◌, ◌≤◌, ◌^◌, ℕ};
+ghost use Rattle.std.specs.Prelude.{All, if◌then◌else◌, slice_index, length, replicate, ◌+◌, ◌<◌, ◌≡◌, ◌≤◌, ◌^◌, ℕ};
 
 use crate::Bin;
 
@@ -44,17 +44,6 @@ pub fn add_to(left: &mut Vec<u64>, right: &[u64])
     ensures { left.new.items ≡ sum_of_tables left.old.items right.now }
 {
     add_all(left, right);
-}
-
-/// One more at a place, where it is asked for.
-pub fn raise_if(table: &mut Vec<u64>, place: usize, yes: bool)
-    requires within { place < length table.old.items }
-    requires room { sum table.old.items < 2 ^ 61 }
-    ensures { table.new.items ≡ if yes then raise table.old.items place else table.old.items }
-{
-    if yes {
-        raise(table, place);
-    }
 }
 
 /// Makes each count 0.
