@@ -5,11 +5,16 @@
 //! samples and stands for them, so nobody can hand on a unit that was not counted.
 //! `specs/block_pool/Units.antt` says what contracts see of it. All memory is taken by `Pool::new`.
 //! A block is counted at once (`Segment::count_block`).
+//!
+//! No clause follows a unit through another thread. Who hands one out keeps a [`Receipt`] of it, and
+//! knows the count by comparing: a name, a grid, a gain and the samples.
 
 mod pool;
+mod receipt;
 mod unit;
 
 pub use pool::Pool;
+pub use receipt::Receipt;
 pub use std::alloc::AllocError as OutOfMemory;
 pub use unit::{Blank, Counted, Filled};
 

@@ -6,6 +6,7 @@ pub mod Room
 pub mod SameEnds
 pub mod Rules
 pub mod Standing
+pub mod Known
 pub mod OfPoints
 pub mod Kept
 pub mod SideBySide

@@ -160,6 +160,27 @@ impl Filled {
         &self.buffer[..(self.name.to - self.name.from) as usize]
     }
 
+    /// How many places it has.
+    pub fn block(&self) -> usize
+        ensures { result ≡ self.now.block }
+    {
+        self.buffer.len()
+    }
+
+    /// The classes that it is counted over.
+    pub fn grid(&self) -> Grid
+        ensures { result ≡ self.now.grid }
+    {
+        self.segment.grid()
+    }
+
+    /// What its raw values mean.
+    pub fn gain(&self) -> Gain
+        ensures { result ≡ self.now.gain }
+    {
+        self.gain
+    }
+
     /// Counts its samples.
     pub fn count(self) -> Counted
         ensures { IsCountOf self result }
@@ -209,6 +230,13 @@ impl Counted {
     {
         let name = self.segment.name();
         &self.buffer[..(name.to - name.from) as usize]
+    }
+
+    /// What its raw values mean.
+    pub fn gain(&self) -> Gain
+        ensures { result ≡ self.now.gain }
+    {
+        self.gain
     }
 
     /// How many places it has.

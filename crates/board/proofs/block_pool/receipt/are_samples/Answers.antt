@@ -1,0 +1,7 @@
+use Rattle.std.proofs.Common.{sym, ◌∙◌}
+use Rattle.std.proofs.lemmas.Bool.Decides.{Decides-int_eq}
+use lib.Pointwise.{pointwise_decides}
+use Rattle.board.proofs.block_pool.receipt.are_samples.Goals as goal
+
+pub returns : goal.returns
+returns c = λ yes. (pointwise_decides Decides-int_eq c.args.a.now c.args.b.now).0 (sym c.eq.ensures ∙ yes)
