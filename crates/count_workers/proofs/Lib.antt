@@ -1,4 +1,5 @@
 mod Preparation
+mod Hired
 pub mod on_gauge_ring
 pub mod on_block_workers
 pub mod on_collector

@@ -12,6 +12,7 @@ use Rattle.count_workers.specs.declared.block_workers.jobs.Reader.{Reader}
 use Rattle.count_workers.specs.declared.block_workers.worker.Worker.{Worker}
 use Rattle.count_workers.specs.declared.plan.Plan.{Plan}
 use Rattle.count_workers.specs.Plans.{IsPlan}
+use Rattle.count_workers.specs.block_workers.Working.{waiting_in}
 use Rattle.count_workers.specs.round_making.Resting.{IsEven, RestingWorker, RestingReturn, IsResting, rings_of}
 use Rattle.count_workers.proofs.on_lane_loans.Walking.{map_at, some_of}
 use Rattle.board.specs.block_pool.Units.{PoolValue}
@@ -140,7 +141,7 @@ module _ {C : Type 0} where
         readers = λ g d m. (let l : g < length rs = omega (arith, m, n.long) in
             fresh_more plan g k (get_or rs g d) (get_or rs' g d) (get_or w.takers.items g t) (h.readers g d l) (n.rings g d t l));
         workers = pushed (λ v x. RestingWorker plan.gauges v x) ws ws' w k p h.made.0 h.workers
-            (record { number = n.number_is; takers = n.takers ∙ h.long });
+            (record { number = n.number_is; takers = n.takers ∙ h.long; idle = ap waiting_in n.alone });
         rings = λ v g d e m l. (
             let few : g < length rs = omega (arith, l, h.long) in
             let rings_at : vec_len (get_or rs g e).desk.feeders ≡ k = (h.readers g e few).feeders in
@@ -200,7 +201,7 @@ module _ {C : Type 0} where
               room = r.room;
             });
         each_worker = λ v d m. (let r = h.workers v d (omega (arith, m, h.made.0)) in
-            record { number = r.number; takers = r.takers ∙ sym h.long });
+            record { number = r.number; takers = r.takers ∙ sym h.long; idle = r.idle });
         rings = λ v g d e m l. h.rings v g d e (omega (arith, m, h.made.0)) (omega (arith, l, h.long));
         returns_long = h.made.1 ∙ sym h.made.0;
         each_return = λ v d e m. h.returns v d e (omega (arith, m, h.made.0));

@@ -1,6 +1,8 @@
 pub mod Plans
 pub mod Preparing
+pub mod Hiring
 pub mod gauge_ring
+pub mod crew
 pub mod block_workers
 pub mod collector
 pub mod lane_loans

@@ -43,6 +43,7 @@ module _ {C : Type 0} where
   pub record NewWorker (number : ℕ) (back : Feeder Back) (old new : List (Reader C)) (w : Worker) : Type 0 where
     pub number_is : w.number ≡ number
     pub back_is : w.back ≡ back
+    pub alone : w.line ≡ None
     pub long : length new ≡ length old
     pub takers : vec_len w.takers ≡ length old
     pub rings : (g : ℕ) (d : Reader C) (e : Taker Item) → g < length old

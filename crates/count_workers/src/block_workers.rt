@@ -2,7 +2,8 @@
 //!
 //! A reader takes up to 16 blocks of its lane, fills a unit with each and deals them to its rings,
 //! one ring to a worker. A worker takes its rings one after another, each to its mark, counts each
-//! block and feeds it to its return ring. All memory stands before a round; nobody here takes any.
+//! block, or has its helper count it ([`crew`](crate::crew)), and feeds it to its return ring. All
+//! memory stands before a round; nobody here takes any.
 //!
 //! `specs/block_workers/Dealing.antt` says what goes through the rings,
 //! `specs/block_workers/Reading.antt` what a reader reads and how it ends,
@@ -19,4 +20,4 @@ mod worker;
 pub use desk::{Desk, mark_lane, read_block};
 pub use item::{Back, Item};
 pub use jobs::{Reader, settle_all};
-pub use worker::{Worker, begin_work, end_work, work_once};
+pub use worker::{Worker, begin_work, end_work, fetch, is_helped, work_once};

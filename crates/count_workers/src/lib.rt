@@ -19,7 +19,9 @@
 
 pub mod block_workers;
 pub mod collector;
+pub mod crew;
 pub mod gauge_ring;
+mod hiring;
 pub mod lane_loans;
 mod plan;
 mod prepared;

@@ -4,7 +4,9 @@ ghost use Rattle.board.specs.declared.flow.TheConstants.{BLOCKS_PER_WINDOW};
 
 use crate::block_workers::{Reader, Worker};
 use crate::collector::{Depot, Return};
+use crate::crew::Helper;
 use crate::gauge_ring::ring;
+use crate::hiring::{dismiss_all, hire_all};
 use crate::lane_loans::Lane;
 use crate::preparing::{new_readers, new_worker};
 use crate::round_making::make_round;
@@ -73,6 +75,22 @@ impl<C: Source + Send> Prepared<C> {
             workers,
             returns,
         })
+    }
+
+    /// Gives each worker a helper, for as long as [`crate::crew::help_all`] has them count beside
+    /// the rounds. Till then, and where memory runs out, the workers count for themselves.
+    pub fn hire(&mut self, alloc: Global, plan: &Plan) -> Result<Vec<Helper>, OutOfMemory>
+        requires { IsPlan plan.now }
+        ensures { self.new ≡ self.old }
+    {
+        hire_all(alloc, plan, self.workers.as_mut_slice())
+    }
+
+    /// Takes the helpers away, which then end.
+    pub fn dismiss(&mut self)
+        ensures { self.new ≡ self.old }
+    {
+        dismiss_all(self.workers.as_mut_slice());
     }
 
     /// Reads up to 16 blocks of each lane that has not ended, and counts them. Each lane's `at` and

@@ -81,5 +81,6 @@ pub(crate) fn new_worker<C: Source>(
         back,
         gauge: 0,
         block: 0,
+        line: None,
     })
 }

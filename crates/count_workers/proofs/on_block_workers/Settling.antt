@@ -23,13 +23,14 @@ pub work_on : (a b c : Worker) → SameWork a b → SameWork b c → SameWork a 
 work_on a b c h k = record {
   number = k.number ∙ h.number;
   back = (k.back.0 ∙ h.back.0, same_feeders a.back b.back c.back h.back.1 k.back.1);
+  line = k.line ∙ h.line;
   takers = k.takers ∙ h.takers;
   taken = λ g d. k.taken g d ∙ h.taken g d;
   ends = λ g d. same_takers (get_or a.takers.items g d) (get_or b.takers.items g d) (get_or c.takers.items g d) (h.ends g d) (k.ends g d);
 }
 
 pub work_same : (a : Worker) → SameWork a a
-work_same a = record { number = refl; back = (refl, search rules); takers = refl; taken = λ g d. refl; ends = λ g d. search rules }
+work_same a = record { number = refl; back = (refl, search rules); line = refl; takers = refl; taken = λ g d. refl; ends = λ g d. search rules }
 
 pub read_on : {C : Type 0} → (a b c : Reader C) → SameRead a b → SameRead b c → SameRead a c
 read_on a b c h k = record {

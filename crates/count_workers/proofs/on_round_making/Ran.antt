@@ -22,7 +22,7 @@ use Rattle.count_workers.specs.declared.block_workers.worker.Worker.{Worker}
 use Rattle.count_workers.specs.block_workers.Dealing.{round_of, blocks_of_worker}
 use Rattle.count_workers.specs.block_workers.Reading.{AreBlocks, samples_of, ReadDone, SameDesk}
 use Rattle.count_workers.specs.block_workers.Reading.AreBlocks.{none}
-use Rattle.count_workers.specs.block_workers.Working.{in_turn, AreCounts, return_round, WorkJob}
+use Rattle.count_workers.specs.block_workers.Working.{in_turn, AreCounts, return_round, WorkJob, IsIdle, waiting_in}
 use Rattle.count_workers.specs.block_workers.Jobs.{RingAt, CanRead, ReadJob, NotRead, SameRead, SameWork}
 use Rattle.count_workers.proofs.on_block_workers.Blocks.{gives_as}
 use Rattle.count_workers.proofs.on_gauge_ring.Ends.{same_feeders, same_takers, still_one}
@@ -240,6 +240,7 @@ pub record WorkerRan (w0 w3 : Worker) : Type 0 where
   pub counts : AreCounts (in_turn (vec_len w0.takers) blocks) units
   pub fed : fed w3.back ≡ fed w0.back ++ return_round units
   pub same : IsSameFeeder w0.back w3.back
+  pub idle : IsIdle w3
 
 pub worker_ran : (w0 w1 w2 w3 : Worker) → WorkJob w0 w1 → SameWork w1 w2 → SameFeeding w2 w3 → WorkerRan w0 w3
 worker_ran w0 w1 w2 w3 job same feeding = record {
@@ -254,4 +255,5 @@ worker_ran w0 w1 w2 w3 job same feeding = record {
   counts = job.counts;
   fed = feeding.fed ∙ same.back.0 ∙ job.fed;
   same = same_feeders w0.back w2.back w3.back (same_feeders w0.back w1.back w2.back job.same same.back.1) feeding.same;
+  idle = ap waiting_in (feeding.line ∙ same.line) ∙ job.idle;
 }

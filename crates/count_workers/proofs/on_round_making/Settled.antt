@@ -360,7 +360,7 @@ module _ {C : Type 0} (tells : Type 0) (left : C → List ℕ) (faults : C → �
 
     rest_worker : (v : ℕ) → v < workers → RestingWorker n v (get_or ws3 v w)
     rest_worker v m = let q = worker_at v m in let rest = s.resting.each_worker v w m in
-        record { number = q.number ∙ rest.number; takers = q.takers ∙ rest.takers }
+        record { number = q.number ∙ rest.number; takers = q.takers ∙ rest.takers; idle = q.idle }
 
     rest_ring : (v g : ℕ) → v < workers → g < n → IsEven (get_or ws3 v w) (get_or rs4 g r) g v
     rest_ring v g m h =

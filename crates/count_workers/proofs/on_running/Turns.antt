@@ -1,13 +1,14 @@
 -- What goes on between two blocks, from one time to the next.
-use Rattle.std.proofs.Common.{◌≡◌, ◌⊎◌, inl, inr, ◌<◌, ◌+◌, ℕ, List, length, get_or, set, refl, sym, ◌∙◌, subst, arith}
+use Rattle.std.proofs.Common.{◌≡◌, ◌⊎◌, inl, inr, ◌<◌, ◌+◌, ℕ, List, [], length, get_or, set, vec_len, refl, sym, ap, ◌∙◌, subst, arith}
 use Rattle.std.proofs.lemmas.List.{get_or-set_same, get_or-set_other}
 use Rattle.std.proofs.lemmas.Bool.{cases_eq}
 use Rattle.std.specs.List.{All}
 use Rattle.count_workers.specs.declared.block_workers.worker.Worker.{Worker}
-use Rattle.count_workers.specs.block_workers.Working.{CanWork, WorksOn}
+use Rattle.count_workers.specs.block_workers.Working.{HandsOver, CanWork, WorksOn}
 use Rattle.count_workers.specs.declared.collector.collecting.Return.{Return}
 use Rattle.count_workers.specs.declared.collector.depot.Depot.{Depot}
 use Rattle.count_workers.specs.running.Going.{CanGoOn, GoesOn}
+use Rattle.count_workers.proofs.on_block_workers.Steps.{worked_hands}
 
 -- one more of a list was done
 pub done_more : {A : Type 0} → (R : A → A → Type 0) (xs ys : List A) (k : ℕ) (y : A) → k < length ys
@@ -25,6 +26,9 @@ works_same w = record { takers = refl; on = λ first h. h }
 
 pub works_both : (a b c : Worker) → WorksOn a b → WorksOn b c → WorksOn a c
 works_both a b c h k = record { takers = k.takers ∙ h.takers; on = λ first x. k.on first (h.on first x) }
+
+pub works_hands : (w now : Worker) → HandsOver w now [] → WorksOn w now
+works_hands w now o = record { takers = ap (λ t. vec_len t) o.takers; on = λ first h. worked_hands first w now h o }
 
 pub can_still : (ws vs : List Worker) → length vs ≡ length ws → ((v : ℕ) (d : Worker) → WorksOn (get_or ws v d) (get_or vs v d))
     → All CanWork ws → All CanWork vs

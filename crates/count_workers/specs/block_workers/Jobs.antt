@@ -80,6 +80,7 @@ module _ {C : Type 0} where
 pub record SameWork (old new : Worker) : Type 0 where
   pub number : new.number ≡ old.number
   pub back : (fed new.back ≡ fed old.back) × IsSameFeeder old.back new.back
+  pub line : new.line ≡ old.line
   pub takers : vec_len new.takers ≡ vec_len old.takers
   pub taken : (g : ℕ) (d : Taker Item) →
       taken (slice_index_or new.takers.items g d) ≡ taken (slice_index_or old.takers.items g d)

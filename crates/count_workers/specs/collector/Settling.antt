@@ -25,6 +25,7 @@ pub record SameFeeding (old new : Worker) : Type 0 where
   pub takers : new.takers ≡ old.takers
   pub fed : fed new.back ≡ fed old.back
   pub same : IsSameFeeder old.back new.back
+  pub line : new.line ≡ old.line
 
 -- what was fed back is what was taken and what is left
 pub record BackFifo (w : Worker) (r : Return) : Type 0 where

@@ -18,6 +18,7 @@ use Rattle.count_workers.specs.declared.block_workers.item.Item.{Item}
 use Rattle.count_workers.specs.declared.block_workers.worker.Worker.{Worker}
 use Rattle.count_workers.specs.declared.block_workers.jobs.Reader.{Reader}
 use Rattle.count_workers.specs.block_workers.Jobs.{RingAt}
+use Rattle.count_workers.specs.block_workers.Working.{IsIdle}
 use Rattle.count_workers.specs.declared.collector.collecting.Return.{Return}
 use Rattle.count_workers.specs.collector.Collecting.{IsAwaited}
 use Rattle.count_workers.specs.collector.Settling.{ReturnAt}
@@ -35,10 +36,11 @@ pub record PreparedValue : Type 0 where
 abbrev pub rings_of : List Worker → List (List (List Item))
 rings_of workers = map (λ (w : Worker). map (λ (t : Taker Item). taken t) w.takers.items) workers
 
--- a worker between two rounds: it has a ring of each gauge
+-- a worker between two rounds: it has a ring of each gauge, and its helper has nothing of it
 pub record RestingWorker (gauges v : ℕ) (w : Worker) : Type 0 where
   pub number : w.number ≡ v
   pub takers : vec_len w.takers ≡ gauges
+  pub idle : IsIdle w
 
 -- a return ring between two rounds: what was fed was taken, and the next round is awaited
 pub record RestingReturn (w : Worker) (r : Return) : Type 0 where

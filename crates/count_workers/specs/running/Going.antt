@@ -1,6 +1,7 @@
 -- What goes on in the thread that reads, between two blocks.
 --   CanGoOn     its workers may work, and the board and the pool have one grid
 --   Collects    what was collected before, and what came since
+--   AllWorkOn   each worker has worked on
 --   GoesOn      its workers have worked on, and what they fed back was collected
 use Rattle.std.specs.Prelude.{◌≡◌, ℕ, List, length, slice_index_or}
 use Rattle.std.specs.List.{All}
@@ -16,6 +17,10 @@ pub record CanGoOn (workers : List Worker) (depot : Depot) : Type 0 where
 
 abbrev pub Collects : Depot → Depot → List Return → List Return → Type 0
 Collects old new before now = CollectsMore old.board new.board old.pool new.pool before now
+
+pub record AllWorkOn (olds news : List Worker) : Type 0 where
+  pub long : length news ≡ length olds
+  pub work : (v : ℕ) (d : Worker) → WorksOn (slice_index_or olds v d) (slice_index_or news v d)
 
 pub record GoesOn (olds news : List Worker) (old new : Depot) (before now : List Return) : Type 0 where
   pub long : length news ≡ length olds

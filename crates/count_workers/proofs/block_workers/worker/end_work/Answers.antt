@@ -1,6 +1,6 @@
-use Rattle.std.proofs.Common.{refl, arith}
+use Rattle.std.proofs.Common.{refl, arith, ap, vec_len}
 use Rattle.count_workers.proofs.on_running.Turns.{works_same, works_both}
-use Rattle.count_workers.proofs.on_block_workers.Steps.{work_ended}
+use Rattle.count_workers.proofs.on_block_workers.Steps.{worked_hands, work_ended}
 use Rattle.count_workers.proofs.block_workers.worker.end_work.Goals as goal
 
 pub loop-init : goal.loop-init
@@ -13,7 +13,12 @@ loop-preserved g c = record {
 }
 
 pub returns-then-worker-len : goal.returns-then-worker-len
-returns-then-worker-len g c = record {
-  to_end = λ first h. work_ended first c.loop.worker _ (c.loop.invariant.on.on first h) (omega arith) refl refl
-      c.feed_waiting.ensures.fed c.feed_waiting.ensures.same;
-}
+returns-then-worker-len g c =
+    let came = c.fetch_all.ensures.came in
+    let wide = ap (λ t. vec_len t) came.takers in
+    let at = came.gauge in
+    record {
+      to_end = λ first h. work_ended first c.fetch_all.new.worker _
+          (worked_hands first c.loop.worker c.fetch_all.new.worker (c.loop.invariant.on.on first h) came) (omega (arith, wide, at))
+          c.fetch_all.ensures.idle refl refl refl c.feed_waiting.ensures.fed c.feed_waiting.ensures.same;
+    }

@@ -1,4 +1,4 @@
-use Rattle.std.proofs.Common.{refl, rules, ap, ◌≡◌, ◌<◌, ◌∙◌, ◌++◌, ◌∷◌, [], length, get_or, subst}
+use Rattle.std.proofs.Common.{refl, rules, ap, ◌≡◌, ◌<◌, ◌∙◌, ◌++◌, ◌∷◌, [], length, get_or, subst, vec_len}
 use Rattle.std.proofs.lemmas.List.{get_or_default}
 use Rattle.count_workers.specs.gauge_ring.Ends.{taken, IsSameTaker}
 use Rattle.count_workers.specs.declared.block_workers.item.Item.TheVariants.{Mark}
@@ -19,7 +19,7 @@ returns-in-None g c =
     record {
       takers = refl;
       on = λ first h. none_taken first w t h l
-          (λ d. subst (λ x. IsSameTaker x t) (at ∙ get_or_default w.takers.items w.gauge r d l) c.take.ensures.same) _ refl refl refl refl refl
+          (λ d. subst (λ x. IsSameTaker x t) (at ∙ get_or_default w.takers.items w.gauge r d l) c.take.ensures.same) _ refl refl refl refl refl refl
           (λ d. c.in-None.ensures.none.0 ∙ ap (λ x. taken x) (at ∙ get_or_default w.takers.items w.gauge r d l));
     }
 
@@ -33,7 +33,7 @@ returns-in-Some-Mark g c =
     record {
       takers = refl;
       on = λ first h. mark_taken first w t h l
-          (λ d. subst (λ x. IsSameTaker x t) (at ∙ get_or_default w.takers.items w.gauge r d l) c.take.ensures.same) _ refl refl refl refl refl
+          (λ d. subst (λ x. IsSameTaker x t) (at ∙ get_or_default w.takers.items w.gauge r d l) c.take.ensures.same) _ refl refl refl refl refl refl
           (λ d. came ∙ ap (λ x. taken x ++ Mark ∷ []) (at ∙ get_or_default w.takers.items w.gauge r d l));
     }
 
@@ -45,9 +45,8 @@ returns-in-Some-Block g c =
     let at : r ≡ get_or w.takers.items w.gauge r = search rules in
     let came : taken t ≡ taken r ++ block_of f ∷ [] = search rules in
     record {
-      takers = refl;
+      takers = ap (λ x. vec_len x) c.hand_over.ensures.takers;
       on = λ first h. block_taken first w t h l
-          (λ d. subst (λ x. IsSameTaker x t) (at ∙ get_or_default w.takers.items w.gauge r d l) c.take.ensures.same) _ f _ refl refl refl refl
-          (λ d. came ∙ ap (λ x. taken x ++ block_of f ∷ []) (at ∙ get_or_default w.takers.items w.gauge r d l))
-          c.count.ensures c.feed_waiting.ensures.fed c.feed_waiting.ensures.same;
+          (λ d. subst (λ x. IsSameTaker x t) (at ∙ get_or_default w.takers.items w.gauge r d l) c.take.ensures.same) _ _ f c.hand_over.ensures
+          refl refl refl refl refl refl (λ d. came ∙ ap (λ x. taken x ++ block_of f ∷ []) (at ∙ get_or_default w.takers.items w.gauge r d l));
     }

@@ -84,3 +84,6 @@ returns-clause-sources g c = λ h d m.
     let still = (c.settle_all.ensures.readers h r).src in
     let back = (c.return_lanes.ensures.returned h r d back_few).src in
     ap (option_map number) (back ∙ still) ∙ (ran ∙ ap (option_map number) lent)
+
+pub run_round-requires-clause-idle : goal.run_round-requires-clause-idle
+run_round-requires-clause-idle g c κs within = λ v d m. (c.requires.resting.each_worker v d m).idle

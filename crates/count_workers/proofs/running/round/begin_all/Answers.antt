@@ -1,9 +1,14 @@
-use Rattle.std.proofs.Common.{arith, ◌<◌, ◌∙◌, length, subst}
+use Rattle.std.proofs.Common.{arith, ◌<◌, ◌∙◌, length, sym, subst}
 use Rattle.std.proofs.lemmas.List.{get_or-set_other, get_or_default}
 use Rattle.std.proofs.Math.ListN.{length-set}
-use Rattle.count_workers.specs.block_workers.Working.{WorkedSoFar}
+use Rattle.count_workers.specs.block_workers.Working.{IsIdle, WorkedSoFar}
 use Rattle.count_workers.proofs.on_running.Turns.{done_more}
 use Rattle.count_workers.proofs.running.round.begin_all.Goals as goal
+
+pub begin_work-requires : goal.begin_work-requires
+begin_work-requires c =
+    let k = c.loop-v.v in let r = c.index-workers-v.result in
+    subst IsIdle (sym (c.loop-v.invariant.rest k r (omega arith))) (c.requires k r (omega (arith, c.loop-v.invariant.long)))
 
 pub loop-v-preserved : goal.loop-v-preserved
 loop-v-preserved c =

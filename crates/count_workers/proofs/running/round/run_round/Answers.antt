@@ -2,6 +2,9 @@ use Rattle.std.proofs.Common.{rules, arith, ◌≡◌, ◌<◌, length, slice_in
 use Rattle.count_workers.proofs.on_collector.Coming.{none_came}
 use Rattle.count_workers.proofs.running.round.run_round.Goals as goal
 
+pub begin_all-requires : goal.begin_all-requires
+begin_all-requires g c = c.requires.idle
+
 pub run_all-requires-clause-on : goal.run_all-requires-clause-on
 run_all-requires-clause-on g c κs within = record {
   work = λ v d m. (
