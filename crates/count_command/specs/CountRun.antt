@@ -1,5 +1,5 @@
 -- What a run of `count` or of `watch` did.
---   WhereHeld  by the configuration c, where each image at entry holds a samples of the recordings r
+--   WhereHeld  by the configuration c, where each image at entry holds at least a samples of the recordings r
 --   CountRuns  all of it
 use Rattle.std.specs.Prelude.{◌≡◌, ◌≢◌, ◌⊎◌, ℕ, List, length, Ok}
 use Rattle.outside.specs.Fault.{CountRose}

@@ -13,7 +13,7 @@ pub enum Course {
 #[derive(Clone, Copy)]
 pub struct Asked {
     pub course: Course,
-    /// How many threads count, unless the configuration shall say it.
+    /// How many workers share the counting, unless the configuration shall say it.
     pub workers: Option<u8>,
 }
 
@@ -24,6 +24,6 @@ pub struct Run<'a, R, G> {
     pub gate: &'a G,
     pub config: &'a Config,
     pub course: Course,
-    /// How many threads count.
+    /// How many workers share the counting.
     pub workers: u8,
 }

@@ -8,9 +8,15 @@
 //! held to where the lanes are. What is true at every moment is said by the module `held_samples`,
 //! from the entry of each call on. The hook of the puts runs in the caller's thread.
 //!
-//! Cost: with several workers a thread for each round but the first, beside the caller's. No call
-//! here takes memory, unless its hook does.
+//! With several workers helpers count in threads that are started once for all rounds
+//! (`count_workers::crew`).
+//!
+//! Cost: with several workers a thread for each round but the first, beside the caller's and those
+//! of the helpers. No call here takes memory, unless its hook does.
 
 mod beside;
+mod helped;
+mod to_make;
 
-pub use beside::count_rounds;
+pub use helped::count_rounds;
+pub use to_make::RoundsToMake;

@@ -72,23 +72,14 @@ pub fn count_opened<
         return Status::OutOfMemory;
     };
     let Rooms {
-        mut prepared,
-        board,
+        mut rounds,
         mut report,
     } = rooms;
     let Ok(line) = HeldLine::new(run.rt.alloc()) else {
         return Status::OutOfMemory;
     };
     let mut behind = Behind { line, hook: NoHook };
-    match count_rounds(
-        run,
-        &mut prepared,
-        board,
-        lanes,
-        store,
-        station,
-        &mut behind,
-    ) {
+    match count_rounds(run, &mut rounds, lanes, store, station, &mut behind) {
         Ok(()) => {}
         Err(_) => return Status::DiskFault,
     }

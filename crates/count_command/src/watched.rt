@@ -42,16 +42,12 @@ pub fn watch_opened<
     let Ok(rooms) = take_rooms(run.rt.alloc(), run.workers, run.config) else {
         return Status::OutOfMemory;
     };
-    let Rooms {
-        prepared,
-        board,
-        mut report,
-    } = rooms;
+    let Rooms { rounds, mut report } = rooms;
     let gauges = run.config.gauges.as_slice().len() as u16;
     let Ok(watch) = Watch::new(run.rt, &run.config.setup.grid, gauges, store) else {
         return Status::OutOfMemory;
     };
-    let (done, watched) = watch_rounds(run, prepared, board, lanes, store, station, watch);
+    let (done, watched) = watch_rounds(run, rounds, lanes, store, station, watch);
     let Watched {
         mut line,
         ends,

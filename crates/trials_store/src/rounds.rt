@@ -1,10 +1,12 @@
 ghost use Rattle.std.specs.Prelude.{◌≡◌, ◌<◌, ◌≤◌, ℕ, IfOk, length, slice_index_or};
+ghost use Rattle.std.specs.Thread.{IsSync};
 ghost use Rattle.count_workers.specs.Plans.{IsPlan};
 ghost use Rattle.count_workers.specs.lane_loans.Lent.{CanRound};
 ghost use Rattle.calibration.specs.declared.limits.TheConstants.{MAX_GAUGES, MAX_BLOCK, MAX_WORKERS};
 
 use board::block_pool::{Counted, Pool};
 use calibration::{Gain, Grid, MAX_SAMPLES, MAX_WORKERS};
+use count_workers::crew::{Helper, help_all};
 use count_workers::lane_loans::Lane;
 use count_workers::{Plan, Prepared};
 use outside::{BytesSource, HoldGate, OpenGate};
@@ -14,7 +16,7 @@ use std::alloc::Global;
 use std::process::Abort;
 use std::sync::Wait;
 use std::test::Fail;
-use std::thread::Threads;
+use std::thread::{Threads, join_mut};
 
 // The standard's own example.
 const EXAMPLE: &[i32] = &[-2, 1, -3, 5, -1, 3, -4, 4, -2];
@@ -93,6 +95,48 @@ fn first_round<R: Threads + Wait + Sync>(
     Ok(prepared)
 }
 
+// Two rounds of these lanes, and then the end of the helpers.
+fn two_rounds<R: Threads + Wait + Sync>(
+    rt: &R,
+    prepared: &mut Prepared<BytesSource>,
+    lanes: &mut [Lane<BytesSource>],
+)
+    requires long { length lanes.old ≡ prepared.old.gauges }
+    requires lanes { (g : ℕ) (d : _) → g < length lanes.old
+        → CanRound g (slice_index_or lanes.old g d) }
+    ensures { prepared.new.gauges ≡ prepared.old.gauges }
+{
+    prepared.round(rt, lanes, &OpenGate);
+    prepared.round(rt, lanes, &OpenGate);
+    prepared.dismiss();
+}
+
+// The same, with helpers beside both rounds.
+fn two_helped_rounds<R: Threads + Wait + Sync>(
+    rt: &R,
+    prepared: &mut Prepared<BytesSource>,
+    lanes: &mut [Lane<BytesSource>],
+    helpers: &mut [Helper],
+)
+    requires long { length lanes.old ≡ prepared.old.gauges }
+    requires lanes { (g : ℕ) (d : _) → g < length lanes.old
+        → CanRound g (slice_index_or lanes.old g d) }
+    ensures { prepared.new.gauges ≡ prepared.old.gauges }
+{
+    join_mut(
+        rt,
+        &mut ||
+            requires { IsSync R.row }
+        { help_all(rt, &OpenGate, helpers) },
+        &mut ||
+            requires { IsSync R.row × (length lanes.now ≡ prepared.now.gauges)
+                × ((g : ℕ) (d : _) → g < length lanes.now
+                → CanRound g (slice_index_or lanes.now g d)) }
+            ensures { prepared.exit.now.gauges ≡ prepared.entry.now.gauges }
+        { two_rounds(rt, prepared, lanes) },
+    );
+}
+
 #[test]
 fn a_recording_ends_at_its_limit(rt: HostRuntime) -> Result<(), Fail> {
     for (samples, end) in [(3, End::Ended), (4, End::TooLong)] {
@@ -164,6 +208,40 @@ fn two_lanes_go_through_three_workers(rt: HostRuntime) -> Result<(), Fail> {
     assert_eq!(rt; prepared.front(0).used(), 6);
     assert_eq!(rt; prepared.front(1).used(), 0);
     assert_eq!(rt; (lanes[0].end, lanes[1].end), (End::Ended, End::Torn(2)));
+    Ok(())
+}
+
+// Helpers count the blocks of two rounds: 64 samples of each lane, and then the standard's example;
+// where no helper has begun, the workers count them.
+#[test]
+fn helpers_count_over_all_rounds(rt: HostRuntime) -> Result<(), Fail> {
+    let mut samples = [3; 73];
+    samples[64..].copy_from_slice(EXAMPLE);
+    let plan = plan(&rt, 2, 4, 3);
+    for helped in [true, false] {
+        let mut prepared = Prepared::new(rt.alloc(), &plan)?;
+        let mut helpers = prepared.hire(rt.alloc(), &plan)?;
+        assert_eq!(rt; helpers.len(), 3);
+        let mut lanes = [
+            lane(&rt, rt.alloc(), 0, 0, &samples, 0, 7, &[])?,
+            lane(&rt, rt.alloc(), 1, 0, &samples, 2, 7, &[])?,
+        ];
+        if helped {
+            two_helped_rounds(&rt, &mut prepared, &mut lanes, &mut helpers);
+        } else {
+            two_rounds(&rt, &mut prepared, &mut lanes);
+        }
+        assert_eq!(rt; (lanes[0].end, lanes[1].end), (End::Ended, End::Torn(2)));
+        assert_eq!(rt; prepared.inside(), 32);
+        assert_eq!(rt; prepared.arrivals().len(), 6);
+        for gauge in 0..2 {
+            assert_eq!(rt; prepared.front(gauge).used(), 9);
+            assert_eq!(rt;
+                prepared.front(gauge).residue(),
+                [6, 9, 5, 13, 4, 12, 6].as_slice()
+            );
+        }
+    }
     Ok(())
 }
 

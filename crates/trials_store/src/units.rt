@@ -1,4 +1,6 @@
-use board::block_pool::Pool;
+ghost use Rattle.std.specs.Prelude.{◌≤◌};
+
+use board::block_pool::{Filled, Pool, Receipt};
 use calibration::{Gain, Grid};
 use segment::segment_rules::Name;
 use std::alloc::Global;
@@ -7,6 +9,44 @@ use std::test::Fail;
 // Classes of 1 N/mm² from -8 on.
 fn small_grid() -> Result<Grid, Fail> {
     Grid::new(16, 2, -8000, 8).map_err(|_| Fail::from("a grid"))
+}
+
+// A unit with four samples of gauge 3 from a place on.
+fn filled(
+    alloc: Global,
+    grid: &Grid,
+    from: u64,
+    den: u32,
+    samples: &[i32; 4],
+) -> Result<Filled, Fail>
+    requires { from ≤ 100 }
+{
+    let gain = Gain::new(1000, den, 0).map_err(|_| Fail::from("a gain"))?;
+    let mut pool = Pool::new(alloc, 1, 4, grid)?;
+    let mut blank = pool.lend().ok_or("a unit")?;
+    blank.buffer().copy_from_slice(samples);
+    Ok(blank.filled(3, from, 4, gain))
+}
+
+// A count is known by the receipt of its block alone: not by that of another first sample, another
+// gain or other samples, and a receipt of another size keeps nothing.
+#[test]
+fn a_count_is_known_by_its_receipt(rt: HostRuntime) -> Result<(), Fail> {
+    let alloc = rt.alloc();
+    let grid = small_grid()?;
+    let unit = filled(alloc, &grid, 7, 1, &[1, 2, 3, 4])?;
+    let mut receipt = Receipt::new(alloc, 4, &grid)?;
+    assert!(rt; receipt.keep(&unit));
+    let other = filled(alloc, &grid, 8, 1, &[1, 2, 3, 4])?;
+    assert!(rt; !receipt.is_of(&other.count()));
+    let other = filled(alloc, &grid, 7, 2, &[1, 2, 3, 4])?;
+    assert!(rt; !receipt.is_of(&other.count()));
+    let other = filled(alloc, &grid, 7, 1, &[1, 2, 3, 5])?;
+    assert!(rt; !receipt.is_of(&other.count()));
+    assert!(rt; receipt.is_of(&unit.count()));
+    let mut larger = Receipt::new(alloc, 5, &grid)?;
+    assert!(rt; !larger.keep(&filled(alloc, &grid, 7, 1, &[1, 2, 3, 4])?));
+    Ok(())
 }
 
 #[test]

@@ -1,8 +1,8 @@
 -- What must hold before rounds are made.
 --   AreOpened       a store is on its station, and lanes stand where what it holds of each gauge ends
 --   AreOpenedLanes  so it is of a station and the sources of lanes
---   AreRoundsFor    prepared rounds, and a board for them
-use Rattle.std.specs.Prelude.{◌≡◌, ℕ, List, length, false}
+--   AreRoundsFor    prepared rounds, and a board for them; AreRoundsToMake: while the board was not taken
+use Rattle.std.specs.Prelude.{◌≡◌, ℕ, List, length, false, Option, Some, None}
 use Rattle.std.specs.List.{All}
 use Rattle.outside.specs.station.Station.{Image}
 use Rattle.outside.specs.declared.source.Source as source
@@ -40,3 +40,7 @@ pub record AreRoundsFor (config : Config) (prepared : PreparedValue) (board : Bo
   pub grid : prepared.grid ≡ config.setup.grid
   pub block : prepared.block ≡ config.block
   pub board_is : IsBoardFor prepared board
+
+abbrev pub AreRoundsToMake : Config → PreparedValue → Option BoardValue → Type 0
+AreRoundsToMake config prepared None = ⊥
+AreRoundsToMake config prepared (Some board) = AreRoundsFor config prepared board

@@ -6,6 +6,7 @@ ghost use Rattle.segment_store.specs.Held.{ends_of};
 ghost use Rattle.segment_store.specs.Moments.{IsThere};
 ghost use Rattle.site_config.specs.Valid.{IsConfig};
 ghost use Rattle.site_config.specs.recorded.Recorded.{recordings};
+ghost use Rattle.count_command.specs.held_samples.Hook.{Follows};
 ghost use Rattle.count_command.specs.held_samples.Fronts.{AreFronts, FrontsStand};
 ghost use Rattle.site_lanes.specs.Lanes.{AreLanes, AreReady, AreHeldTo};
 ghost use Rattle.count_command.specs.held_rounds.Beside.{Leads};
@@ -38,8 +39,7 @@ fn both<R: Threads + Wait + Sync, C: Source + Send, K: Station, G: Gate + Sync, 
     behind: &mut Behind<H>,
 ) -> Result<(), Failed>
     requires usable { store.old.shut ≡ false }
-    requires follows { H.follows behind.old.hook store.old.head.setup.grid
-        (ends_of store.old.held) }
+    requires follows { Follows H.follows behind.old.hook store.old }
     requires config { IsConfig run.now.config.now }
     requires gauges { (length store.old.held ≡ length run.now.config.now.gauges)
         × (length lanes.old ≡ prepared.old.gauges)
@@ -53,8 +53,7 @@ fn both<R: Threads + Wait + Sync, C: Source + Send, K: Station, G: Gate + Sync, 
         prepared.old prepared.new lanes.old lanes.new }
     ensures stores { Stores ⟦<K as Station>⟧ run.now.config.now board.now store.old store.new
         station.old station.new result }
-    ensures follows { H.follows behind.new.hook store.new.head.setup.grid
-        (ends_of store.new.held) }
+    ensures follows { Follows H.follows behind.new.hook store.new }
 {
     let (rt, gate, config) = (run.rt, run.gate, run.config);
     if run.workers == 1 {
@@ -86,8 +85,7 @@ fn round_beside<R: Threads + Wait + Sync, C: Source + Send, K: Station, G: Gate 
     behind: &mut Behind<H>,
 ) -> Result<(), Failed>
     requires usable { store.old.shut ≡ false }
-    requires follows { H.follows behind.old.hook store.old.head.setup.grid
-        (ends_of store.old.held) }
+    requires follows { Follows H.follows behind.old.hook store.old }
     requires config { IsConfig run.now.config.now }
     requires gauges { (length store.old.held ≡ length run.now.config.now.gauges)
         × (prepared.old.gauges ≡ length run.now.config.now.gauges)
@@ -111,16 +109,14 @@ fn round_beside<R: Threads + Wait + Sync, C: Source + Send, K: Station, G: Gate 
         × FrontsStand (recordings run.now.config.now files) prepared.new.board) }
     ensures round { RoundDone C.tells C.left C.faults
         prepared.old prepared.new lanes.old lanes.new }
-    ensures follows { H.follows behind.new.hook store.new.head.setup.grid
-        (ends_of store.new.held) }
+    ensures follows { Follows H.follows behind.new.hook store.new }
 {
     both(run, board, prepared, lanes, store, station, behind)
 }
 
 /// Rounds until each lane has ended, each with the puts and lines of the round before. `board` is
-/// the one of the two boards that `prepared` does not have. A failure is one of the station; the
-/// round beside it has run to its end.
-pub fn count_rounds<
+/// the one of the two boards that `prepared` does not have.
+pub(crate) fn make_rounds<
     R: Threads + Wait + Sync,
     C: Source + Send,
     K: Station,
@@ -138,12 +134,10 @@ pub fn count_rounds<
     requires opened { AreOpenedLanes ⟦<C as Source>⟧ ⟦<K as Station>⟧ run.now.config.now store.old
         lanes.old station.old }
     requires rounds { AreRoundsFor run.now.config.now prepared.old board }
-    requires follows { H.follows behind.old.hook store.old.head.setup.grid
-        (ends_of store.old.held) }
+    requires follows { Follows H.follows behind.old.hook store.old }
     ensures made { RoundsMade ⟦<C as Source>⟧ ⟦<K as Station>⟧ run.now.config.now
         store.old store.new lanes.old lanes.new station.old station.new result }
-    ensures follows { H.follows behind.new.hook store.new.head.setup.grid
-        (ends_of store.new.held) }
+    ensures follows { Follows H.follows behind.new.hook store.new }
 {
     prepared.round(run.rt, lanes, run.gate);
     let mut board = prepared.exchange(board);

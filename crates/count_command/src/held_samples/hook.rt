@@ -18,6 +18,9 @@ pub trait PutHook {
         ensures { (ends now : List ℕ) → follows self.old held.now.grid ends →
             IsHeldTo ends held.now.gauge held.now.to now → length now ≡ length ends →
             follows self.new held.now.grid now };
+
+    // What is done when no put will follow.
+    fn end(&self);
 }
 
 /// Nothing is done.
@@ -28,6 +31,8 @@ impl PutHook for NoHook {
     ghost follows = { λ h grid ends. Unit {0} };
 
     fn stored(&mut self, _held: &Segment) {}
+
+    fn end(&self) {}
 }
 
 /// What is done behind a put: the hook, and then the line that acknowledges.

@@ -8,6 +8,7 @@ ghost use Rattle.segment_store.specs.Moments.{IsOn, IsThere};
 ghost use Rattle.site_config.specs.declared.limits.TheConstants.{MAX_NAME_BYTES};
 ghost use Rattle.site_config.specs.Valid.{IsConfig};
 ghost use Rattle.site_config.specs.recorded.Recorded.{Recorded};
+ghost use Rattle.count_command.specs.held_samples.Hook.{Follows};
 ghost use Rattle.count_command.specs.held_samples.Told.{held_line, gauge_lines};
 ghost use Rattle.count_command.specs.held_samples.Kept.{Kept, MayFollow};
 ghost use Rattle.count_command.specs.held_samples.Going.{IsStoredAs, AreNames, HoldsSinceOver};
@@ -32,8 +33,7 @@ fn store_front<K: Station, H: PutHook>(
     behind: &mut Behind<H>,
 ) -> Result<(), Failed>
     requires usable { store.old.shut ≡ false }
-    requires follows { H.follows behind.old.hook store.old.head.setup.grid
-        (ends_of store.old.held) }
+    requires follows { Follows H.follows behind.old.hook store.old }
     requires grid { front.now.grid ≡ store.old.head.setup.grid }
     requires gauge { (front.now.gauge < length store.old.held)
         × (length store.old.held ≡ length store.old.head.setup.gains) }
@@ -69,8 +69,7 @@ fn store_front<K: Station, H: PutHook>(
     ensures head { store.new.head ≡ store.old.head }
     ensures gauges { length store.new.held ≡ length store.old.held }
     ensures cause { HasCause (K.faults station.old) (K.faults station.new) result }
-    ensures follows { H.follows behind.new.hook store.new.head.setup.grid
-        (ends_of store.new.held) }
+    ensures follows { Follows H.follows behind.new.hook store.new }
 {
     let to = front.name().to;
     let gauge = front.name().gauge;
@@ -93,8 +92,7 @@ fn store_gauge<K: Station, H: PutHook>(
     behind: &mut Behind<H>,
 ) -> Result<(), Failed>
     requires usable { store.old.shut ≡ false }
-    requires follows { H.follows behind.old.hook store.old.head.setup.grid
-        (ends_of store.old.held) }
+    requires follows { Follows H.follows behind.old.hook store.old }
     requires grid { front.now.grid ≡ store.old.head.setup.grid }
     requires gauge { (front.now.gauge < length store.old.held)
         × (length store.old.held ≡ length store.old.head.setup.gains) }
@@ -128,8 +126,7 @@ fn store_gauge<K: Station, H: PutHook>(
     ensures head { store.new.head ≡ store.old.head }
     ensures gauges { length store.new.held ≡ length store.old.held }
     ensures cause { HasCause (K.faults station.old) (K.faults station.new) result }
-    ensures follows { H.follows behind.new.hook store.new.head.setup.grid
-        (ends_of store.new.held) }
+    ensures follows { Follows H.follows behind.new.hook store.new }
 {
     let span = front.name();
     if span.from == span.to {
@@ -148,8 +145,7 @@ pub fn store_fronts<K: Station, H: PutHook>(
     behind: &mut Behind<H>,
 ) -> Result<(), Failed>
     requires usable { store.old.shut ≡ false }
-    requires follows { H.follows behind.old.hook store.old.head.setup.grid
-        (ends_of store.old.held) }
+    requires follows { Follows H.follows behind.old.hook store.old }
     requires config { IsConfig config.now }
     requires gauges { (length store.old.held ≡ length config.now.gauges)
         × (length board.now.rows ≡ length config.now.gauges) }
@@ -159,8 +155,7 @@ pub fn store_fronts<K: Station, H: PutHook>(
     requires on { K.tells → IsThere store.old (K.seen station.old) (K.leaves station.old) }
     ensures stores { Stores ⟦<K as Station>⟧ config.now board.now store.old store.new
         station.old station.new result }
-    ensures follows { H.follows behind.new.hook store.new.head.setup.grid
-        (ends_of store.new.held) }
+    ensures follows { Follows H.follows behind.new.hook store.new }
 {
     for gauge in 0..config.gauges.as_slice().len() {
         let name = config.gauges.as_slice()[gauge].name.as_str();

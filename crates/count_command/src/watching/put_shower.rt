@@ -20,11 +20,6 @@ impl OneView for Brand {
     ghost book = { record { number = 0; log_name = 0; cells_name = 0 } };
 }
 
-/// What rings a bell can also say that the puts are done.
-pub trait Rings {
-    fn end(&self);
-}
-
 /// Each held segment is shown, and the watcher is woken. A show that was refused is remembered.
 pub struct PutShower<'a, R: Wait, V: OneView> {
     pub rt: &'a R,
@@ -46,9 +41,7 @@ impl<R: Wait, V: OneView> PutHook for PutShower<'_, R, V> {
         }
         self.bell.ring();
     }
-}
 
-impl<R: Wait, V: OneView> Rings for PutShower<'_, R, V> {
     fn end(&self) {
         self.bell.end();
     }

@@ -1,19 +1,18 @@
-ghost use Rattle.std.specs.Prelude.{◌≡◌, MatchOption};
+ghost use Rattle.std.specs.Prelude.{◌≡◌};
 ghost use Rattle.std.specs.Thread.{IsSync, IsSend};
 ghost use Rattle.segment_store.specs.Held.{ends_of};
+ghost use Rattle.count_command.specs.held_samples.Hook.{Follows};
 ghost use Rattle.count_command.specs.held_rounds.Made.{RoundsMade};
-ghost use Rattle.count_command.specs.held_rounds.Ready.{AreOpened, AreOpenedLanes, AreRoundsFor};
+ghost use Rattle.count_command.specs.held_rounds.Ready.{AreOpened, AreOpenedLanes, AreRoundsToMake};
 ghost use Rattle.count_command.specs.watching.Watching.{ShowsAtMost};
 
 use crate::course::Run;
-use crate::held_rounds::count_rounds;
+use crate::held_rounds::{RoundsToMake, count_rounds};
 use crate::held_samples::{Behind, PutHook};
 use crate::watching::bell::Bell;
 use crate::watching::lookout::Lookout;
-use crate::watching::put_shower::{OneView, PutShower, Rings};
+use crate::watching::put_shower::{OneView, PutShower};
 use crate::watching::watch::{Watch, Watched};
-use board::Board;
-use count_workers::Prepared;
 use count_workers::lane_loans::Lane;
 use outside::station::Station;
 use outside::{Failed, Gate, Source};
@@ -22,13 +21,6 @@ use std::alloc::AllocGlobal;
 use std::marker::{Brand, PhantomData};
 use std::sync::Wait;
 use std::thread::{Threads, join_mut};
-
-// Prepared rounds, with the board that they have not. It is taken when they begin.
-#[derive(Drop)]
-struct RoundsToMake<C: Source> {
-    prepared: Prepared<C>,
-    board: Option<Board>,
-}
 
 // Who watches, and what wakes it.
 #[derive(Drop)]
@@ -45,55 +37,13 @@ fn look_beside<R: Wait>(rt: &R, looking: &mut Looking<'_>)
     looking.lookout.watch(rt, bell);
 }
 
-// The rounds, and then the end of the watching.
-fn rounds_and_end<
-    R: Threads + Wait + Sync,
-    C: Source + Send,
-    K: Station,
-    G: Gate + Sync,
-    H: PutHook + Rings,
->(
-    run: &Run<'_, R, G>,
-    rounds: &mut RoundsToMake<C>,
-    lanes: &mut [Lane<C>],
-    store: &mut Store,
-    station: &mut K,
-    behind: &mut Behind<H>,
-) -> Result<(), Failed>
-    requires opened { AreOpenedLanes ⟦<C as Source>⟧ ⟦<K as Station>⟧ run.now.config.now store.old
-        lanes.old station.old }
-    requires rounds { MatchOption rounds.old.board ⊥
-        (λ b. AreRoundsFor run.now.config.now rounds.old.prepared b) }
-    requires follows { H.follows behind.old.hook store.old.head.setup.grid
-        (ends_of store.old.held) }
-    ensures made { RoundsMade ⟦<C as Source>⟧ ⟦<K as Station>⟧ run.now.config.now
-        store.old store.new lanes.old lanes.new station.old station.new result }
-    ensures follows { H.follows behind.new.hook store.new.head.setup.grid
-        (ends_of store.new.held) }
-{
-    let Some(board) = rounds.board.take() else {
-        unreachable!()
-    };
-    let done = count_rounds(
-        run,
-        &mut rounds.prepared,
-        board,
-        lanes,
-        store,
-        station,
-        behind,
-    );
-    behind.hook.end();
-    done
-}
-
 // The rounds in this thread, and a watcher in a new one, or last where none can be made.
 fn rounds_beside<
     R: Threads + Wait + Sync,
     C: Source + Send,
     K: Station,
     G: Gate + Sync,
-    H: PutHook + Rings,
+    H: PutHook,
 >(
     run: &Run<'_, R, G>,
     rounds: &mut RoundsToMake<C>,
@@ -105,14 +55,11 @@ fn rounds_beside<
 ) -> Result<(), Failed>
     requires opened { AreOpenedLanes ⟦<C as Source>⟧ ⟦<K as Station>⟧ run.now.config.now store.old
         lanes.old station.old }
-    requires rounds { MatchOption rounds.old.board ⊥
-        (λ b. AreRoundsFor run.now.config.now rounds.old.prepared b) }
-    requires follows { H.follows behind.old.hook store.old.head.setup.grid
-        (ends_of store.old.held) }
+    requires rounds { AreRoundsToMake run.now.config.now rounds.old.prepared rounds.old.board }
+    requires follows { Follows H.follows behind.old.hook store.old }
     ensures made { RoundsMade ⟦<C as Source>⟧ ⟦<K as Station>⟧ run.now.config.now
         store.old store.new lanes.old lanes.new station.old station.new result }
-    ensures follows { H.follows behind.new.hook store.new.head.setup.grid
-        (ends_of store.new.held) }
+    ensures follows { Follows H.follows behind.new.hook store.new }
     ensures lookout { looking.new.lookout ≡ looking.old.lookout }
 {
     let rt = run.rt;
@@ -126,10 +73,9 @@ fn rounds_beside<
             requires { IsSync R.row × IsSync G.row × IsSend C.row
                 × AreOpened K.tells C.faults run.now.config.now store.now lanes.now
                 (K.seen station.now) (K.leaves station.now)
-                × MatchOption rounds.now.board ⊥
-                (λ b. AreRoundsFor run.now.config.now rounds.now.prepared b)
-                × H.follows behind.now.hook store.now.head.setup.grid (ends_of store.now.held) }
-        { rounds_and_end(run, rounds, lanes, store, station, behind) },
+                × AreRoundsToMake run.now.config.now rounds.now.prepared rounds.now.board
+                × Follows H.follows behind.now.hook store.now }
+        { count_rounds(run, rounds, lanes, store, station, behind) },
     );
     done
 }
@@ -143,8 +89,7 @@ fn rounds_watched<
     V: OneView,
 >(
     run: &Run<'_, R, G>,
-    prepared: Prepared<C>,
-    board: Board,
+    rounds: RoundsToMake<C>,
     lanes: &mut [Lane<C>],
     store: &mut Store,
     station: &mut K,
@@ -152,7 +97,7 @@ fn rounds_watched<
 ) -> (Result<(), Failed>, Watched)
     requires opened { AreOpenedLanes ⟦<C as Source>⟧ ⟦<K as Station>⟧ run.now.config.now store.old
         lanes.old station.old }
-    requires rounds { AreRoundsFor run.now.config.now prepared board }
+    requires rounds { AreRoundsToMake run.now.config.now rounds.prepared rounds.board }
     requires shows { ShowsAtMost watch.shown store.old.head.setup.grid (ends_of store.old.held) }
     requires one { watch.of ≡ V.book }
     ensures made { RoundsMade ⟦<C as Source>⟧ ⟦<K as Station>⟧ run.now.config.now
@@ -165,10 +110,7 @@ fn rounds_watched<
         lookout,
     } = watch;
     let bell = Bell::new();
-    let mut rounds = RoundsToMake {
-        prepared,
-        board: Some(board),
-    };
+    let mut rounds = rounds;
     let mut looking = Looking {
         lookout,
         bell: &bell,
@@ -227,8 +169,7 @@ pub fn watch_rounds<
     G: Gate + Sync,
 >(
     run: &Run<'_, R, G>,
-    prepared: Prepared<C>,
-    board: Board,
+    rounds: RoundsToMake<C>,
     lanes: &mut [Lane<C>],
     store: &mut Store,
     station: &mut K,
@@ -236,11 +177,11 @@ pub fn watch_rounds<
 ) -> (Result<(), Failed>, Watched)
     requires opened { AreOpenedLanes ⟦<C as Source>⟧ ⟦<K as Station>⟧ run.now.config.now store.old
         lanes.old station.old }
-    requires rounds { AreRoundsFor run.now.config.now prepared board }
+    requires rounds { AreRoundsToMake run.now.config.now rounds.prepared rounds.board }
     requires shows { ShowsAtMost watch.shown store.old.head.setup.grid (ends_of store.old.held) }
     ensures made { RoundsMade ⟦<C as Source>⟧ ⟦<K as Station>⟧ run.now.config.now
         store.old store.new lanes.old lanes.new station.old station.new result.0 }
     ensures starts { result.1.ends ≡ watch.starts }
 {
-    rounds_watched::<R, C, K, G, Brand>(run, prepared, board, lanes, store, station, watch)
+    rounds_watched::<R, C, K, G, Brand>(run, rounds, lanes, store, station, watch)
 }

@@ -15,7 +15,7 @@ use Rattle.site_lanes.specs.Lanes.{AreLanes, AreReady, HasSource, IsFaulty, IsWh
 use Rattle.count_command.specs.held_rounds.Beside.{IsBoardFor, Leads}
 use Rattle.count_command.specs.held_rounds.Telling.{HasTold}
 use Rattle.count_command.proofs.on_held_rounds.Ahead.{IsAhead}
-use Rattle.count_command.proofs.held_rounds.beside.count_rounds.Given as goal
+use Rattle.count_command.proofs.held_rounds.beside.make_rounds.Given as goal
 
 -- the last round is on the board, and not yet stored
 abbrev pub invariant-loop : goal.invariant-loop

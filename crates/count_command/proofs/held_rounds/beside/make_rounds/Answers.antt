@@ -16,7 +16,7 @@ use Rattle.count_command.proofs.on_held_rounds.Ahead.{IsAhead, ahead_first, ahea
 use Rattle.count_command.proofs.on_held_rounds.LeadsOn.{leads_first, stands_first, held_last, board_for}
 use Rattle.count_command.proofs.on_held_rounds.RoundOf.{can_first}
 use Rattle.site_lanes.proofs.AllLanes.{sources_after, all_faulty_after, ready_after, whole_before}
-use Rattle.count_command.proofs.held_rounds.beside.count_rounds.Goals as goal
+use Rattle.count_command.proofs.held_rounds.beside.make_rounds.Goals as goal
 
 pub loop-init : goal.loop-init
 loop-init g c =
