@@ -2,13 +2,17 @@
  *
  * reports count NAME FILE CLASSES WIDTH LOW REFERENCE NUM DEN OFFSET   as `monitor count` of one gauge and no detail
  * reports demo SEED SAMPLES                                            as `monitor demo`
+ * reports stored NAME FILE CLASSES WIDTH LOW REFERENCE NUM DEN OFFSET BLOCK STORE   as the first, and keeps what it counted in a file
  *
  * The numbers are those of a configuration: the grid's, then the gain's. A gain has to rise, and at most 65,536 raw values may have a
  * class: they are looked up in a table, the fastest form there is.
  *
  * The points of a piece are found in two passes without branches. A point costs one place of a table of bottoms or tops, one of the
  * simple ranges, and the four-point reduction on a stack with a table of all pairs; the rest follows from these tables when all is read.
- * Nothing is stored, cut into blocks that are joined, or counted by threads.
+ * Nothing is stored, cut into blocks that are joined, or counted by threads; but for `stored`, which does what a count that stores can't
+ * spare: each block is counted into tables that are empty before, which are then added to those of its round; and of each round of 16
+ * blocks what is not 0 is written behind what the file has, as bytes of fixed widths, with their SHA-256. The residue goes on from block
+ * to block, so nothing of the joining of residues, of opening the store and of acknowledging is in it.
  */
 #include <fcntl.h>
 #include <stdint.h>
@@ -109,7 +113,12 @@ static size_t points_of(Count *c, const int32_t *raws, size_t n, uint16_t *point
     return found;
 }
 
-static void reduce(Count *c, const uint16_t *points, size_t n) {
+/* the pairs that the block in hand has, where it is stored */
+static int is_stored;
+static size_t pairs;
+static uint16_t pair[MOST * MOST];
+
+static inline void reduce_by(Count *c, const uint16_t *points, size_t n, int listed) {
     uint16_t *l = c->residue;
     size_t length = c->length;
     for (size_t i = 0; i < n; i++) {
@@ -117,12 +126,17 @@ static void reduce(Count *c, const uint16_t *points, size_t n) {
         while (length >= 3) {
             unsigned a = l[length - 3], y = l[length - 2], z = l[length - 1], lo = lesser(y, z), hi = greater(y, z);
             if ((lo < lesser(a, d)) | (greater(a, d) < hi)) break;
+            if (listed && !c->cycles[lo * MOST + hi]) pair[pairs++] = (uint16_t)(lo * MOST + hi);
             c->cycles[lo * MOST + hi]++;
             length -= 2;
         }
         l[length++] = (uint16_t)d;
     }
     c->length = length;
+}
+
+static void reduce(Count *c, const uint16_t *points, size_t n) {
+    if (is_stored) reduce_by(c, points, n, 1); else reduce_by(c, points, n, 0);
 }
 
 static void take_points(Count *c, const uint16_t *points, size_t n) {
@@ -258,6 +272,125 @@ static int count(char **words) {
     return 0;
 }
 
+static const uint32_t rounding[64] = {
+    0x428a2f98, 0x71374491, 0xb5c0fbcf, 0xe9b5dba5, 0x3956c25b, 0x59f111f1, 0x923f82a4, 0xab1c5ed5, 0xd807aa98, 0x12835b01, 0x243185be,
+    0x550c7dc3, 0x72be5d74, 0x80deb1fe, 0x9bdc06a7, 0xc19bf174, 0xe49b69c1, 0xefbe4786, 0x0fc19dc6, 0x240ca1cc, 0x2de92c6f, 0x4a7484aa,
+    0x5cb0a9dc, 0x76f988da, 0x983e5152, 0xa831c66d, 0xb00327c8, 0xbf597fc7, 0xc6e00bf3, 0xd5a79147, 0x06ca6351, 0x14292967, 0x27b70a85,
+    0x2e1b2138, 0x4d2c6dfc, 0x53380d13, 0x650a7354, 0x766a0abb, 0x81c2c92e, 0x92722c85, 0xa2bfe8a1, 0xa81a664b, 0xc24b8b70, 0xc76c51a3,
+    0xd192e819, 0xd6990624, 0xf40e3585, 0x106aa070, 0x19a4c116, 0x1e376c08, 0x2748774c, 0x34b0bcb5, 0x391c0cb3, 0x4ed8aa4a, 0x5b9cca4f,
+    0x682e6ff3, 0x748f82ee, 0x78a5636f, 0x84c87814, 0x8cc70208, 0x90befffa, 0xa4506ceb, 0xbef9a3f7, 0xc67178f2,
+};
+
+static uint32_t turned(uint32_t x, int by) { return x >> by | x << (32 - by); }
+
+static void compress(uint32_t *state, const uint8_t *bytes) {
+    uint32_t w[64], s[8];
+    for (int i = 0; i < 16; i++)
+        w[i] = (uint32_t)bytes[4 * i] << 24 | (uint32_t)bytes[4 * i + 1] << 16 | (uint32_t)bytes[4 * i + 2] << 8 | bytes[4 * i + 3];
+    for (int i = 16; i < 64; i++)
+        w[i] = w[i - 16] + (turned(w[i - 15], 7) ^ turned(w[i - 15], 18) ^ w[i - 15] >> 3) + w[i - 7]
+             + (turned(w[i - 2], 17) ^ turned(w[i - 2], 19) ^ w[i - 2] >> 10);
+    memcpy(s, state, sizeof s);
+    for (int i = 0; i < 64; i++) {
+        uint32_t a = s[0], e = s[4];
+        uint32_t one = s[7] + (turned(e, 6) ^ turned(e, 11) ^ turned(e, 25)) + ((e & s[5]) ^ (~e & s[6])) + rounding[i] + w[i];
+        uint32_t two = (turned(a, 2) ^ turned(a, 13) ^ turned(a, 22)) + ((a & s[1]) ^ (a & s[2]) ^ (s[1] & s[2]));
+        memmove(s + 1, s, 7 * sizeof *s);
+        s[4] += one;
+        s[0] = one + two;
+    }
+    for (int i = 0; i < 8; i++) state[i] += s[i];
+}
+
+/* the bytes of a round, behind which there is room for the padding and the digest */
+static uint8_t body[12 * MOST * MOST + 128];
+
+static void sha256(uint8_t *bytes, size_t n, uint8_t *digest) {
+    uint32_t state[8] = {0x6a09e667, 0xbb67ae85, 0x3c6ef372, 0xa54ff53a, 0x510e527f, 0x9b05688c, 0x1f83d9ab, 0x5be0cd19};
+    size_t all = (n + 72) / 64 * 64;
+    bytes[n] = 0x80;
+    memset(bytes + n + 1, 0, all - n - 1);
+    for (int i = 0; i < 8; i++) bytes[all - 1 - i] = (uint8_t)((uint64_t)n * 8 >> 8 * i);
+    for (size_t at = 0; at < all; at += 64) compress(state, bytes + at);
+    for (int i = 0; i < 32; i++) digest[i] = (uint8_t)(state[i / 4] >> (24 - 8 * (i % 4)));
+}
+
+/* a key and a count, the highest byte first */
+static size_t put(size_t at, unsigned key, uint64_t n) {
+    body[at] = (uint8_t)(key >> 8);
+    body[at + 1] = (uint8_t)key;
+    for (int i = 0; i < 8; i++) body[at + 2 + i] = (uint8_t)(n >> (56 - 8 * i));
+    return at + 10;
+}
+
+/* a table that is empty then, added to another */
+static void move_table(uint64_t *to, uint64_t *from) {
+    for (unsigned i = 0; i < MOST; i++) {
+        to[i] += from[i];
+        from[i] = 0;
+    }
+}
+
+static void end_block(Count *block, Count *round) {
+    for (size_t i = 0; i < pairs; i++) {
+        round->cycles[pair[i]] += block->cycles[pair[i]];
+        block->cycles[pair[i]] = 0;
+    }
+    pairs = 0;
+    move_table(round->turns[0], block->turns[0]);
+    move_table(round->turns[1], block->turns[1]);
+    move_table(round->ranges, block->ranges);
+}
+
+static void end_round(Count *round, Count *all, int store) {
+    size_t at = 0;
+    for (unsigned lo = 0; lo < MOST; lo++)
+        for (unsigned hi = lo + 1; hi < MOST; hi++) {
+            uint64_t n = round->cycles[lo * MOST + hi];
+            if (!n) continue;
+            at = put(at, lo * MOST + hi, n);
+            all->cycles[lo * MOST + hi] += n;
+            round->cycles[lo * MOST + hi] = 0;
+        }
+    uint64_t *tables[] = {round->turns[0], round->turns[1], round->ranges}, *sums[] = {all->turns[0], all->turns[1], all->ranges};
+    for (int table = 0; table < 3; table++) {
+        for (unsigned i = 0; i < MOST; i++)
+            if (tables[table][i]) at = put(at, i, tables[table][i]);
+        move_table(sums[table], tables[table]);
+    }
+    uint8_t digest[32];
+    sha256(body, at, digest);
+    memcpy(body + at, digest, sizeof digest);
+    if (write(store, body, at + sizeof digest) < 0) perror("reports: the store");
+}
+
+static int stored(char **words) {
+    static int32_t raws[READ];
+    static Count round, all;
+    size_t block = (size_t)atoll(words[9]);
+    int64_t n[7];
+    for (int i = 0; i < 7; i++) n[i] = atoll(words[2 + i]);
+    look_up((Setup){ n[4], n[5], n[6], n[2], 500 * n[1], (unsigned)n[0], (unsigned)n[3] });
+    int file = open(words[1], O_RDONLY), store = open(words[10], O_WRONLY | O_CREAT | O_TRUNC, 0644);
+    if (block < 1 || block > READ || store < 0 || file < 0 || read(file, raws, 32) != 32) { perror(words[1]); return 1; }
+    is_stored = 1;
+    ssize_t bytes;
+    for (unsigned number = 1; (bytes = read(file, raws, 4 * block)) > 0; number++) {
+        take(&counted, raws, (size_t)bytes / 4);
+        end_block(&counted, &round);
+        if (number % 16 == 0) end_round(&round, &all, store);
+    }
+    finish(&counted);
+    end_block(&counted, &round);
+    end_round(&round, &all, store);
+    memcpy(counted.cycles, all.cycles, sizeof all.cycles);
+    memcpy(counted.turns, all.turns, sizeof all.turns);
+    memcpy(counted.ranges, all.ranges, sizeof all.ranges);
+    close(store);
+    print_gauge(words[0], &counted);
+    return 0;
+}
+
 /* four gauges, each made from the seed plus its number */
 static int demo(uint64_t seed, uint64_t samples) {
     static int32_t raws[PIECE];
@@ -287,7 +420,8 @@ static int demo(uint64_t seed, uint64_t samples) {
 
 int main(int argc, char **argv) {
     if (argc == 11 && !strcmp(argv[1], "count")) return count(argv + 2);
+    if (argc == 13 && !strcmp(argv[1], "stored")) return stored(argv + 2);
     if (argc == 4 && !strcmp(argv[1], "demo")) return demo(strtoull(argv[2], 0, 10), strtoull(argv[3], 0, 10));
-    fprintf(stderr, "usage: reports count NAME FILE CLASSES WIDTH LOW REFERENCE NUM DEN OFFSET | demo SEED SAMPLES\n");
+    fprintf(stderr, "usage: reports count NAME FILE CLASSES WIDTH LOW REFERENCE NUM DEN OFFSET | demo SEED SAMPLES | stored (as count) BLOCK STORE\n");
     return 1;
 }
