@@ -1,5 +1,6 @@
 -- Prepared rounds whose workers are given helpers, or lose them, are seen as they were and rest as they did.
-use Rattle.std.proofs.Common.{◌≡◌, ◌<◌, ℕ, zero, suc, List, [], ◌∷◌, length, map, get_or, vec_len, refl, sym, ap, ◌∙◌, subst, arith}
+use Rattle.std.proofs.Common.{◌≡◌, ◌<◌, ℕ, zero, suc, List, [], ◌∷◌, ◌++◌, length, take, drop, map, get_or, vec_len, refl, sym, ap, ◌∙◌, subst, arith}
+use Rattle.lemmas.proofs.Lists.{all_written}
 use Rattle.count_workers.specs.declared.gauge_ring.taker.Taker.{Taker}
 use Rattle.std.specs.declared.vec.Vec.{Vec}
 use Rattle.std.specs.declared.alloc.Global.{Global}
@@ -35,7 +36,7 @@ return_still w v r s h = record {
 }
 
 module _ {C : Type 0} where
-  pub value_still : (p : PoolValue) (b : BoardValue) (rs : List (Reader C)) (ws vs : List Worker) → AllSameButLines ws vs
+  value_still : (p : PoolValue) (b : BoardValue) (rs : List (Reader C)) (ws vs : List Worker) → AllSameButLines ws vs
       → value_of p b rs vs ≡ value_of p b rs ws
   value_still p b rs ws vs h = ap (λ n. record {
     grid = p.grid;
@@ -61,7 +62,7 @@ module _ {C : Type 0} where
     even = λ d e. h.even d e ∙ ap (λ (ts : Vec (Taker Item) Global). taken (get_or ts.items g d)) (sym s.takers);
   }
 
-  pub rests_still : (p : PoolValue) (b : BoardValue) (rs : List (Reader C)) (ws vs : List Worker) (bs : List Return)
+  rests_still : (p : PoolValue) (b : BoardValue) (rs : List (Reader C)) (ws vs : List Worker) (bs : List Return)
       → AllSameButLines ws vs → IsResting p b rs ws bs → IsResting p b rs vs bs
   rests_still p b rs ws vs bs s h = record {
     gauges_few = h.gauges_few;
@@ -80,3 +81,19 @@ module _ {C : Type 0} where
     each_return = λ v d e m. (let i : v < length ws = omega (arith, m, s.long) in
         return_still (get_or ws v d) (get_or vs v d) (get_or bs v e) (s.each v d i) (h.each_return v d e i));
   }
+
+  -- the same after a slice of the workers, which was seen as `seen`, was written back as `vs`
+  module _ (p : PoolValue) (b : BoardValue) (rs : List (Reader C)) (own : Vec Worker Global) (seen vs : List Worker)
+      (at : seen ≡ own.items) (alike : AllSameButLines seen vs) where
+    same : AllSameButLines own.items vs
+    same = subst (λ l. AllSameButLines l vs) at alike
+
+    written : take own.len (vs ++ drop (length vs) own.items) ≡ vs
+    written = all_written own.items vs own.len own.ok.0 same.long
+
+    pub rests_written : (bs : List Return) → IsResting p b rs own.items bs
+        → IsResting p b rs (take own.len (vs ++ drop (length vs) own.items)) bs
+    rests_written bs h = subst (λ ws. IsResting p b rs ws bs) (sym written) (rests_still p b rs own.items vs bs same h)
+
+    pub value_written : value_of p b rs (take own.len (vs ++ drop (length vs) own.items)) ≡ value_of p b rs own.items
+    value_written = ap (λ ws. value_of p b rs ws) written ∙ value_still p b rs own.items vs same

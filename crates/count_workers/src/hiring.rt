@@ -46,7 +46,6 @@ pub(crate) fn hire_all(
 
 // Ends a worker's line.
 fn dismiss_one(worker: &mut Worker)
-    requires { IsIdle worker.old }
     ensures { SameButLine worker.old worker.new }
 {
     if let Some(line) = &worker.line {
@@ -57,7 +56,6 @@ fn dismiss_one(worker: &mut Worker)
 
 /// Ends all lines, so that the helpers end when they have counted what they have.
 pub(crate) fn dismiss_all(workers: &mut [Worker])
-    requires { All IsIdle workers.old }
     ensures { AllSameButLines workers.old workers.new }
 {
     for v in 0..workers.len() {

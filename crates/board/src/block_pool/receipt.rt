@@ -43,26 +43,8 @@ fn write_front(buffer: &mut [i32], samples: &[i32])
     buffer[..samples.len()].copy_from_slice(samples);
 }
 
-fn is_grid(a: &Grid, b: &Grid) -> bool
-    ensures { IsTrue result → a.now ≡ b.now }
-{
-    a == b
-}
-
-fn is_gain(a: &Gain, b: &Gain) -> bool
-    ensures { IsTrue result → a.now ≡ b.now }
-{
-    a == b
-}
-
-fn is_name(a: &Name, b: &Name) -> bool
-    ensures { IsTrue result → a.now ≡ b.now }
-{
-    a == b
-}
-
 fn are_samples(a: &[i32], b: &[i32]) -> bool
-    ensures { IsTrue result → a.now ≡ b.now }
+    ensures { IsTrue result ↔ (a.now ≡ b.now) }
 {
     a == b
 }
@@ -108,13 +90,13 @@ impl Receipt {
 
     /// Whether a unit is the count of what was kept.
     pub fn is_of(&self, unit: &Counted) -> bool
-        ensures { IsTrue result → IsCountOf self.now unit.now }
+        ensures { IsTrue result ↔ IsCountOf self.now unit.now }
     {
         let segment = unit.segment();
-        if unit.block() != self.buffer.len() || !is_grid(&segment.grid(), &self.grid) {
+        if unit.block() != self.buffer.len() || segment.grid() != self.grid {
             return false;
         }
-        if !is_name(&segment.name(), &self.name) || !is_gain(&unit.gain(), &self.gain) {
+        if segment.name() != self.name || unit.gain() != self.gain {
             return false;
         }
         are_samples(

@@ -14,71 +14,42 @@ use Rattle.site_lanes.specs.Lanes.{AreLanes, AreReady, AreHeldTo}
 use Rattle.site_lanes.proofs.AllLanes.{lanes_after}
 use Rattle.count_command.proofs.on_held_rounds.RoundOf.{at_is, can_first, fronts_next, fronts_end, fronts_stand}
 
-module _ {C : Type 0} {tells : Type 0} {left : C → List ℕ} {faults : C → ℕ} {old new : PreparedValue} {lanes lanes2 : List (Lane C)}
-    (done : RoundDone tells left faults old new lanes lanes2) (count : length lanes ≡ old.gauges)
-    (gauges : ℕ) (many : length lanes ≡ gauges) (can : AreReady lanes) (s : Setup) (ends : List ℕ) (board : BoardValue)
-    (leads : Leads s ends board lanes) where
-  -- after the puts the lanes from before the round are where the held segments end
-  held_to : (ends2 : List ℕ) → ((g : ℕ) → g < gauges → slice_index ends2 g ≡ at_of lanes g) → AreHeldTo ends2 lanes
-  held_to ends2 same g d lt = (can g d lt, same g (omega (arith, lt, many)) ∙ at_is lanes g d lt)
-
-  ends_here : FrontsEnd (at_of lanes) board gauges
-  ends_here = subst (λ (n : ℕ). FrontsEnd (at_of lanes) board n) many leads.to
-
-  pub leads_on : old.grid ≡ s.grid → {E : Type 0} (result : Result (Unit {0}) E) (s2 : Setup) → s2 ≡ s → (ends2 : List ℕ) →
-      ((to : ℕ → ℕ) → FrontsEnd to board gauges → OnOk result ((g : ℕ) → g < gauges → slice_index ends2 g ≡ to g)) →
-      OnOk result (Leads s2 ends2 new.board lanes2)
-  leads_on grid (Err e) s2 same ends2 stored = tt
-  leads_on grid (Ok u) s2 same ends2 stored =
-      let held = held_to ends2 (stored (at_of lanes) ends_here) in
-      record {
-        fronts = subst (λ (n : ℕ). AreFronts s2 ends2 new.board n) (sym (done.long ∙ count))
-            (fronts_next done ends2 held count s2 old.gauges refl (grid ∙ ap (λ (x : Setup). x.grid) (sym same)));
-        to = subst (λ (n : ℕ). FrontsEnd (at_of lanes2) new.board n) (sym (done.long ∙ count))
-            (fronts_end done ends2 held count old.gauges refl);
-      }
-
-  pub stands_on : (r : Recorded) → r.gauges ≡ gauges → tells → AreLanes tells left r lanes →
-      {E : Type 0} (result : Result (Unit {0}) E) (ends2 : List ℕ) →
-      ((to : ℕ → ℕ) → FrontsEnd to board gauges → OnOk result ((g : ℕ) → g < gauges → slice_index ends2 g ≡ to g)) →
-      OnOk result (AreLanes tells left r lanes2 × FrontsStand r new.board)
-  stands_on r all t are (Err e) ends2 stored = tt
-  stands_on r all t are (Ok u) ends2 stored =
-      let held = held_to ends2 (stored (at_of lanes) ends_here) in
-      (lanes_after done count can r are, fronts_stand done ends2 held count r (all ∙ sym many ∙ count) t are)
-
--- the first board
+-- from where the lanes were
 module _ {C : Type 0} {tells : Type 0} {left : C → List ℕ} {faults : C → ℕ} {old new : PreparedValue} {lanes lanes2 : List (Lane C)}
     (done : RoundDone tells left faults old new lanes lanes2) (count : length lanes ≡ old.gauges) (ends : List ℕ)
     (held : AreHeldTo ends lanes) where
-  pub leads_first : (s : Setup) → old.grid ≡ s.grid → Leads s ends new.board lanes2
-  leads_first s grid = record {
+  pub leads_next : (s : Setup) → old.grid ≡ s.grid → Leads s ends new.board lanes2
+  leads_next s grid = record {
     fronts = subst (λ (n : ℕ). AreFronts s ends new.board n) (sym (done.long ∙ count))
         (fronts_next done ends held count s old.gauges refl grid);
     to = subst (λ (n : ℕ). FrontsEnd (at_of lanes2) new.board n) (sym (done.long ∙ count))
         (fronts_end done ends held count old.gauges refl);
   }
 
-  pub stands_first : (r : Recorded) → r.gauges ≡ length lanes → tells → AreLanes tells left r lanes →
+  pub stands_next : (r : Recorded) → r.gauges ≡ length lanes → tells → AreLanes tells left r lanes →
       AreLanes tells left r lanes2 × FrontsStand r new.board
-  stands_first r all t are = (
+  stands_next r all t are = (
     lanes_after done count (can_first ends lanes held) r are,
     fronts_stand done ends held count r
         (all ∙ count) t are,
   )
 
--- after the last puts
-pub held_last : {C : Type 0} (gauges : ℕ) (lanes : List (Lane C)) → length lanes ≡ gauges → AreReady lanes →
-    (s : Setup) (ends : List ℕ) (board : BoardValue) → Leads s ends board lanes →
-    {E : Type 0} (result : Result (Unit {0}) E) (ends2 : List ℕ) →
-    ((to : ℕ → ℕ) → FrontsEnd to board gauges → OnOk result ((g : ℕ) → g < gauges → slice_index ends2 g ≡ to g)) →
-    OnOk result (AreHeldTo ends2 lanes)
-held_last gauges lanes many can s ends board leads (Err e) ends2 stored = tt
-held_last gauges lanes many can s ends board leads (Ok u) ends2 stored = λ g d lt. (
-  can g d lt,
-  stored (at_of lanes) (subst (λ (n : ℕ). FrontsEnd (at_of lanes) board n) many leads.to) g (omega (arith, lt, many))
-      ∙ at_is lanes g d lt,
-)
+-- after puts the lanes are where the held segments end
+module _ {C : Type 0} (gauges : ℕ) (lanes : List (Lane C)) (many : length lanes ≡ gauges) (can : AreReady lanes)
+    (s : Setup) (ends : List ℕ) (board : BoardValue) (leads : Leads s ends board lanes) where
+  pub held_after : (ends2 : List ℕ) → ((to : ℕ → ℕ) → FrontsEnd to board gauges → (g : ℕ) → g < gauges → slice_index ends2 g ≡ to g) →
+      AreHeldTo ends2 lanes
+  held_after ends2 stored g d lt = (
+    can g d lt,
+    stored (at_of lanes) (subst (λ (n : ℕ). FrontsEnd (at_of lanes) board n) many leads.to) g (omega (arith, lt, many))
+        ∙ at_is lanes g d lt,
+  )
+
+  pub held_last : {E : Type 0} (result : Result (Unit {0}) E) (ends2 : List ℕ) →
+      ((to : ℕ → ℕ) → FrontsEnd to board gauges → OnOk result ((g : ℕ) → g < gauges → slice_index ends2 g ≡ to g)) →
+      OnOk result (AreHeldTo ends2 lanes)
+  held_last (Err e) ends2 stored = tt
+  held_last (Ok u) ends2 stored = held_after ends2 stored
 
 -- the board that was handed out is for the plan
 pub board_for : (old run now : PreparedValue) (out board : BoardValue) → IsBoardFor old run.board → run.grid ≡ old.grid →

@@ -1,15 +1,12 @@
-ghost use Rattle.std.specs.Prelude.{◌≡◌, false, length, OnOk};
+ghost use Rattle.std.specs.Prelude.{◌≡◌, false, length};
 ghost use Rattle.std.specs.Thread.{IsSync, IsSend};
-ghost use Rattle.outside.specs.Site.{Files};
 ghost use Rattle.count_workers.specs.round_making.Round.{RoundDone};
 ghost use Rattle.segment_store.specs.Held.{ends_of};
 ghost use Rattle.segment_store.specs.Moments.{IsThere};
 ghost use Rattle.site_config.specs.Valid.{IsConfig};
-ghost use Rattle.site_config.specs.recorded.Recorded.{recordings};
 ghost use Rattle.count_command.specs.held_samples.Hook.{Follows};
-ghost use Rattle.count_command.specs.held_samples.Fronts.{AreFronts, FrontsStand};
-ghost use Rattle.site_lanes.specs.Lanes.{AreLanes, AreReady, AreHeldTo};
-ghost use Rattle.count_command.specs.held_rounds.Beside.{Leads};
+ghost use Rattle.count_command.specs.held_samples.Fronts.{AreFronts};
+ghost use Rattle.site_lanes.specs.Lanes.{AreReady};
 ghost use Rattle.count_command.specs.held_rounds.Made.{RoundsMade};
 ghost use Rattle.count_command.specs.held_rounds.Ready.{AreOpenedLanes, AreRoundsFor};
 ghost use Rattle.count_command.specs.held_samples.Stored.{Stores};
@@ -26,10 +23,10 @@ use site_lanes::have_ended;
 use std::sync::Wait;
 use std::thread::{Threads, join_mut};
 
-// A round, and the puts of the round before. One worker makes them one after the other, in this
-// thread, so what it counts stays near; of several the round has a new thread, or comes last where
-// none can be made.
-fn both<R: Threads + Wait + Sync, C: Source + Send, K: Station, G: Gate + Sync, H: PutHook>(
+// A round, and the puts of the round before, of which this is the board. One worker makes them one
+// after the other, in this thread, so what it counts stays near; of several the round has a new
+// thread, or comes last where none can be made.
+fn round_beside<R: Threads + Wait + Sync, C: Source + Send, K: Station, G: Gate + Sync, H: PutHook>(
     run: &Run<'_, R, G>,
     board: &Board,
     prepared: &mut Prepared<C>,
@@ -72,46 +69,6 @@ fn both<R: Threads + Wait + Sync, C: Source + Send, K: Station, G: Gate + Sync, 
         &mut || store_fronts(board, config, store, station, behind),
     );
     stored
-}
-
-// The puts and lines of the last round, of which this is the board, and the next round.
-fn round_beside<R: Threads + Wait + Sync, C: Source + Send, K: Station, G: Gate + Sync, H: PutHook>(
-    run: &Run<'_, R, G>,
-    board: &Board,
-    prepared: &mut Prepared<C>,
-    lanes: &mut [Lane<C>],
-    store: &mut Store,
-    station: &mut K,
-    behind: &mut Behind<H>,
-) -> Result<(), Failed>
-    requires usable { store.old.shut ≡ false }
-    requires follows { Follows H.follows behind.old.hook store.old }
-    requires config { IsConfig run.now.config.now }
-    requires gauges { (length store.old.held ≡ length run.now.config.now.gauges)
-        × (prepared.old.gauges ≡ length run.now.config.now.gauges)
-        × (length lanes.old ≡ length run.now.config.now.gauges)
-        × (length board.now.rows ≡ length run.now.config.now.gauges) }
-    requires setup { store.old.head.setup ≡ run.now.config.now.setup }
-    requires grid { prepared.old.grid ≡ run.now.config.now.setup.grid }
-    requires leads { Leads store.old.head.setup (ends_of store.old.held) board.now lanes.old }
-    requires lanes { AreReady lanes.old }
-    requires on { K.tells → IsThere store.old (K.seen station.old) (K.leaves station.old) }
-    // Of the running round nothing is said here.
-    ensures stores { Stores ⟦<K as Station>⟧ run.now.config.now board.now store.old store.new
-        station.old station.new result }
-    // The gauges are held up to where the lanes were, and the next board leads on from there.
-    ensures held { OnOk result (AreHeldTo (ends_of store.new.held) lanes.old) }
-    ensures leads { OnOk result (Leads store.new.head.setup (ends_of store.new.held)
-        prepared.new.board lanes.new) }
-    ensures stand { C.tells → (files : Files) →
-        AreLanes C.tells C.left (recordings run.now.config.now files) lanes.old → OnOk result
-        (AreLanes C.tells C.left (recordings run.now.config.now files) lanes.new
-        × FrontsStand (recordings run.now.config.now files) prepared.new.board) }
-    ensures round { RoundDone C.tells C.left C.faults
-        prepared.old prepared.new lanes.old lanes.new }
-    ensures follows { Follows H.follows behind.new.hook store.new }
-{
-    both(run, board, prepared, lanes, store, station, behind)
 }
 
 /// Rounds until each lane has ended, each with the puts and lines of the round before. `board` is

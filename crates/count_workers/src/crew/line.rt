@@ -72,6 +72,13 @@ pub(crate) fn new_line(
     Ok((line, helper))
 }
 
+// Keeps a receipt for another block. There is room for all of a line.
+fn put_by(spare: &mut Vec<Receipt>, receipt: Option<Receipt>) {
+    if let Some(receipt) = receipt {
+        let _ = spare.push(receipt);
+    }
+}
+
 impl Line {
     ghost use Rattle.count_workers.specs.crew.Lines.{LineValue};
 
@@ -84,6 +91,7 @@ impl Line {
             return false;
         };
         if !receipt.keep(unit) {
+            put_by(&mut self.spare, Some(receipt));
             return false;
         }
         self.waiting.push_back(receipt).is_ok()
@@ -110,7 +118,7 @@ impl Line {
                 Ok(())
             }
             Err(given) => {
-                drop(self.waiting.pop_back());
+                put_by(&mut self.spare, self.waiting.pop_back());
                 Err(given.unit)
             }
         }
@@ -126,8 +134,7 @@ impl Line {
         if !oldest.is_of(&unit) {
             return None;
         }
-        let receipt = self.waiting.pop_front()?;
-        drop(self.spare.push(receipt));
+        put_by(&mut self.spare, self.waiting.pop_front());
         Some(unit)
     }
 

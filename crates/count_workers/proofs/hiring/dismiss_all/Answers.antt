@@ -1,15 +1,9 @@
 use Rattle.std.proofs.Common.{arith, ◌<◌, ◌∙◌, length, sym, subst}
 use Rattle.std.proofs.lemmas.List.{get_or-set_other, get_or_default}
 use Rattle.std.proofs.Math.ListN.{length-set}
-use Rattle.count_workers.specs.block_workers.Working.{IsIdle}
 use Rattle.count_workers.specs.Hiring.{SameButLine}
 use Rattle.count_workers.proofs.on_running.Turns.{done_more}
 use Rattle.count_workers.proofs.hiring.dismiss_all.Goals as goal
-
-pub dismiss_one-requires : goal.dismiss_one-requires
-dismiss_one-requires c =
-    let k = c.loop-v.v in let r = c.index-workers-v.result in
-    subst IsIdle (sym (c.loop-v.invariant.rest k r (omega arith))) (c.requires k r (omega (arith, c.loop-v.invariant.long)))
 
 pub loop-v-preserved : goal.loop-v-preserved
 loop-v-preserved c =

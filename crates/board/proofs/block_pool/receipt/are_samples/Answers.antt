@@ -4,4 +4,6 @@ use lib.Pointwise.{pointwise_decides}
 use Rattle.board.proofs.block_pool.receipt.are_samples.Goals as goal
 
 pub returns : goal.returns
-returns c = λ yes. (pointwise_decides Decides-int_eq c.args.a.now c.args.b.now).0 (sym c.eq.ensures ∙ yes)
+returns c =
+    let decides = pointwise_decides Decides-int_eq c.args.a.now c.args.b.now in
+    (λ yes. decides.0 (sym c.eq.ensures ∙ yes), λ same. c.eq.ensures ∙ decides.1 same)

@@ -2,6 +2,7 @@ use Rattle.std.proofs.Common.{ℕ, ◌++◌, length, refl, sym, ◌∙◌, ap, s
 use Rattle.std.proofs.lemmas.Result.{IfOk-from_err}
 use Rattle.calibration.specs.declared.setup.Setup.{Setup}
 use Rattle.board.specs.Board.{BoardValue}
+use Rattle.store_bytes.specs.store_head.Head.{HeadValue}
 use Rattle.segment_store.specs.Held.{ends_of}
 use Rattle.site_config.specs.Valid.{name_of}
 use Rattle.site_config.specs.recorded.Recorded.{recordings}
@@ -13,7 +14,7 @@ use Rattle.count_command.proofs.on_held_samples.Pace.{paced_starts, paced_then, 
 use Rattle.count_command.specs.held_rounds.Beside.{Leads}
 use Rattle.count_command.specs.held_rounds.Telling.{HasTold}
 use Rattle.count_command.proofs.on_held_rounds.Ahead.{IsAhead, ahead_first, ahead_on, ahead_last}
-use Rattle.count_command.proofs.on_held_rounds.LeadsOn.{leads_first, stands_first, held_last, board_for}
+use Rattle.count_command.proofs.on_held_rounds.LeadsOn.{leads_next, stands_next, held_after, held_last, board_for}
 use Rattle.count_command.proofs.on_held_rounds.RoundOf.{can_first}
 use Rattle.site_lanes.proofs.AllLanes.{sources_after, all_faulty_after, ready_after, whole_before}
 use Rattle.count_command.proofs.held_rounds.beside.make_rounds.Goals as goal
@@ -34,14 +35,14 @@ loop-init g c =
       block = same.block ∙ done.block ∙ c.requires.rounds.block;
       board = board_for c.args.prepared.now _ _ _ _ done.board done.grid done.block done.gauges same out;
       leads = subst (λ (b : BoardValue). Leads c.args.store.now.head.setup ends b c.round.new.lanes) (sym out)
-          (leads_first done count ends c.requires.opened.held c.args.store.now.head.setup
+          (leads_next done count ends c.requires.opened.held c.args.store.now.head.setup
           (c.requires.rounds.grid ∙ ap (λ (s : Setup). s.grid) (sym c.requires.opened.setup)));
       can = ready_after done count can;
       sources = sources_after done count can;
       faulty = all_faulty_after done count can c.requires.opened.faulty;
       there = c.requires.opened.there;
       read = λ reads files lanes.
-          let both = stands_first done count ends c.requires.opened.held (recordings c.args.run.now.config.now files)
+          let both = stands_next done count ends c.requires.opened.held (recordings c.args.run.now.config.now files)
           (sym c.requires.opened.count) reads
           lanes in
           (both.0, subst (λ (b : BoardValue). FrontsStand (recordings c.args.run.now.config.now files) b) (sym out) both.1);
@@ -67,6 +68,12 @@ loop-init g c =
       later = omega arith;
       follows = c.requires.follows;
     }
+
+pub round_beside-requires-clause-fronts : goal.round_beside-requires-clause-fronts
+round_beside-requires-clause-fronts g c = λ lifetimes outlive.
+    let was = c.loop.invariant in
+    subst (λ (n : ℕ). AreFronts c.loop.store.head.setup (ends_of c.loop.store.held) c.loop.board n) (was.gauges.2 ∙ c.requires.opened.count)
+    was.leads.fronts
 
 pub store_fronts-requires-clause-fronts : goal.store_fronts-requires-clause-fronts
 store_fronts-requires-clause-fronts g c =
@@ -157,6 +164,9 @@ loop-preserved g c =
     let count = was.gauges.2 ∙ c.requires.opened.count ∙ sym was.gauges.1 in
     let ends = ends_of c.loop.store.held in
     let ends2 = ends_of c.round_beside.new.store.held in
+    let held = held_after (length c.args.run.now.config.now.gauges) c.loop.lanes (was.gauges.2 ∙ c.requires.opened.count) was.can
+    c.loop.store.head.setup ends c.loop.board was.leads ends2 now.stores.ends in
+    let setup = was.grid ∙ ap (λ (s : Setup). s.grid) (sym c.requires.opened.setup ∙ ap (λ (h : HeadValue). h.setup) (sym (c.round_beside.ensures.stores.head ∙ was.head))) in
     record {
       usable = now.stores.usable;
       head = c.round_beside.ensures.stores.head ∙ was.head;
@@ -164,13 +174,16 @@ loop-preserved g c =
       grid = same.grid ∙ done.grid ∙ was.grid;
       block = same.block ∙ done.block ∙ was.block;
       board = board_for c.loop.prepared _ _ _ _ done.board done.grid done.block done.gauges same out;
-      leads = subst (λ (b : BoardValue). Leads c.round_beside.new.store.head.setup ends2 b c.round_beside.new.lanes) (sym out) now.leads;
+      leads = subst (λ (b : BoardValue). Leads c.round_beside.new.store.head.setup ends2 b c.round_beside.new.lanes) (sym out)
+          (leads_next done count ends2 held c.round_beside.new.store.head.setup setup);
       can = ready_after done count was.can;
       sources = sources_after done count was.can;
       faulty = all_faulty_after done count was.can was.faulty;
       there = now.stores.there;
       read = λ reads files lanes.
-          let both = now.stand reads files (was.read reads files lanes).0 in
+          let both = stands_next done count ends2 held (recordings c.args.run.now.config.now files)
+          (sym (was.gauges.2 ∙ c.requires.opened.count)) reads
+          (was.read reads files lanes).0 in
           (both.0, subst (λ (b : BoardValue). FrontsStand (recordings c.args.run.now.config.now files) b) (sym out) both.1);
       going = λ tells reads files lanes stored.
           let so_far = was.going tells reads files lanes stored in
@@ -196,7 +209,7 @@ loop-preserved g c =
           let many = sym (was.gauges.2 ∙ c.requires.opened.count) in
           let so_far = was.told tells reads files lanes n told had (whole_before done count was.can whole) in
           subst (λ (b : ℕ). IsAhead b r n told after ends2 c.round_beside.new.lanes) was.block
-          (ahead_on done count r many reads (was.read reads files lanes).0 n told before after ends ends2 now.held whole
+          (ahead_on done count r many reads (was.read reads files lanes).0 n told before after ends ends2 held whole
           (now.stores.lines tells) (subst (λ (b : ℕ). IsAhead b r n told before ends c.loop.lanes) (sym was.block) so_far));
       later = omega (arith, was.later, c.round_beside.ensures.stores.cause.later);
       follows = c.round_beside.ensures.follows;
