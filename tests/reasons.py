@@ -8,7 +8,7 @@ or written, a file that may not grow, a file system that is full, and standard s
 or holds what was acknowledged, and a further `count` prints the whole report. `watch` ends as `count` does. On a store, a folder and a file
 system that can only be read, `report`, `repeat`, `audit`, `window` and `compact` end as ever, and change neither bytes nor times. Of a recording
 that is longer than what is read ahead, what is held is passed over, in a file by a seek and in a pipe, where none can be made, by reading: what is
-new is counted, and one that became shorter is refused.
+new is counted, and one that became shorter is refused. Where no thread can be made, several workers count and store what one does.
 Where this is run by root, what a user may not do is tried as another user, and file systems are mounted. What can't be tried is told.
 What is expected comes from an independent count (model.py). Last line: reasons: N passed, M failed
 """
@@ -69,6 +69,28 @@ def close(*streams):
             os.close(stream)
 
     return apply
+
+
+def alone():
+    """For a program: it can make no thread."""
+    resource.setrlimit(resource.RLIMIT_NPROC, (1, 1))
+
+
+def makes_threads(user=None):
+    """Whether a program of this user makes threads all the same."""
+    child = os.fork()
+    if child == 0:
+        if user is not None:
+            os.setgroups([])
+            os.setgid(user)
+            os.setuid(user)
+        alone()
+        try:
+            threading.Thread(target=int).start()
+        except RuntimeError:
+            os._exit(1)
+        os._exit(0)
+    return os.waitstatus_to_exitcode(os.waitpid(child, 0)[1]) == 0
 
 
 def marks(folder):
@@ -242,6 +264,30 @@ def long_recordings(trial):
         trial.check("%s of a shorter recording" % word, trial.run(word), fewer)
 
 
+def threads(trial):
+    """No thread can be made."""
+    how = {"user": NOBODY} if os.geteuid() == 0 else {}
+    if makes_threads(how.get("user")):
+        print("reasons: skipped: threads can be made past a limit here")
+        return
+    folder = trial.enter("threads")
+    write("monitor.toml", ONE_GAUGE.replace("block = 4", "block = 64").encode())
+    write("g1.sgrc", recording(LONG))
+    trial.check("init before threads", trial.run("init"), (0, "", "init 1\n"))
+    new = read("monitor.store")
+    due = report(["G1"], [Count(GRID, GAIN, LONG)], [])
+    trial.check("one worker", trial.run("count", "--workers", "1")[:2], (0, due))
+    store = read("monitor.store")
+    for name in (folder, "monitor.store"):
+        os.chown(name, how.get("user", -1), -1)
+    for word in WRITERS:
+        for workers in ("2", "8"):
+            write("monitor.store", new)
+            what = "%s by %s workers without a thread" % (word, workers)
+            trial.check(what, trial.run(word, "--workers", workers, before=alone, **how)[:2], (0, due))
+            trial.check("the store after " + what, read("monitor.store"), store)
+
+
 def readers(trial, folder, what, **how):
     """The readers end as ever, and change nothing."""
     before = marks(folder)
@@ -332,7 +378,7 @@ def main():
         shutil.copy(sys.argv[1], program)
         os.chmod(program, 0o755)
         trial = Trial(program, room)
-        for part in (missing, folders, limits, streams, long_recordings, permissions):
+        for part in (missing, folders, limits, streams, long_recordings, threads, permissions):
             os.chdir(room)
             part(trial)
         os.chdir(room)
