@@ -1,7 +1,7 @@
 -- Rows and boards of which nothing is placed.
 use Rattle.calibration.specs.declared.limits.TheConstants.{MAX_SAMPLES}
 use Rattle.std.specs.Prelude.{ℤ}
-use Rattle.std.proofs.Common.{◌≡◌, ◌≤◌, ◌<◌, ◌+◌, ◌*◌, ℕ, List, [], length, get_or, take, drop, ◌++◌, sym, ap, ◌∙◌, subst, arith}
+use Rattle.std.proofs.Common.{◌≡◌, inl, inr, ◌≤◌, ◌<◌, ◌+◌, ◌*◌, ℕ, List, [], length, get_or, take, drop, ◌++◌, refl, sym, ap, ◌∙◌, subst, arith}
 use Rattle.calibration.specs.Grid.{GridValue}
 use Rattle.segment.specs.declared.segment_rules.name.Name.{Name}
 use Rattle.board.specs.declared.block_pool.TheConstants.{MAX_BLOCK}
@@ -11,32 +11,45 @@ use Rattle.segment.specs.Segment.{SegmentValue, Stands, empty_at}
 use Rattle.segment.proofs.Empty.{empty_stands}
 use Rattle.board.specs.flow.Flow.{hits}
 use Rattle.board.proofs.on_flow.Counting.{over_none}
-use Rattle.board.specs.Board.{BoardValue, Row, IsRow, IsBoard, IsBegun, StandsIn, spans, start_of}
-use Rattle.board.specs.Clearing.{IsFresh, RowBegun, RowsBegun}
+use Rattle.board.specs.Board.{BoardValue, Row, IsRow, IsSlot, IsBoard, IsBegun, StandsIn, spans, start_of}
+use Rattle.board.specs.Clearing.{IsCleared, IsVacant, IsFresh, RowBegun, RowsBegun}
 use Rattle.board.proofs.Placing.{between_off, spans_none, none_stand}
 use Rattle.lemmas.proofs.Lists.{all_written}
 use Rattle.board.specs.declared.flow.TheConstants.{BLOCKS_PER_WINDOW}
 
+vacant_at : (block gauge start : ℕ) (kind : GridValue) (s : SegmentValue) → s ≡ empty_at kind gauge start (BLOCKS_PER_WINDOW * block)
+    → IsVacant block kind gauge s
+vacant_at block gauge start kind s e = subst (IsVacant block kind gauge) (sym e) (record {
+  slot = record {
+    gauge = refl;
+    grid = refl;
+    longest = refl;
+    ordered = omega arith;
+    vacant = λ none gain. empty_stands kind gauge start (BLOCKS_PER_WINDOW * block) gain;
+  };
+  none = omega arith;
+})
+
+-- a row of which each place is new
+pub new_fresh : (block gauge : ℕ) (kind : GridValue) (r : Row) → r.start ≡ 0 → length r.slots ≡ BLOCKS_PER_WINDOW
+    → ((k : ℕ) (d : SegmentValue) → k < BLOCKS_PER_WINDOW → get_or r.slots k d ≡ empty_at kind gauge 0 (BLOCKS_PER_WINDOW * block))
+    → IsFresh block kind gauge 0 r
+new_fresh block gauge kind r from long each = record {
+  from = from;
+  long = long;
+  first = λ d. ap (λ (z : SegmentValue). z.from) (each 0 d (omega arith));
+  each = λ k d m. vacant_at block gauge 0 kind (get_or r.slots k d) (each k d m);
+}
+
 module _ (block gauge start : ℕ) (kind : GridValue) (r : Row) (h : IsFresh block kind gauge start r) where
-  from_is : (k : ℕ) (d : SegmentValue) → k < BLOCKS_PER_WINDOW → (get_or r.slots k d).from ≡ start
-  from_is k d m = ap (λ (z : SegmentValue). z.from) (h.each k d m)
-
-  to_is : (k : ℕ) (d : SegmentValue) → k < BLOCKS_PER_WINDOW → (get_or r.slots k d).to ≡ start
-  to_is k d m = ap (λ (z : SegmentValue). z.to) (h.each k d m)
-
   pub fresh_empty : (k : ℕ) (d : SegmentValue) → k < BLOCKS_PER_WINDOW → (get_or r.slots k d).from < (get_or r.slots k d).to → ⊥
-  fresh_empty k d m some = omega (arith, from_is k d m, to_is k d m, some)
+  fresh_empty k d m some = omega (arith, (h.each k d m).none, some)
 
   pub fresh_row : IsRow block kind gauge r
   fresh_row = record {
     long = h.long;
-    each = λ k d m. record {
-      gauge = ap (λ (z : SegmentValue). z.gauge) (h.each k d m);
-      grid = ap (λ (z : SegmentValue). z.grid) (h.each k d m);
-      longest = ap (λ (z : SegmentValue). z.longest) (h.each k d m);
-      ordered = omega (arith, from_is k d m, to_is k d m);
-    };
-    first = λ d. from_is 0 d (omega arith) ∙ sym h.from;
+    each = λ k d m. (h.each k d m).slot;
+    first = λ d. h.first d ∙ sym h.from;
     shape = λ k d m some. absurd (fresh_empty k d m some);
     apart = λ j k d u m a b. absurd (fresh_empty k d m b);
   }
@@ -48,8 +61,8 @@ module _ (block gauge start : ℕ) (kind : GridValue) (r : Row) (h : IsFresh blo
   pub fresh_stands : (gain : GainValue) (w : List ℤ) (k : ℕ) (d : SegmentValue) → k < BLOCKS_PER_WINDOW →
       StandsIn (get_or r.slots k d) gain w
   fresh_stands gain w k d m =
-      none_stand gain w (get_or r.slots k d) (to_is k d m ∙ sym (from_is k d m))
-      (subst (λ (z : SegmentValue). Stands z gain []) (sym (h.each k d m)) (empty_stands kind gauge start (BLOCKS_PER_WINDOW * block) gain))
+      let v = h.each k d m in
+      none_stand gain w (get_or r.slots k d) (omega (arith, v.none, v.slot.ordered)) (v.slot.vacant v.none gain)
 
 no_hits : (g i : ℕ) (l : List Name) → l ≡ [] → hits g i l ≡ 0
 no_hits g i l e = ap (hits g i) e
@@ -78,15 +91,22 @@ module _ (b : BoardValue) (starts : ℕ → ℕ) (none : b.arrivals ≡ [])
     carries = λ gain w g k r d m h. fresh_stands b.block g (starts g) b.grid (get_or b.rows g r) (fresh g r m) (gain g) (w g) k d h;
   }
 
+-- a place that was cleared, or had no samples
+cleared_vacant : (block : ℕ) (kind : GridValue) (gauge start : ℕ) (old new : SegmentValue) → IsSlot block kind gauge old
+    → IsCleared gauge start old new → IsVacant block kind gauge new
+cleared_vacant block kind gauge start old new h (inl e) = vacant_at block gauge start kind new (e
+    ∙ ap (λ (g : GridValue). empty_at g gauge start old.longest) h.grid ∙ ap (λ (n : ℕ). empty_at kind gauge start n) h.longest)
+cleared_vacant block kind gauge start old new h (inr (e, none)) = subst (IsVacant block kind gauge) (sym e) (record { slot = h; none = none })
+
 -- a row that was begun anew
 pub begun_fresh : (block : ℕ) (kind : GridValue) (gauge start : ℕ) (old new : Row) → IsRow block kind gauge old
     → RowBegun gauge start old new → IsFresh block kind gauge start new
 begun_fresh block kind gauge start old new h r = record {
   from = r.from;
   long = r.slots.long ∙ h.long;
-  each = λ k d m. r.slots.each k d (omega (arith, m, h.long)) ∙ ap
-      (λ (g : GridValue). empty_at g gauge start (get_or old.slots k d).longest) (h.each k d m).grid ∙ ap
-      (λ (n : ℕ). empty_at kind gauge start n) (h.each k d m).longest;
+  first = λ d. ap (λ (z : SegmentValue). z.from) (r.slots.first d (omega (arith, h.long)));
+  each = λ k d m. cleared_vacant block kind gauge start (get_or old.slots k d) (get_or new.slots k d) (h.each k d m)
+      (r.slots.each k d (omega (arith, m, h.long)));
 }
 
 pub rows_fresh : (b : BoardValue) (starts : List ℕ) (rows : List Row) → IsBoard b → (was new : List Row) (n : ℕ) → was ≡ b.rows

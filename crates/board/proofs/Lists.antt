@@ -16,14 +16,14 @@ pub at_set : {A : Type 0} → (Q : ℕ → A → Type 0) (l : List A) (k : ℕ) 
     → (i ≡ k → Q k x) → Q i (get_or (set l k x) i d)
 at_set Q l k x i d h old new = at_or Q l k x i d h old new (cases_eq i k)
 
-pushed_or : {A : Type 0} → (P : A → Type 0) (l : List A) (x : A) (n : ℕ) → length l ≡ n → ((k : ℕ) (d : A) → k < n → P (get_or l k d))
-    → P x → (k : ℕ) (d : A) → k < n + 1 → ((k ≡ n) ⊎ (k ≡ n → ⊥)) → P (get_or (l ++ x ∷ []) k d)
-pushed_or P l x n e all new k d m (inl is) = subst P (sym (ap (λ i. get_or (l ++ x ∷ []) i d) (is ∙ sym e)
-    ∙ get_or-append_seam l x [] d)) new
-pushed_or P l x n e all new k d m (inr other) = subst P (sym (get_or-append l (x ∷ []) d k (omega (arith, e, m, other))))
+pushed_or : {A : Type 0} → (Q : ℕ → A → Type 0) (l : List A) (x : A) (n : ℕ) → length l ≡ n → ((k : ℕ) (d : A) → k < n → Q k (get_or l k d))
+    → Q n x → (k : ℕ) (d : A) → k < n + 1 → ((k ≡ n) ⊎ (k ≡ n → ⊥)) → Q k (get_or (l ++ x ∷ []) k d)
+pushed_or Q l x n e all new k d m (inl is) = subst (λ j. Q j (get_or (l ++ x ∷ []) j d)) (sym is)
+    (subst (Q n) (sym (ap (λ i. get_or (l ++ x ∷ []) i d) (sym e) ∙ get_or-append_seam l x [] d)) new)
+pushed_or Q l x n e all new k d m (inr other) = subst (Q k) (sym (get_or-append l (x ∷ []) d k (omega (arith, e, m, other))))
     (all k d (omega (arith, m, other)))
 
--- a fact of each item, where there is one more
-pub each_pushed : {A : Type 0} → (P : A → Type 0) (l : List A) (x : A) (n : ℕ) → length l ≡ n →
-    ((k : ℕ) (d : A) → k < n → P (get_or l k d)) → P x → (k : ℕ) (d : A) → k < n + 1 → P (get_or (l ++ x ∷ []) k d)
-each_pushed P l x n e all new k d m = pushed_or P l x n e all new k d m (cases_eq k n)
+-- a fact of each place, where there is one more item
+pub each_pushed : {A : Type 0} → (Q : ℕ → A → Type 0) (l : List A) (x : A) (n : ℕ) → length l ≡ n →
+    ((k : ℕ) (d : A) → k < n → Q k (get_or l k d)) → Q n x → (k : ℕ) (d : A) → k < n + 1 → Q k (get_or (l ++ x ∷ []) k d)
+each_pushed Q l x n e all new k d m = pushed_or Q l x n e all new k d m (cases_eq k n)

@@ -62,6 +62,7 @@ put_loose start block k old new segment r c before p =
         grid = p.copy.grid;
         longest = p.copy.longest ∙ ap (λ (z : SegmentValue). z.longest) (sym (p.at d)) ∙ (r.each k d c.place).longest;
         ordered = omega (arith, from, to, c.some);
+        vacant = λ none. absurd (omega (arith, from, to, c.some, none));
       });
       first = λ d. at_set (λ i s. i ≡ 0 → s.from ≡ start) old k x 0 d l (λ e z. r.first d)
           (λ e z. let none : k * block ≡ 0 * block = ap (λ n. n * block) z in omega (arith, from, c.from, none)) refl;
@@ -103,6 +104,7 @@ extend_loose start block j k old new segment r c less full empties touch p =
         grid = p.join.grid ∙ ap (λ (z : SegmentValue). z.grid) (sym (p.at d)) ∙ (r.each j d js).grid;
         longest = p.join.longest ∙ ap (λ (z : SegmentValue). z.longest) (sym (p.at d)) ∙ (r.each j d js).longest;
         ordered = omega (arith, was_from d, to, full d, touch d, c.some);
+        vacant = λ none. absurd (omega (arith, was_from d, to, full d, touch d, c.some, none));
       });
       first = λ d. at_set (λ i s. i ≡ 0 → s.from ≡ start) old j x 0 d l (λ e z. r.first d)
           (λ e z. sym (was_from d) ∙ ap (λ i. (get_or old i d).from) z ∙ r.first d) refl;
@@ -168,12 +170,14 @@ close_row start block gauge kind j n old new less full_j r (inl (p, (inside, tou
             grid = p.join.grid ∙ ap (λ (z : SegmentValue). z.grid) (sym (p.at d)) ∙ (r.each j d j16).grid;
             longest = p.join.longest ∙ ap (λ (z : SegmentValue). z.longest) (sym (p.at d)) ∙ (r.each j d j16).longest;
             ordered = omega (arith, from_x d, to_x d, full_j d, touch d, full d);
+            vacant = λ none. absurd (omega (arith, from_x d, to_x d, full_j d, touch d, full d, none));
           })
           (λ e. record {
             gauge = p.emptied.gauge ∙ ap (λ (z : SegmentValue). z.gauge) (sym (p.at_next d)) ∙ (r.each n d n16).gauge;
             grid = p.emptied.grid ∙ ap (λ (z : SegmentValue). z.grid) (sym (p.at_next d)) ∙ (r.each n d n16).grid;
             longest = p.emptied.longest ∙ ap (λ (z : SegmentValue). z.longest) (sym (p.at_next d)) ∙ (r.each n d n16).longest;
             ordered = omega (arith, gone);
+            vacant = λ none. p.emptied.stands;
           });
       first = λ d. place (λ i s. i ≡ 0 → s.from ≡ start) 0 d (λ e f z. r.first d)
           (λ e z. from_x d ∙ ap (λ i. (get_or old i d).from) z ∙ r.first d) (λ e z. absurd (omega (arith, z, less))) refl;

@@ -36,12 +36,13 @@ abbrev pub spans : ℕ → List SegmentValue → ℕ
 spans i [] = 0
 spans i (s ∷ l) = between s.from s.to i + spans i l
 
--- a segment of the gauge that may come to as many samples as a window has
+-- a segment of the gauge that may come to as many samples as a window has; without samples it has no counts
 pub record IsSlot (block : ℕ) (kind : GridValue) (number : ℕ) (s : SegmentValue) : Type 0 where
   pub gauge : s.gauge ≡ number
   pub grid : s.grid ≡ kind
   pub longest : s.longest ≡ BLOCKS_PER_WINDOW * block
   pub ordered : s.from ≤ s.to
+  pub vacant : s.to ≤ s.from → (gain : GainValue) → Stands s gain []
 
 pub record IsRow (block : ℕ) (grid : GridValue) (gauge : ℕ) (r : Row) : Type 0 where
   pub long : length r.slots ≡ BLOCKS_PER_WINDOW

@@ -9,7 +9,7 @@ ghost use Rattle.board.specs.Clearing.{AllEmptied, RowBegun, RowsBegun, IsFresh}
 
 use crate::OutOfMemory;
 use crate::flow::BLOCKS_PER_WINDOW;
-use crate::rows::place;
+use crate::rows::{is_empty, place};
 use calibration::Grid;
 use segment::Segment;
 use segment::segment_rules::Name;
@@ -86,13 +86,16 @@ impl Intervals {
     }
 }
 
-// Takes all samples out of each segment.
+// Takes all samples out of each segment. One that has none stays as it is, but for the first,
+// which begins with the window.
 fn empty_all(slots: &mut [Segment], gauge: u16, start: u64)
     requires { start ≤ MAX_SAMPLES }
     ensures { AllEmptied gauge start slots.old slots.new }
 {
     for k in 0..slots.len() {
-        slots[k].clear(gauge, start);
+        if k == 0 || !is_empty(&slots[k]) {
+            slots[k].clear(gauge, start);
+        }
     }
 }
 

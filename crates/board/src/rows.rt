@@ -37,7 +37,8 @@ fn empty(slot: &mut Segment)
     slot.clear(name.gauge, name.from);
 }
 
-fn is_empty(slot: &Segment) -> bool
+/// Whether it has no samples.
+pub(crate) fn is_empty(slot: &Segment) -> bool
     ensures { result ≡ nat_le slot.now.to slot.now.from }
 {
     let name = slot.name();

@@ -1,6 +1,18 @@
-use Rattle.std.proofs.Common.{arith}
+use Rattle.std.proofs.Common.{get_or, sym, subst, arith, rules}
+use Rattle.board.specs.Board.{Row}
+use Rattle.board.specs.Clearing.{IsFresh}
 use Rattle.board.proofs.Begun.{fresh_board, fresh_begun}
+use Rattle.board.proofs.Lists.{each_pushed}
 use Rattle.board.proofs.windows.Board.new.Goals as goal
+
+pub loop-gauge-preserved : goal.loop-gauge-preserved
+loop-gauge-preserved c = record {
+  long = search rules;
+  room = search rules;
+  fresh = λ g d m. subst (λ l. IsFresh c.args.block c.args.grid.now g 0 (get_or l g d)) (sym c.push_reserved.ensures.items)
+      (each_pushed (λ h (r : Row). IsFresh c.args.block c.args.grid.now h 0 r) c.loop-gauge.rows.items c.in_ok-new.field-0 c.loop-gauge.gauge
+      (omega (arith, c.loop-gauge.invariant.long, c.loop-gauge.rows.ok.0)) c.loop-gauge.invariant.fresh c.in_ok-new.ensures g d m);
+}
 
 pub invariant_of-result : goal.invariant_of-result
 invariant_of-result c = (
