@@ -12,7 +12,8 @@
 //! (`count_workers::crew`).
 //!
 //! Cost: with several workers a thread for each round but the first, beside the caller's and those
-//! of the helpers. No call here takes memory, unless its hook does.
+//! of the helpers; behind its puts the caller's stays awake until the round has ended, for some
+//! milliseconds. No call here takes memory, unless its hook does.
 
 mod beside;
 mod helped;

@@ -21,7 +21,24 @@ use outside::{Failed, Gate, Source};
 use segment_store::Store;
 use site_lanes::have_ended;
 use std::sync::Wait;
+use std::sync::atomic::AtomicBool;
+use std::sync::atomic::Ordering::SeqCst;
+use std::thread;
 use std::thread::{Threads, join_mut};
+
+// How often the thread of the puts looks for the end of the round beside them before it sleeps.
+const LOOKS: u32 = 20_000;
+
+// Looks for the end of a round, so that the next one begins at once: a thread that sleeps may wake
+// late.
+fn look_for(ended: &AtomicBool) {
+    for _ in 0..LOOKS {
+        if ended.load(SeqCst) {
+            return;
+        }
+        thread::yield_now();
+    }
+}
 
 // A round, and the puts of the round before, of which this is the board. One worker makes them one
 // after the other, in this thread, so what it counts stays near; of several the round has a new
@@ -58,6 +75,7 @@ fn round_beside<R: Threads + Wait + Sync, C: Source + Send, K: Station, G: Gate 
         prepared.round(rt, lanes, gate);
         return stored;
     }
+    let ended = AtomicBool::new(false);
     let (_, stored) = join_mut(
         rt,
         &mut ||
@@ -65,8 +83,15 @@ fn round_beside<R: Threads + Wait + Sync, C: Source + Send, K: Station, G: Gate 
                 × (length lanes.now ≡ prepared.now.gauges) × AreReady lanes.now }
             ensures { RoundDone C.tells C.left C.faults
                 prepared.entry.now prepared.exit.now lanes.entry.now lanes.exit.now }
-        { prepared.round(rt, lanes, gate) },
-        &mut || store_fronts(board, config, store, station, behind),
+        {
+            prepared.round(rt, lanes, gate);
+            ended.store(true, SeqCst);
+        },
+        &mut || {
+            let stored = store_fronts(board, config, store, station, behind);
+            look_for(&ended);
+            stored
+        },
     );
     stored
 }
