@@ -1,6 +1,6 @@
 ghost use Rattle.std.specs.Prelude.{◌≡◌, ◌≤◌, IfOk, IfSome, map, option_map, string_bytes};
 ghost use Rattle.command_words.specs.Line.{command_of, table_line, bare_line, count_line, watch_line, demo_line, column_line, window_line, workers_at, number_at, id_at, instant_at, demo_with, column_with, window_with};
-ghost use Rattle.command_words.specs.Commands.{AreWorkers, IsWithinRanges, IsInstant, command_in, meaning_of};
+ghost use Rattle.command_words.specs.Commands.{AreWorkers, IsWithinRanges, ReadsInRanges, IsInstant, command_in, meaning_of};
 
 use crate::command::MAX_PERIOD_US;
 use crate::id::id_in;
@@ -15,7 +15,7 @@ use std::alloc::{AllocError, Global};
 pub fn read_words<'a>(alloc: Global, words: &'a [String]) -> Result<Option<Command<'a>>, AllocError>
     ensures line { IfOk result (λ read. meaning_of read ≡
         command_of (map string_bytes words.entry.now)) }
-    ensures ranges { IfOk result (λ read. IfSome read IsWithinRanges) }
+    ensures ranges { ReadsInRanges result }
 {
     let [first, ..] = words else {
         return Ok(None);
@@ -62,7 +62,7 @@ pub fn read_words<'a>(alloc: Global, words: &'a [String]) -> Result<Option<Comma
 fn read_table<'a>(alloc: Global, words: &'a [String]) -> Result<Option<Command<'a>>, AllocError>
     ensures line { IfOk result (λ read. meaning_of read ≡
         table_line (map string_bytes words.entry.now)) }
-    ensures ranges { IfOk result (λ read. IfSome read IsWithinRanges) }
+    ensures ranges { ReadsInRanges result }
 {
     let Some(matches) = read_by(options::table_app(alloc)?, words)? else {
         return Ok(None);
@@ -83,7 +83,7 @@ fn read_bare<'a>(
     requires ranges { IsWithinRanges command }
     ensures line { IfOk result (λ read. meaning_of read ≡
         bare_line name.entry.now (command_in command.entry) (map string_bytes words.entry.now)) }
-    ensures ranges { IfOk result (λ read. IfSome read IsWithinRanges) }
+    ensures ranges { ReadsInRanges result }
 {
     match read_by(clap::Command::new(alloc, name), words)? {
         None => Ok(None),
@@ -94,7 +94,7 @@ fn read_bare<'a>(
 fn read_count<'a>(alloc: Global, words: &'a [String]) -> Result<Option<Command<'a>>, AllocError>
     ensures line { IfOk result (λ read. meaning_of read ≡
         count_line (map string_bytes words.entry.now)) }
-    ensures ranges { IfOk result (λ read. IfSome read IsWithinRanges) }
+    ensures ranges { ReadsInRanges result }
 {
     let Some(matches) = read_by(options::count_app(alloc)?, words)? else {
         return Ok(None);
@@ -108,7 +108,7 @@ fn read_count<'a>(alloc: Global, words: &'a [String]) -> Result<Option<Command<'
 fn read_watch<'a>(alloc: Global, words: &'a [String]) -> Result<Option<Command<'a>>, AllocError>
     ensures line { IfOk result (λ read. meaning_of read ≡
         watch_line (map string_bytes words.entry.now)) }
-    ensures ranges { IfOk result (λ read. IfSome read IsWithinRanges) }
+    ensures ranges { ReadsInRanges result }
 {
     let Some(matches) = read_by(options::watch_app(alloc)?, words)? else {
         return Ok(None);
@@ -136,7 +136,7 @@ fn workers_of(text: Option<&str>) -> Option<Option<u8>>
 fn read_demo<'a>(alloc: Global, words: &'a [String]) -> Result<Option<Command<'a>>, AllocError>
     ensures line { IfOk result (λ read. meaning_of read ≡
         demo_line (map string_bytes words.entry.now)) }
-    ensures ranges { IfOk result (λ read. IfSome read IsWithinRanges) }
+    ensures ranges { ReadsInRanges result }
 {
     let Some(matches) = read_by(options::demo_app(alloc)?, words)? else {
         return Ok(None);
@@ -189,7 +189,7 @@ fn number_of(text: Option<&str>, low: u64, high: u64) -> Option<u64>
 fn read_column<'a>(alloc: Global, words: &'a [String]) -> Result<Option<Command<'a>>, AllocError>
     ensures line { IfOk result (λ read. meaning_of read ≡
         column_line (map string_bytes words.entry.now)) }
-    ensures ranges { IfOk result (λ read. IfSome read IsWithinRanges) }
+    ensures ranges { ReadsInRanges result }
 {
     let Some(matches) = read_by(options::column_app(alloc)?, words)? else {
         return Ok(None);
@@ -237,7 +237,7 @@ fn id_of(text: Option<&str>) -> Option<[u8; 16]>
 fn read_window<'a>(alloc: Global, words: &'a [String]) -> Result<Option<Command<'a>>, AllocError>
     ensures line { IfOk result (λ read. meaning_of read ≡
         window_line (map string_bytes words.entry.now)) }
-    ensures ranges { IfOk result (λ read. IfSome read IsWithinRanges) }
+    ensures ranges { ReadsInRanges result }
 {
     let Some(matches) = read_by(options::window_app(alloc)?, words)? else {
         return Ok(None);
