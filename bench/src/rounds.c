@@ -10,6 +10,9 @@
  *   alone    one thread: each block is read, counted and joined before the next, and the puts of a round come before the next round
  *   between  one thread reads all lanes of a round, makes the puts of the round before, and then joins; threads that stay count
  *   kept     the threads that count stay; that of the round, which reads and joins, is started for each beside the puts
+ *   awake    as kept; behind its puts the thread that makes them looks for the end of the round, and does not sleep
+ *   along    one thread reads, and joins behind each block what was counted by then; when all lanes are read it makes the puts of the round
+ *            before. Threads that stay count, and it keeps a copy of what they have to count, which it compares with what comes back
  *
  * Without a form all of them are run; blocks and alone need `workers=1`, and are left out with more. The names, with what stands where they are
  * left out; the lengths are about what the program takes over traffic:
@@ -47,6 +50,7 @@ enum {
     LINE = 64, /* bytes of a cache line: what different threads write lies on different ones */
     LIST_BYTES = 4640, /* the lists of a unit's segment over 128 classes */
     ROW_PLACES = 12800, /* 102 KB: a table of cycles over 128 classes with its lists */
+    MOST_UNDER_WAY = 16, /* blocks of a thread that counts, of which there are copies */
     TRIES = 32, /* of which the least is the time of a piece of work */
     TRIED_STEPS = 20000
 };
@@ -87,6 +91,10 @@ typedef struct {
     Pool pools[MOST_WORKERS + 1]; /* the first lends; a collector gives back to its own */
     Ring *rings[MOST_GAUGES][MOST_WORKERS], *returns[MOST_WORKERS][MOST_WORKERS + 1];
     Ring *begins[MOST_WORKERS + 1], *ends[MOST_WORKERS + 1]; /* of the threads that stay: the workers, and behind them that of the round */
+    struct { size_t gauge, number; } due; /* the block that is joined next */
+    atomic_int ended; /* whether a round has, whose end is looked for */
+    size_t handed[MOST_WORKERS], returned[MOST_WORKERS]; /* blocks of a worker */
+    uint64_t *copies[MOST_WORKERS][MOST_UNDER_WAY];
 } Site;
 
 /* what rings take besides units: that a round or a thread ends, and that a round begins or has ended */
@@ -142,14 +150,18 @@ static void feed(Ring *ring, Unit *item) {
     atomic_store_explicit(&ring->fed, at + 1, memory_order_release);
 }
 
-static Unit *take(Ring *ring) {
-    size_t at = atomic_load_explicit(&ring->taken, memory_order_relaxed), looks = 0;
-    while (at == ring->seen_fed) {
-        ring->seen_fed = atomic_load_explicit(&ring->fed, memory_order_acquire);
-        if (at == ring->seen_fed) look_again(&looks);
-    }
+static Unit *take_if_any(Ring *ring) {
+    size_t at = atomic_load_explicit(&ring->taken, memory_order_relaxed);
+    if (at == ring->seen_fed) ring->seen_fed = atomic_load_explicit(&ring->fed, memory_order_acquire);
+    if (at == ring->seen_fed) return 0;
     Unit *item = ring->items[at % ring->places];
     atomic_store_explicit(&ring->taken, at + 1, memory_order_release);
+    return item;
+}
+
+static Unit *take(Ring *ring) {
+    Unit *item;
+    for (size_t looks = 0; !(item = take_if_any(ring));) look_again(&looks);
     return item;
 }
 
@@ -362,14 +374,26 @@ static void *stay_for_rounds(void *argument) {
     return 0;
 }
 
+static void *round_to_look_for(void *argument) {
+    Site *site = argument;
+    round_without_start(site);
+    atomic_store(&site->ended, 1);
+    return 0;
+}
+
+static void look_for_end(Site *site) {
+    for (size_t looks = 0; !atomic_load(&site->ended);) look_again(&looks);
+}
 
 /* Before the first round there is nothing to put, so it has no thread of its own. */
 static void start_each_round(Site *site, void *(*round)(void *)) {
     round(site);
     for (size_t made = 1; made < site->rounds; made++) {
         Row *full = exchange(site);
+        atomic_store(&site->ended, 0);
         pthread_t thread = started(round, site);
         put_board(site, full);
+        if (round == round_to_look_for) look_for_end(site);
         pthread_join(thread, 0);
     }
     put_board(site, site->board);
@@ -412,7 +436,7 @@ static void round_between(Site *site, const Row *full) {
     for (size_t worker = 0; worker < site->workers; worker++) take(site->ends[worker]);
 }
 
-static void put_between(Site *site) {
+static void put_in_rounds(Site *site, void (*round)(Site *, const Row *)) {
     pthread_t threads[MOST_WORKERS];
     Seat seats[MOST_WORKERS];
     for (size_t i = 0; i < site->workers; i++) {
@@ -421,7 +445,7 @@ static void put_between(Site *site) {
     }
     Row *full = 0;
     for (size_t made = 0; made < site->rounds; made++) {
-        round_between(site, full);
+        round(site, full);
         full = exchange(site);
     }
     put_board(site, full);
@@ -429,15 +453,61 @@ static void put_between(Site *site) {
     for (size_t i = 0; i < site->workers; i++) pthread_join(threads[i], 0);
 }
 
+static Ring *due_ring(const Site *site) { return site->returns[site->due.number % site->workers][0]; }
+
+static void join_due(Site *site, Unit *unit) {
+    size_t worker = site->due.number % site->workers, gauge = site->due.gauge;
+    require(unit != &mark, "a block is missing");
+    const uint64_t *copy = site->copies[worker][site->returned[worker]++ % MOST_UNDER_WAY];
+    require(!memcmp(copy, unit->samples, site->words * sizeof *copy), "a block is another one");
+    join_block(site, unit, &site->board[gauge]);
+    give(&site->pools[0], unit);
+    if (++site->due.number == BLOCKS) {
+        site->due.number = 0;
+        site->due.gauge++;
+    }
+}
+
+static void join_what_came(Site *site) {
+    for (Unit *unit; site->due.gauge < site->gauges && (unit = take_if_any(due_ring(site)));) join_due(site, unit);
+}
+
+static void read_along(Site *site, size_t gauge) {
+    Lane *lane = &site->lanes[gauge];
+    for (size_t number = 0; number < BLOCKS; number++) {
+        Unit *unit = lane->blanks[--lane->left];
+        size_t worker = number % site->workers;
+        read_block(site, lane, unit);
+        while (site->handed[worker] - site->returned[worker] == MOST_UNDER_WAY) join_due(site, take(due_ring(site)));
+        memcpy(site->copies[worker][site->handed[worker]++ % MOST_UNDER_WAY], unit->samples, site->words * sizeof *unit->samples);
+        feed(site->rings[gauge][worker], unit);
+        join_what_came(site);
+    }
+    for (size_t worker = 0; worker < site->workers; worker++) feed(site->rings[gauge][worker], &mark);
+}
+
+static void round_along(Site *site, const Row *full) {
+    begin_round(site);
+    site->due.gauge = site->due.number = 0;
+    for (size_t worker = 0; worker < site->workers; worker++) feed(site->begins[worker], &go);
+    for (size_t gauge = 0; gauge < site->gauges; gauge++) read_along(site, gauge);
+    if (full) put_board(site, full);
+    while (site->due.gauge < site->gauges) join_due(site, take(due_ring(site)));
+    for (size_t worker = 0; worker < site->workers; worker++) {
+        require(take(site->returns[worker][0]) == &mark, "there is a block too many");
+        take(site->ends[worker]);
+    }
+}
+
 /* The workers stay, and the thread of the round is started for each beside the puts of the round before. */
-static void start_over_workers(Site *site) {
+static void start_over_workers(Site *site, void *(*round)(void *)) {
     pthread_t threads[MOST_WORKERS];
     Seat seats[MOST_WORKERS];
     for (size_t i = 0; i < site->workers; i++) {
         seats[i] = (Seat){site, i};
         threads[i] = started(stay_as_worker, &seats[i]);
     }
-    start_each_round(site, round_without_start);
+    start_each_round(site, round);
     for (size_t i = 0; i < site->workers; i++) feed(site->begins[i], &mark);
     for (size_t i = 0; i < site->workers; i++) pthread_join(threads[i], 0);
 }
@@ -445,6 +515,10 @@ static void start_over_workers(Site *site) {
 static void start_phases(Site *site) { start_each_round(site, round_in_phases); }
 static void start_blocks(Site *site) { start_each_round(site, round_of_blocks); }
 static void start_once(Site *site) { start_each_round(site, round_with_one_start); }
+static void start_kept(Site *site) { start_over_workers(site, round_without_start); }
+static void start_awake(Site *site) { start_over_workers(site, round_to_look_for); }
+static void put_between(Site *site) { put_in_rounds(site, round_between); }
+static void put_along(Site *site) { put_in_rounds(site, round_along); }
 
 typedef struct { const char *name; void (*make)(Site *); int has_one_worker, is_joined_beside; } Form;
 
@@ -456,7 +530,9 @@ static const Form FORMS[] = {
     {"joins", keep_threads, 0, 1},
     {"alone", make_alone, 1, 0},
     {"between", put_between, 0, 0},
-    {"kept", start_over_workers, 0, 0},
+    {"kept", start_kept, 0, 0},
+    {"awake", start_awake, 0, 0},
+    {"along", put_along, 0, 0},
 };
 enum { FORM_COUNT = sizeof FORMS / sizeof *FORMS };
 
@@ -528,6 +604,7 @@ static void make_memory(Site *site) {
     for (size_t worker = 0; worker < site->workers; worker++) {
         for (size_t gauge = 0; gauge < site->gauges; gauge++) site->rings[gauge][worker] = ring(BLOCKS + 1);
         for (size_t i = 0; i <= site->workers; i++) site->returns[worker][i] = ring(site->gauges * BLOCKS + 1);
+        for (size_t i = 0; i < MOST_UNDER_WAY; i++) site->copies[worker][i] = taken(site->words * sizeof *site->copies[worker][i]);
     }
     for (size_t i = 0; i <= site->workers; i++) {
         site->begins[i] = ring(1);
@@ -609,7 +686,7 @@ int main(int count, char **words) {
     int asked[FORM_COUNT] = {0}, is_right = 1;
     Lengths length = {0, 0, 0, 0};
     if (!take_words(count, words, asked, &site, &length) || !choose_forms(&site, asked)) {
-        fprintf(stderr, "usage: rounds [phases|blocks|once|stay|joins|alone|between|kept ..] [NAME=NUMBER ..]; the head of its source has the names\n");
+        fprintf(stderr, "usage: rounds [phases|blocks|once|stay|joins|alone|between|kept|awake|along ..] [NAME=NUMBER ..]; the head of its source has the names\n");
         return 1;
     }
     make_memory(&site);
