@@ -149,6 +149,27 @@ def try_failing(trial: Trial) -> None:
     trial.check("its report", trial.text("bridge-0002"), trial.due(2, GROWN))
 
 
+def wait_for_end(group: int) -> None:
+    """Waits until all that was killed is gone: a program that isn't yet still holds its store."""
+    until = time.monotonic() + 10
+    while time.monotonic() < until:
+        try:
+            os.killpg(group, 0)
+        except ProcessLookupError:
+            return
+        time.sleep(0.002)
+
+
+def remove_unmade(trial: Trial) -> None:
+    """Removes what an `init` left that was killed before its store was whole. It holds no sample, and is refused with status 3."""
+    for name in trial.names():
+        site = trial.sites / name
+        if (site / "monitor.store").exists() and not (site / "report.txt").exists():
+            done = subprocess.run([trial.program, "report"], cwd=site, capture_output=True)
+            if done.returncode == 3:
+                (site / "monitor.store").unlink()
+
+
 def try_killed(trial: Trial, rng: random.Random) -> None:
     """A `make` that is killed goes on where it was."""
     for name in trial.names():
@@ -161,6 +182,8 @@ def try_killed(trial: Trial, rng: random.Random) -> None:
     time.sleep(rng.random() * 0.01)
     os.killpg(child.pid, signal.SIGKILL)
     child.wait()
+    wait_for_end(child.pid)
+    remove_unmade(trial)
     done = trial.reports()
     trial.check("that it was killed on the way", 0 < done < trial.number, True)
     status, counted, _ = trial.make()
