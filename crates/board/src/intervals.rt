@@ -33,7 +33,8 @@ impl Model for Intervals {
 }
 
 impl Intervals {
-    /// Of the window from 0, of which nothing is placed.
+    /// Of the window from 0, of which nothing is placed. Blocks that come in order all go to the
+    /// first interval, so the others are seldom used.
     pub(crate) fn new(
         alloc: Global,
         grid: &Grid,
@@ -45,8 +46,9 @@ impl Intervals {
     {
         let longest = BLOCKS_PER_WINDOW as u64 * block as u64;
         let mut slots = Vec::with_capacity(alloc, BLOCKS_PER_WINDOW)?;
-        for _ in 0..BLOCKS_PER_WINDOW {
-            slots.push_reserved(Segment::new(alloc, grid, gauge, 0, longest)?);
+        slots.push_reserved(Segment::new(alloc, grid, gauge, 0, longest)?);
+        for _ in 1..BLOCKS_PER_WINDOW {
+            slots.push_reserved(Segment::new_spare(alloc, grid, gauge, 0, longest)?);
         }
         Ok(Intervals { start: 0, slots })
     }

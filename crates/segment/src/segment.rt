@@ -91,7 +91,42 @@ impl Segment {
     {
         let classes = grid.classes();
         let tally = Tally::new(alloc, classes, room_for(classes, longest))?;
-        let reducer = Reducer::new(alloc, classes)?;
+        Segment::with_tally(alloc, grid, gauge, from, longest, tally)
+    }
+
+    /// The same for a segment that seldom has samples: its tally touches no memory before.
+    pub fn new_spare(
+        alloc: Global,
+        grid: &Grid,
+        gauge: u16,
+        from: u64,
+        longest: u64,
+    ) -> Result<Segment, AllocError>
+        requires from { from ≤ MAX_SAMPLES }
+        requires some { 1 ≤ longest }
+        requires longest { longest ≤ MAX_SAMPLES }
+        ensures empty { IfOk result (λ s. s ≡ empty_at grid.now gauge from longest) }
+        ensures rules { IfOk result IsSegment }
+    {
+        let classes = grid.classes();
+        let tally = Tally::new_log(alloc, classes, room_for(classes, longest))?;
+        Segment::with_tally(alloc, grid, gauge, from, longest, tally)
+    }
+
+    // Of no samples, with an empty tally.
+    fn with_tally(
+        alloc: Global,
+        grid: &Grid,
+        gauge: u16,
+        from: u64,
+        longest: u64,
+        tally: Tally,
+    ) -> Result<Segment, AllocError>
+        requires ends { (from ≤ MAX_SAMPLES) × (1 ≤ longest) × (longest ≤ MAX_SAMPLES) }
+        requires tally { tally ≡ (empty_at grid.now gauge from longest).tally }
+        ensures { IfOk result (λ s. (s ≡ empty_at grid.now gauge from longest) × IsSegment s) }
+    {
+        let reducer = Reducer::new(alloc, grid.classes())?;
         let crossings = Crossings::new(alloc, grid)?;
         let simple = Simple::new(alloc, grid)?;
         Ok(Segment {

@@ -1,6 +1,5 @@
 ghost use Rattle.std.specs.Prelude.{◌≡◌, ℕ, ◌+◌, ◌<◌, ◌≤◌, ◌⊎◌, if◌then◌else◌, [], All, IfOk, find, length, take, slice_index};
 ghost use Rattle.turning_points.specs.Pairs.{is_pair};
-ghost use Rattle.calibration.specs.declared.grid.TheConstants.{MAX_CLASSES, MIN_CLASSES};
 
 use crate::cells::{Cell, MAX_TOTAL};
 use crate::layout::{
@@ -39,7 +38,8 @@ impl Dense {
       count_of,
       total_of,
       is_from,
-      most_cells,
+      IsRoomOver,
+      nothing_over,
       HasGreatestRoom,
       HasPlace,
     };
@@ -47,11 +47,8 @@ impl Dense {
 
     /// Reserves the whole table, and a list of places as long as the room, with one place to spare.
     pub fn new(alloc: Global, classes: u16, room: u32) -> Result<Dense, AllocError>
-        requires few { MIN_CLASSES ≤ classes }
-        requires many { classes ≤ MAX_CLASSES }
-        requires most { room ≤ most_cells classes }
-        ensures empty { IfOk result (λ tally.
-            tally ≡ record { classes = classes; room = room; cells = [] }) }
+        requires { IsRoomOver classes room }
+        ensures empty { IfOk result (λ tally. tally ≡ nothing_over classes room) }
     {
         let places = classes as usize * (classes as usize - 1) / 2;
         Ok(Dense {

@@ -1,9 +1,9 @@
 ghost use Rattle.std.specs.Prelude.{◌≡◌, ℕ, ◌+◌, ◌^◌, ◌<◌, ◌≤◌, ◌⊎◌, if◌then◌else◌, [], All, IfOk, find, take, length, vec_capacity, vec_len, slice_index};
 ghost use Rattle.std.specs.Bool.{OnTrue, OnFalse};
-ghost use Rattle.tally.specs.Counts.{IsCell, IsCounts, count_of, total_of, is_from, most_cells, HasPlace, HasGreatestRoom};
+ghost use Rattle.tally.specs.Counts.{IsCell, IsCounts, count_of, total_of, is_from, IsRoomOver, nothing_over, HasPlace, HasGreatestRoom};
 ghost use Rattle.tally.specs.Log.{cells_of};
 ghost use Rattle.turning_points.specs.Pairs.{is_pair};
-ghost use Rattle.calibration.specs.declared.grid.TheConstants.{MAX_CLASSES, MIN_CLASSES};
+ghost use Rattle.calibration.specs.declared.grid.TheConstants.{MAX_CLASSES};
 
 use crate::cells::{Cell, MAX_TOTAL};
 use crate::entries::{amount_in, first_in, gather, pairs_in, put_first, put_row};
@@ -54,11 +54,8 @@ fn make_place(entries: &mut Vec<Cell>)
 impl Log {
     /// Reserves all places.
     pub fn new(alloc: Global, classes: u16, room: u32) -> Result<Log, AllocError>
-        requires few { MIN_CLASSES ≤ classes }
-        requires many { classes ≤ MAX_CLASSES }
-        requires most { room ≤ most_cells classes }
-        ensures empty { IfOk result (λ tally.
-            tally ≡ record { classes = classes; room = room; cells = [] }) }
+        requires { IsRoomOver classes room }
+        ensures empty { IfOk result (λ tally. tally ≡ nothing_over classes room) }
     {
         let places = room as usize + room as usize / 8 + 1;
         Ok(Log {

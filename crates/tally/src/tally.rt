@@ -1,8 +1,7 @@
 ghost use Rattle.std.specs.Prelude.{◌≡◌, ℕ, take, ◌+◌, ◌<◌, ◌≤◌, ◌⊎◌, if◌then◌else◌, [], All, IfOk, find, length, slice_index};
-ghost use Rattle.tally.specs.Counts.{IsCell, IsCounts, count_of, total_of, is_from, most_cells, HasGreatestRoom, HasPlace};
+ghost use Rattle.tally.specs.Counts.{IsCell, IsCounts, count_of, total_of, is_from, IsRoomOver, nothing_over, HasGreatestRoom, HasPlace};
 ghost use Rattle.tally.specs.Log.{cells_of};
 ghost use Rattle.turning_points.specs.Pairs.{is_pair};
-ghost use Rattle.calibration.specs.declared.grid.TheConstants.{MAX_CLASSES, MIN_CLASSES};
 
 use crate::cells::{Cell, MAX_TOTAL};
 use crate::dense::Dense;
@@ -38,11 +37,8 @@ impl Tally {
     /// A tally over 2 to 1024 classes with all counts 0, and with room for so many different cells.
     /// Reserves all that it ever needs.
     pub fn new(alloc: Global, classes: u16, room: u32) -> Result<Tally, AllocError>
-        requires few { MIN_CLASSES ≤ classes }
-        requires many { classes ≤ MAX_CLASSES }
-        requires most { room ≤ most_cells classes }
-        ensures empty { IfOk result (λ tally.
-            tally ≡ record { classes = classes; room = room; cells = [] }) }
+        requires { IsRoomOver classes room }
+        ensures empty { IfOk result (λ tally. tally ≡ nothing_over classes room) }
         ensures counts { IfOk result IsCounts }
     {
         let most = classes as u32 * (classes as u32 - 1) / 2;
@@ -52,6 +48,16 @@ impl Tally {
                 storage: Storage::Dense(dense),
             });
         }
+        Tally::new_log(alloc, classes, room)
+    }
+
+    /// The same, by a log: it touches no memory before something is counted, and takes longer where
+    /// much is. It is for what is seldom used.
+    pub fn new_log(alloc: Global, classes: u16, room: u32) -> Result<Tally, AllocError>
+        requires { IsRoomOver classes room }
+        ensures empty { IfOk result (λ tally. tally ≡ nothing_over classes room) }
+        ensures counts { IfOk result IsCounts }
+    {
         let log = Log::new(alloc, classes, room)?;
         Ok(Tally {
             storage: Storage::Log(log),

@@ -6,6 +6,7 @@ use crate::gauge_ring::Taker;
 use board::Board;
 use board::block_pool::{Counted, Pool};
 use board::deposits::deposit_one;
+use board::flow::BLOCKS_PER_WINDOW;
 use std::sync::Wait;
 use std::thread;
 
@@ -40,8 +41,8 @@ fn look(board: &mut Board, pool: &mut Pool, back: &mut Return) -> bool
     }
 }
 
-/// Looks once at each return ring, in turn. Answers whether anything came.
-pub fn look_at_all(board: &mut Board, pool: &mut Pool, returns: &mut [Return]) -> bool
+// Looks once at each return ring, in turn. Answers whether anything came.
+fn look_at_all(board: &mut Board, pool: &mut Pool, returns: &mut [Return]) -> bool
     requires grid { board.old.grid ≡ pool.old.grid }
     ensures more { CollectsMore board.old board.new pool.old pool.new returns.old returns.new }
     ensures grid { board.new.grid ≡ pool.new.grid }
@@ -51,6 +52,29 @@ pub fn look_at_all(board: &mut Board, pool: &mut Pool, returns: &mut [Return]) -
         came |= look(board, pool, &mut returns[v]);
     }
     came
+}
+
+// The ring by which the next block comes, where each lane before it gave all blocks of a window.
+fn next_ring(board: &Board, rings: usize) -> usize
+    requires { 0 < rings }
+    ensures { result < rings }
+{
+    board.arrivals().len() % BLOCKS_PER_WINDOW % rings
+}
+
+/// Looks at the return rings in the order in which their blocks were dealt, up to the first that
+/// has nothing: a block that waits there for the one before it costs one join, and not two.
+pub fn look_in_turn(board: &mut Board, pool: &mut Pool, returns: &mut [Return])
+    requires grid { board.old.grid ≡ pool.old.grid }
+    ensures more { CollectsMore board.old board.new pool.old pool.new returns.old returns.new }
+    ensures grid { board.new.grid ≡ pool.new.grid }
+{
+    for _ in 0..returns.len() {
+        let v = next_ring(board, returns.len());
+        if !look(board, pool, &mut returns[v]) {
+            return;
+        }
+    }
 }
 
 // Whether the mark of each ring was taken.

@@ -86,8 +86,8 @@ fn help<R: Wait, G: Gate>(rt: &R, gate: &G, helpers: &mut [Helper]) {
     unreachable!()
 }
 
-// So many threads: two processors are for the thread of the rounds and for the puts. Two threads
-// are the least, so that workers count beside each other on any machine.
+// So many threads: one processor is for the thread of the rounds, and that of the puts has little to
+// do. Two threads are the least, so that workers count beside each other on any machine.
 fn threads_for(rt: &impl Threads) -> usize
     ensures { 0 < result }
 {
@@ -95,10 +95,10 @@ fn threads_for(rt: &impl Threads) -> usize
         Ok(count) => count.get(),
         Err(_) => 1,
     };
-    processors.saturating_sub(2).max(2)
+    processors.saturating_sub(1).max(2)
 }
 
-/// Counts for all workers until their lines have ended, in two threads fewer than there are
+/// Counts for all workers until their lines have ended, in one thread fewer than there are
 /// processors, or in two. The gate stands before each block.
 pub fn help_all<R: Threads + Wait + Sync, G: Gate + Sync>(
     rt: &R,

@@ -3,7 +3,7 @@ ghost use Rattle.count_workers.specs.block_workers.Working.{CanWork, WorksOn};
 ghost use Rattle.count_workers.specs.running.Going.{AllWorkOn, CanGoOn, GoesOn};
 
 use crate::block_workers::{Worker, fetch, is_helped, work_once};
-use crate::collector::{Depot, Return, look_at_all};
+use crate::collector::{Depot, Return, look_in_turn};
 use outside::Gate;
 use std::sync::Wait;
 
@@ -43,5 +43,5 @@ pub fn pass_on<R: Wait, G: Gate>(
     ensures { GoesOn workers.old workers.new depot.old depot.new returns.old returns.new }
 {
     pass_to_all(rt, gate, workers);
-    look_at_all(&mut depot.board, &mut depot.pool, returns);
+    look_in_turn(&mut depot.board, &mut depot.pool, returns);
 }

@@ -10,9 +10,9 @@ returns g c =
     record {
       long = on.long;
       work = on.work;
-      collects = c.look_at_all.ensures.more;
+      collects = c.look_in_turn.ensures.more;
       can = record {
         work = can_still c.args.workers.now c.pass_to_all.new.workers on.long on.work c.requires.work;
-        grid = c.look_at_all.ensures.grid;
+        grid = c.look_in_turn.ensures.grid;
       };
     }

@@ -14,7 +14,7 @@ invariant_of-result c =
     let f = c.in_ok-vec-2.ensures.items_if_clones_equal (λ y h. h) in
     let l = length-replicate {A = ℕ} n 0 in
     rw (e, f)
-    (layout_empty k c.args.room (replicate {A = ℕ} n 0) (replicate {A = ℕ} (c.args.room + 1) 0) c.requires.few c.requires.many
+    (layout_empty k c.args.room (replicate {A = ℕ} n 0) (replicate {A = ℕ} (c.args.room + 1) 0) c.requires.0 c.requires.1.0
     (l ∙ places_is k (omega arith)) (omega (arith, l)) (length-replicate {A = ℕ} (c.args.room + 1) 0) (get_or-zeros n))
 
 pub returns : goal.returns
