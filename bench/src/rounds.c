@@ -11,6 +11,8 @@
  *   between  one thread reads all lanes of a round, makes the puts of the round before, and then joins; threads that stay count
  *   kept     the threads that count stay; that of the round, which reads and joins, is started for each beside the puts
  *   awake    as kept; behind its puts the thread that makes them looks for the end of the round, and does not sleep
+ *   known    as awake, and the thread that reads keeps a copy of each block that others have to count, compares it with what comes back, and
+ *            joins that in order behind each block it reads: what the program does
  *   along    one thread reads, and joins behind each block what was counted by then; when all lanes are read it makes the puts of the round
  *            before. Threads that stay count, and it keeps a copy of what they have to count, which it compares with what comes back
  *
@@ -386,14 +388,14 @@ static void look_for_end(Site *site) {
 }
 
 /* Before the first round there is nothing to put, so it has no thread of its own. */
-static void start_each_round(Site *site, void *(*round)(void *)) {
+static void start_each_round(Site *site, void *(*round)(void *), int is_looked_for) {
     round(site);
     for (size_t made = 1; made < site->rounds; made++) {
         Row *full = exchange(site);
         atomic_store(&site->ended, 0);
         pthread_t thread = started(round, site);
         put_board(site, full);
-        if (round == round_to_look_for) look_for_end(site);
+        if (is_looked_for) look_for_end(site);
         pthread_join(thread, 0);
     }
     put_board(site, site->board);
@@ -486,12 +488,14 @@ static void read_along(Site *site, size_t gauge) {
     for (size_t worker = 0; worker < site->workers; worker++) feed(site->rings[gauge][worker], &mark);
 }
 
-static void round_along(Site *site, const Row *full) {
+static void read_lanes_along(Site *site) {
     begin_round(site);
     site->due.gauge = site->due.number = 0;
     for (size_t worker = 0; worker < site->workers; worker++) feed(site->begins[worker], &go);
     for (size_t gauge = 0; gauge < site->gauges; gauge++) read_along(site, gauge);
-    if (full) put_board(site, full);
+}
+
+static void join_rest(Site *site) {
     while (site->due.gauge < site->gauges) join_due(site, take(due_ring(site)));
     for (size_t worker = 0; worker < site->workers; worker++) {
         require(take(site->returns[worker][0]) == &mark, "there is a block too many");
@@ -499,24 +503,39 @@ static void round_along(Site *site, const Row *full) {
     }
 }
 
+static void round_along(Site *site, const Row *full) {
+    read_lanes_along(site);
+    if (full) put_board(site, full);
+    join_rest(site);
+}
+
 /* The workers stay, and the thread of the round is started for each beside the puts of the round before. */
-static void start_over_workers(Site *site, void *(*round)(void *)) {
+static void start_over_workers(Site *site, void *(*round)(void *), int is_looked_for) {
     pthread_t threads[MOST_WORKERS];
     Seat seats[MOST_WORKERS];
     for (size_t i = 0; i < site->workers; i++) {
         seats[i] = (Seat){site, i};
         threads[i] = started(stay_as_worker, &seats[i]);
     }
-    start_each_round(site, round);
+    start_each_round(site, round, is_looked_for);
     for (size_t i = 0; i < site->workers; i++) feed(site->begins[i], &mark);
     for (size_t i = 0; i < site->workers; i++) pthread_join(threads[i], 0);
 }
 
-static void start_phases(Site *site) { start_each_round(site, round_in_phases); }
-static void start_blocks(Site *site) { start_each_round(site, round_of_blocks); }
-static void start_once(Site *site) { start_each_round(site, round_with_one_start); }
-static void start_kept(Site *site) { start_over_workers(site, round_without_start); }
-static void start_awake(Site *site) { start_over_workers(site, round_to_look_for); }
+static void *round_to_know(void *argument) {
+    Site *site = argument;
+    read_lanes_along(site);
+    join_rest(site);
+    atomic_store(&site->ended, 1);
+    return 0;
+}
+
+static void start_phases(Site *site) { start_each_round(site, round_in_phases, 0); }
+static void start_blocks(Site *site) { start_each_round(site, round_of_blocks, 0); }
+static void start_once(Site *site) { start_each_round(site, round_with_one_start, 0); }
+static void start_kept(Site *site) { start_over_workers(site, round_without_start, 0); }
+static void start_awake(Site *site) { start_over_workers(site, round_to_look_for, 1); }
+static void start_known(Site *site) { start_over_workers(site, round_to_know, 1); }
 static void put_between(Site *site) { put_in_rounds(site, round_between); }
 static void put_along(Site *site) { put_in_rounds(site, round_along); }
 
@@ -532,6 +551,7 @@ static const Form FORMS[] = {
     {"between", put_between, 0, 0},
     {"kept", start_kept, 0, 0},
     {"awake", start_awake, 0, 0},
+    {"known", start_known, 0, 0},
     {"along", put_along, 0, 0},
 };
 enum { FORM_COUNT = sizeof FORMS / sizeof *FORMS };
@@ -686,7 +706,7 @@ int main(int count, char **words) {
     int asked[FORM_COUNT] = {0}, is_right = 1;
     Lengths length = {0, 0, 0, 0};
     if (!take_words(count, words, asked, &site, &length) || !choose_forms(&site, asked)) {
-        fprintf(stderr, "usage: rounds [phases|blocks|once|stay|joins|alone|between|kept|awake|along ..] [NAME=NUMBER ..]; the head of its source has the names\n");
+        fprintf(stderr, "usage: rounds [phases|blocks|once|stay|joins|alone|between|kept|awake|known|along ..] [NAME=NUMBER ..]; the head of its source has the names\n");
         return 1;
     }
     make_memory(&site);
