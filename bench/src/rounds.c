@@ -12,14 +12,17 @@
  *   kept     the threads that count stay; that of the round, which reads and joins, is started for each beside the puts
  *   awake    as kept; behind its puts the thread that makes them looks for the end of the round, and does not sleep
  *   known    as awake, and the thread that reads keeps a copy of each block that others have to count, compares it with what comes back, and
- *            joins that in order behind each block it reads: what the program does
+ *            joins that in order behind each block it reads
+ *   shared   as known, and no thread that counts belongs to a worker: two fewer than there are processors, or two, and no more than there are
+ *            workers, take a block of any worker that no other thread has in hand, and so does the thread of the puts when it has made
+ *            them: what the program does
  *   along    one thread reads, and joins behind each block what was counted by then; when all lanes are read it makes the puts of the round
  *            before. Threads that stay count, and it keeps a copy of what they have to count, which it compares with what comes back
  *
  * Without a form all of them are run; blocks and alone need `workers=1`, and are left out with more. The names, with what stands where they are
  * left out; the lengths are about what the program takes over traffic:
  *
- *   gauges 8, block 4096 (samples), workers 2 (threads that count), samples 4000000 (of all gauges together, in whole rounds)
+ *   gauges 8, block 4096 (samples), workers 2 (threads that count; of shared, so many blocks at most are counted at once), samples 4000000 (of all gauges together, in whole rounds)
  *   read, count, join   nanoseconds of one block: 2.5, 10 and 2.5 to the sample
  *   puts                nanoseconds of the puts of a round: 112500 to the gauge
  *   spins 0             how often a thread that waits looks again before it yields at each look, as those of the program do at once
@@ -42,6 +45,7 @@
 #include <stdlib.h>
 #include <string.h>
 #include <time.h>
+#include <unistd.h>
 
 enum {
     BLOCKS = 16, /* of a gauge, in a round */
@@ -95,6 +99,8 @@ typedef struct {
     Ring *begins[MOST_WORKERS + 1], *ends[MOST_WORKERS + 1]; /* of the threads that stay: the workers, and behind them that of the round */
     struct { size_t gauge, number; } due; /* the block that is joined next */
     atomic_int ended; /* whether a round has, whose end is looked for */
+    atomic_int over; /* whether all rounds have */
+    atomic_flag in_hand[MOST_WORKERS]; /* whether a thread counts a block of the worker */
     size_t handed[MOST_WORKERS], returned[MOST_WORKERS]; /* blocks of a worker */
     uint64_t *copies[MOST_WORKERS][MOST_UNDER_WAY];
 } Site;
@@ -388,14 +394,14 @@ static void look_for_end(Site *site) {
 }
 
 /* Before the first round there is nothing to put, so it has no thread of its own. */
-static void start_each_round(Site *site, void *(*round)(void *), int is_looked_for) {
+static void start_each_round(Site *site, void *(*round)(void *), void (*behind)(Site *)) {
     round(site);
     for (size_t made = 1; made < site->rounds; made++) {
         Row *full = exchange(site);
         atomic_store(&site->ended, 0);
         pthread_t thread = started(round, site);
         put_board(site, full);
-        if (is_looked_for) look_for_end(site);
+        if (behind) behind(site);
         pthread_join(thread, 0);
     }
     put_board(site, site->board);
@@ -474,7 +480,8 @@ static void join_what_came(Site *site) {
     for (Unit *unit; site->due.gauge < site->gauges && (unit = take_if_any(due_ring(site)));) join_due(site, unit);
 }
 
-static void read_along(Site *site, size_t gauge) {
+/* Blocks of a gauge, each of them to its worker's ring of such a number. */
+static void hand_out(Site *site, size_t gauge, size_t row) {
     Lane *lane = &site->lanes[gauge];
     for (size_t number = 0; number < BLOCKS; number++) {
         Unit *unit = lane->blanks[--lane->left];
@@ -482,9 +489,13 @@ static void read_along(Site *site, size_t gauge) {
         read_block(site, lane, unit);
         while (site->handed[worker] - site->returned[worker] == MOST_UNDER_WAY) join_due(site, take(due_ring(site)));
         memcpy(site->copies[worker][site->handed[worker]++ % MOST_UNDER_WAY], unit->samples, site->words * sizeof *unit->samples);
-        feed(site->rings[gauge][worker], unit);
+        feed(site->rings[row][worker], unit);
         join_what_came(site);
     }
+}
+
+static void read_along(Site *site, size_t gauge) {
+    hand_out(site, gauge, gauge);
     for (size_t worker = 0; worker < site->workers; worker++) feed(site->rings[gauge][worker], &mark);
 }
 
@@ -510,14 +521,14 @@ static void round_along(Site *site, const Row *full) {
 }
 
 /* The workers stay, and the thread of the round is started for each beside the puts of the round before. */
-static void start_over_workers(Site *site, void *(*round)(void *), int is_looked_for) {
+static void start_over_workers(Site *site, void *(*round)(void *), void (*behind)(Site *)) {
     pthread_t threads[MOST_WORKERS];
     Seat seats[MOST_WORKERS];
     for (size_t i = 0; i < site->workers; i++) {
         seats[i] = (Seat){site, i};
         threads[i] = started(stay_as_worker, &seats[i]);
     }
-    start_each_round(site, round, is_looked_for);
+    start_each_round(site, round, behind);
     for (size_t i = 0; i < site->workers; i++) feed(site->begins[i], &mark);
     for (size_t i = 0; i < site->workers; i++) pthread_join(threads[i], 0);
 }
@@ -530,12 +541,68 @@ static void *round_to_know(void *argument) {
     return 0;
 }
 
+/* A block of each worker that no other thread has in hand. Answers whether there was one. */
+static int count_some(Site *site) {
+    int any = 0;
+    for (size_t worker = 0; worker < site->workers; worker++) {
+        if (atomic_flag_test_and_set_explicit(&site->in_hand[worker], memory_order_acquire)) continue;
+        Unit *unit = take_if_any(site->rings[0][worker]);
+        if (unit) {
+            count_block(site, unit);
+            feed(site->returns[worker][0], unit);
+            any = 1;
+        }
+        atomic_flag_clear_explicit(&site->in_hand[worker], memory_order_release);
+    }
+    return any;
+}
+
+static void count_until(Site *site, atomic_int *end) {
+    for (size_t looks = 0; !atomic_load(end);)
+        if (!count_some(site)) look_again(&looks);
+}
+
+static void *stay_to_share(void *argument) {
+    Site *site = argument;
+    count_until(site, &site->over);
+    return 0;
+}
+
+static void share_until_end(Site *site) { count_until(site, &site->ended); }
+
+/* The workers have one line each for the blocks of all lanes, and a mark has nobody to read it. */
+static void *round_to_share(void *argument) {
+    Site *site = argument;
+    begin_round(site);
+    site->due.gauge = site->due.number = 0;
+    for (size_t gauge = 0; gauge < site->gauges; gauge++) hand_out(site, gauge, 0);
+    while (site->due.gauge < site->gauges) join_due(site, take(due_ring(site)));
+    atomic_store(&site->ended, 1);
+    return 0;
+}
+
+static size_t threads_to_share(const Site *site) {
+    long processors = sysconf(_SC_NPROCESSORS_ONLN);
+    size_t threads = processors > 4 ? (size_t)processors - 2 : 2;
+    return threads < site->workers ? threads : site->workers;
+}
+
+static void start_shared(Site *site) {
+    pthread_t threads[MOST_WORKERS];
+    size_t count = threads_to_share(site);
+    atomic_store(&site->over, 0);
+    for (size_t i = 0; i < count; i++) threads[i] = started(stay_to_share, site);
+    start_each_round(site, round_to_share, share_until_end);
+    atomic_store(&site->over, 1);
+    for (size_t i = 0; i < count; i++) pthread_join(threads[i], 0);
+}
+
 static void start_phases(Site *site) { start_each_round(site, round_in_phases, 0); }
 static void start_blocks(Site *site) { start_each_round(site, round_of_blocks, 0); }
 static void start_once(Site *site) { start_each_round(site, round_with_one_start, 0); }
 static void start_kept(Site *site) { start_over_workers(site, round_without_start, 0); }
-static void start_awake(Site *site) { start_over_workers(site, round_to_look_for, 1); }
-static void start_known(Site *site) { start_over_workers(site, round_to_know, 1); }
+static void start_awake(Site *site) { start_over_workers(site, round_to_look_for, look_for_end); }
+static void start_known(Site *site) { start_over_workers(site, round_to_know, look_for_end); }
 static void put_between(Site *site) { put_in_rounds(site, round_between); }
 static void put_along(Site *site) { put_in_rounds(site, round_along); }
 
@@ -552,6 +619,7 @@ static const Form FORMS[] = {
     {"kept", start_kept, 0, 0},
     {"awake", start_awake, 0, 0},
     {"known", start_known, 0, 0},
+    {"shared", start_shared, 0, 0},
     {"along", put_along, 0, 0},
 };
 enum { FORM_COUNT = sizeof FORMS / sizeof *FORMS };
@@ -706,7 +774,7 @@ int main(int count, char **words) {
     int asked[FORM_COUNT] = {0}, is_right = 1;
     Lengths length = {0, 0, 0, 0};
     if (!take_words(count, words, asked, &site, &length) || !choose_forms(&site, asked)) {
-        fprintf(stderr, "usage: rounds [phases|blocks|once|stay|joins|alone|between|kept|awake|known|along ..] [NAME=NUMBER ..]; the head of its source has the names\n");
+        fprintf(stderr, "usage: rounds [phases|blocks|once|stay|joins|alone|between|kept|awake|known|shared|along ..] [NAME=NUMBER ..]; the head of its source has the names\n");
         return 1;
     }
     make_memory(&site);

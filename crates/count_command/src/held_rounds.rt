@@ -12,8 +12,9 @@
 //! (`count_workers::crew`).
 //!
 //! Cost: with several workers a thread for each round but the first, beside the caller's and those
-//! of the helpers; behind its puts the caller's stays awake until the round has ended, for some
-//! milliseconds. No call here takes memory, unless its hook does.
+//! of the helpers; behind its puts the caller's counts with them, and stays awake until the round
+//! has ended, or some milliseconds long where there is nothing to count. No call here takes memory,
+//! unless its hook does.
 
 mod beside;
 mod helped;

@@ -7,7 +7,7 @@ ghost use Rattle.count_command.specs.held_rounds.Ready.{AreRoundsToMake};
 
 use crate::held_rounds::RoundsToMake;
 use board::Board;
-use count_workers::crew::Helper;
+use count_workers::crew::Helpers;
 use count_workers::{Plan, Prepared};
 use outside::Source;
 use report_command::site_report::Report;
@@ -26,15 +26,14 @@ fn helpers_for<C: Source + Send>(
     alloc: Global,
     plan: &Plan,
     prepared: &mut Prepared<C>,
-) -> Result<Vec<Helper>, AllocError>
+) -> Result<Option<Helpers>, AllocError>
     requires { IsPlan plan.now }
     ensures { prepared.new ≡ prepared.old }
 {
-    if plan.workers > 1 {
-        prepared.hire(alloc, plan)
-    } else {
-        Ok(Vec::new(alloc))
+    if plan.workers == 1 {
+        return Ok(None);
     }
+    Ok(Some(prepared.hire(alloc, plan)?))
 }
 
 /// Takes all the memory that rounds by so many workers need, and that of the report behind them.

@@ -20,4 +20,4 @@ mod worker;
 pub use desk::{Desk, mark_lane, read_block};
 pub use item::{Back, Item};
 pub use jobs::{Reader, settle_all};
-pub use worker::{Worker, begin_work, end_work, fetch, is_helped, work_once};
+pub use worker::{Worker, begin_work, end_work, fetch, is_helped, is_waiting, work_once};

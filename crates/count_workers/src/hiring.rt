@@ -4,10 +4,10 @@ ghost use Rattle.count_workers.specs.Hiring.{AllSameButLines, SameButLine};
 ghost use Rattle.count_workers.specs.block_workers.Working.{IsIdle};
 
 use crate::block_workers::Worker;
-use crate::crew::{Bell, Helper, new_line};
+use crate::crew::{Bell, Helper, Helpers, new_line};
 use crate::{OutOfMemory, Plan};
 use std::alloc::Global;
-use std::sync::Arc;
+use std::sync::{Arc, Mutex};
 
 // A new line for a worker; its helper's end.
 fn hire_one(
@@ -25,23 +25,23 @@ fn hire_one(
     Ok(helper)
 }
 
-/// A line for each worker, and their helpers' ends. Where memory runs out, workers whose helpers
-/// never begin count for themselves.
+/// A line for each worker, and their helpers. Where memory runs out no helper begins, and workers
+/// count for themselves.
 pub(crate) fn hire_all(
     alloc: Global,
     plan: &Plan,
     workers: &mut [Worker],
-) -> Result<Vec<Helper>, OutOfMemory>
+) -> Result<Helpers, OutOfMemory>
     requires plan { IsPlan plan.now }
     requires idle { All IsIdle workers.old }
     ensures { AllSameButLines workers.old workers.new }
 {
     let bell = Arc::new(alloc, Bell::new())?;
-    let mut helpers = Vec::with_capacity(alloc, workers.len())?;
+    let mut each = Vec::with_capacity(alloc, workers.len())?;
     for v in 0..workers.len() {
-        helpers.push(hire_one(alloc, plan, &bell, &mut workers[v])?)?;
+        each.push(Mutex::new(hire_one(alloc, plan, &bell, &mut workers[v])?))?;
     }
-    Ok(helpers)
+    Ok(Helpers::new(each, bell))
 }
 
 // Ends a worker's line.

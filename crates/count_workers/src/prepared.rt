@@ -4,7 +4,7 @@ ghost use Rattle.board.specs.declared.flow.TheConstants.{BLOCKS_PER_WINDOW};
 
 use crate::block_workers::{Reader, Worker};
 use crate::collector::{Depot, Return};
-use crate::crew::Helper;
+use crate::crew::Helpers;
 use crate::gauge_ring::ring;
 use crate::hiring::{dismiss_all, hire_all};
 use crate::lane_loans::Lane;
@@ -79,7 +79,7 @@ impl<C: Source + Send> Prepared<C> {
 
     /// Gives each worker a helper, for as long as [`crate::crew::help_all`] has them count beside
     /// the rounds. Till then, and where memory runs out, the workers count for themselves.
-    pub fn hire(&mut self, alloc: Global, plan: &Plan) -> Result<Vec<Helper>, OutOfMemory>
+    pub fn hire(&mut self, alloc: Global, plan: &Plan) -> Result<Helpers, OutOfMemory>
         requires { IsPlan plan.now }
         ensures { self.new ≡ self.old }
     {

@@ -6,7 +6,7 @@ ghost use Rattle.calibration.specs.declared.limits.TheConstants.{MAX_GAUGES, MAX
 
 use board::block_pool::{Counted, Pool};
 use calibration::{Gain, Grid, MAX_SAMPLES, MAX_WORKERS};
-use count_workers::crew::{Helper, help_all};
+use count_workers::crew::{Helpers, help_all};
 use count_workers::lane_loans::Lane;
 use count_workers::{Plan, Prepared};
 use outside::{BytesSource, HoldGate, OpenGate};
@@ -116,7 +116,7 @@ fn two_helped_rounds<R: Threads + Wait + Sync>(
     rt: &R,
     prepared: &mut Prepared<BytesSource>,
     lanes: &mut [Lane<BytesSource>],
-    helpers: &mut [Helper],
+    helpers: &Helpers,
 )
     requires long { length lanes.old ≡ prepared.old.gauges }
     requires lanes { (g : ℕ) (d : _) → g < length lanes.old
@@ -220,17 +220,17 @@ fn helpers_count_over_all_rounds(rt: HostRuntime) -> Result<(), Fail> {
     let plan = plan(&rt, 2, 4, 3);
     for helped in [true, false] {
         let mut prepared = Prepared::new(rt.alloc(), &plan)?;
-        let mut helpers = prepared.hire(rt.alloc(), &plan)?;
-        assert_eq!(rt; helpers.len(), 3);
+        let helpers = prepared.hire(rt.alloc(), &plan)?;
         let mut lanes = [
             lane(&rt, rt.alloc(), 0, 0, &samples, 0, 7, &[])?,
             lane(&rt, rt.alloc(), 1, 0, &samples, 2, 7, &[])?,
         ];
         if helped {
-            two_helped_rounds(&rt, &mut prepared, &mut lanes, &mut helpers);
+            two_helped_rounds(&rt, &mut prepared, &mut lanes, &helpers);
         } else {
             two_rounds(&rt, &mut prepared, &mut lanes);
         }
+        assert!(rt; !helpers.count_some(&OpenGate));
         assert_eq!(rt; (lanes[0].end, lanes[1].end), (End::Ended, End::Torn(2)));
         assert_eq!(rt; prepared.inside(), 32);
         assert_eq!(rt; prepared.arrivals().len(), 6);

@@ -11,14 +11,15 @@ ghost use Rattle.count_command.specs.held_rounds.Made.{RoundsMade};
 ghost use Rattle.count_command.specs.held_rounds.Ready.{AreOpenedLanes, AreRoundsFor};
 ghost use Rattle.count_command.specs.held_samples.Stored.{Stores};
 
-use crate::course::Run;
 use crate::held_samples::{Behind, PutHook, store_fronts};
 use board::Board;
 use count_workers::Prepared;
+use count_workers::crew::Helpers;
 use count_workers::lane_loans::Lane;
 use outside::station::Station;
 use outside::{Failed, Gate, Source};
 use segment_store::Store;
+use site_config::Config;
 use site_lanes::have_ended;
 use std::sync::Wait;
 use std::sync::atomic::AtomicBool;
@@ -26,25 +27,42 @@ use std::sync::atomic::Ordering::SeqCst;
 use std::thread;
 use std::thread::{Threads, join_mut};
 
-// How often the thread of the puts looks for the end of the round beside them before it sleeps.
+/// What rounds go by, and who counts for several workers beside them. One worker has no helpers.
+#[derive(Drop)]
+pub(crate) struct HelpedRun<'a, 'h, R, G> {
+    pub(crate) rt: &'a R,
+    pub(crate) gate: &'a G,
+    pub(crate) config: &'a Config,
+    pub(crate) helpers: Option<&'h Helpers>,
+}
+
+// How often the thread of the puts looks in vain for a block, and for the end of the round beside
+// them, before it sleeps.
 const LOOKS: u32 = 20_000;
 
-// Looks for the end of a round, so that the next one begins at once: a thread that sleeps may wake
-// late.
-fn look_for(ended: &AtomicBool) {
-    for _ in 0..LOOKS {
-        if ended.load(SeqCst) {
+// Counts for the round until it has ended, and looks for its end, so that the next one begins at
+// once: a thread that sleeps may wake late. Who has counted looks again, since the others may have
+// passed over what it had in hand.
+fn count_until<R: Wait, G: Gate>(rt: &R, gate: &G, helpers: &Helpers, ended: &AtomicBool) {
+    let mut looks = 0;
+    for _ in rt.forever() {
+        if helpers.count_some(gate) {
+            looks = 0;
+        } else if looks < LOOKS && !ended.load(SeqCst) {
+            looks += 1;
+            thread::yield_now();
+        } else {
             return;
         }
-        thread::yield_now();
     }
+    unreachable!()
 }
 
 // A round, and the puts of the round before, of which this is the board. One worker makes them one
 // after the other, in this thread, so what it counts stays near; of several the round has a new
 // thread, or comes last where none can be made.
 fn round_beside<R: Threads + Wait + Sync, C: Source + Send, K: Station, G: Gate + Sync, H: PutHook>(
-    run: &Run<'_, R, G>,
+    run: &HelpedRun<'_, '_, R, G>,
     board: &Board,
     prepared: &mut Prepared<C>,
     lanes: &mut [Lane<C>],
@@ -70,11 +88,11 @@ fn round_beside<R: Threads + Wait + Sync, C: Source + Send, K: Station, G: Gate 
     ensures follows { Follows H.follows behind.new.hook store.new }
 {
     let (rt, gate, config) = (run.rt, run.gate, run.config);
-    if run.workers == 1 {
+    let Some(helpers) = run.helpers else {
         let stored = store_fronts(board, config, store, station, behind);
         prepared.round(rt, lanes, gate);
         return stored;
-    }
+    };
     let ended = AtomicBool::new(false);
     let (_, stored) = join_mut(
         rt,
@@ -89,7 +107,7 @@ fn round_beside<R: Threads + Wait + Sync, C: Source + Send, K: Station, G: Gate 
         },
         &mut || {
             let stored = store_fronts(board, config, store, station, behind);
-            look_for(&ended);
+            count_until(rt, gate, helpers, &ended);
             stored
         },
     );
@@ -105,7 +123,7 @@ pub(crate) fn make_rounds<
     G: Gate + Sync,
     H: PutHook,
 >(
-    run: &Run<'_, R, G>,
+    run: &HelpedRun<'_, '_, R, G>,
     prepared: &mut Prepared<C>,
     board: Board,
     lanes: &mut [Lane<C>],

@@ -6,7 +6,7 @@ ghost use Rattle.count_command.specs.held_rounds.Ready.{AreOpened, AreOpenedLane
 
 use crate::course::Run;
 use crate::held_rounds::RoundsToMake;
-use crate::held_rounds::beside::make_rounds;
+use crate::held_rounds::beside::{HelpedRun, make_rounds};
 use crate::held_samples::{Behind, PutHook};
 use board::Board;
 use count_workers::Prepared;
@@ -26,7 +26,7 @@ fn rounds_and_end<
     G: Gate + Sync,
     H: PutHook,
 >(
-    run: &Run<'_, R, G>,
+    run: &HelpedRun<'_, '_, R, G>,
     prepared: &mut Prepared<C>,
     board: &mut Option<Board>,
     lanes: &mut [Lane<C>],
@@ -79,10 +79,23 @@ pub fn count_rounds<
     let (rt, gate) = (run.rt, run.gate);
     let prepared = &mut rounds.prepared;
     let board = &mut rounds.board;
-    if rounds.helpers.is_empty() {
-        return rounds_and_end(run, prepared, board, lanes, store, station, behind);
-    }
-    let helpers = rounds.helpers.as_mut_slice();
+    let config = run.config;
+    let Some(helpers) = &rounds.helpers else {
+        let alone = HelpedRun {
+            rt,
+            gate,
+            config,
+            helpers: None,
+        };
+        return rounds_and_end(&alone, prepared, board, lanes, store, station, behind);
+    };
+    let some = Some(helpers);
+    let run = HelpedRun {
+        rt,
+        gate,
+        config,
+        helpers: some,
+    };
     let (_, done) = join_mut(
         rt,
         &mut ||
@@ -90,11 +103,11 @@ pub fn count_rounds<
         { help_all(rt, gate, helpers) },
         &mut ||
             requires { IsSync R.row × IsSync G.row × IsSend C.row
-                × AreOpened K.tells C.faults run.now.config.now store.now lanes.now
+                × AreOpened K.tells C.faults run.config.now store.now lanes.now
                 (K.seen station.now) (K.leaves station.now)
-                × AreRoundsToMake run.now.config.now prepared.now board.now
+                × AreRoundsToMake run.config.now prepared.now board.now
                 × Follows H.follows behind.now.hook store.now }
-        { rounds_and_end(run, prepared, board, lanes, store, station, behind) },
+        { rounds_and_end(&run, prepared, board, lanes, store, station, behind) },
     );
     done
 }

@@ -36,8 +36,8 @@ pub fn begin_work(worker: &mut Worker)
     worker.block = 0;
 }
 
-// Whether its helper has a block.
-fn is_waiting(worker: &Worker) -> bool
+/// Whether its helper has a block.
+pub fn is_waiting(worker: &Worker) -> bool
     ensures { result ≡ false → IsIdle worker.now }
 {
     match &worker.line {

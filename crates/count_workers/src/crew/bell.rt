@@ -5,11 +5,13 @@ use std::sync::atomic::{AtomicBool, AtomicU64};
 // The low half of a word, by which it is slept.
 const HALF: u64 = 1 << 32;
 
-/// What helpers without work sleep by, and what says that no more will come.
+/// What threads without work sleep by, and what says that they have begun, and that no more will
+/// come.
 #[derive(Drop)]
 pub(crate) struct Bell {
     rings: AtomicU64,
     sleepers: AtomicU64,
+    begun: AtomicBool,
     over: AtomicBool,
 }
 
@@ -18,6 +20,7 @@ impl Bell {
         Bell {
             rings: AtomicU64::new(0),
             sleepers: AtomicU64::new(0),
+            begun: AtomicBool::new(false),
             over: AtomicBool::new(false),
         }
     }
@@ -28,6 +31,15 @@ impl Bell {
         if self.sleepers.load(SeqCst) > 0 {
             self.rings.wake_all();
         }
+    }
+
+    /// A thread is there that answers the bell.
+    pub(crate) fn begin(&self) {
+        self.begun.store(true, SeqCst);
+    }
+
+    pub(crate) fn has_begun(&self) -> bool {
+        self.begun.load(SeqCst)
     }
 
     /// No more will come.

@@ -3,10 +3,9 @@ ghost use Rattle.std.specs.Prelude.{◌<◌};
 use crate::crew::Bell;
 use crate::gauge_ring::{Feeder, Taker};
 use board::block_pool::{Counted, Filled};
+use calibration::MAX_WORKERS;
 use outside::Gate;
-use std::sync::atomic::AtomicBool;
-use std::sync::atomic::Ordering::SeqCst;
-use std::sync::{Arc, Wait};
+use std::sync::{Arc, Mutex, Wait};
 use std::thread;
 use std::thread::{Threads, available_parallelism};
 
@@ -21,19 +20,41 @@ pub(crate) struct Job {
     pub(crate) number: u64,
 }
 
-/// What counts for one worker in another thread.
+/// What counts for one worker: the other end of its line.
 #[derive(Drop)]
-pub struct Helper {
+pub(crate) struct Helper {
     pub(crate) worker: u8,
     pub(crate) jobs: Taker<Job>,
     pub(crate) counts: Feeder<Counted>,
-    pub(crate) bell: Arc<Bell>,
-    pub(crate) attended: Arc<AtomicBool>,
+}
+
+/// The helpers of all workers of a run. One thread at a time has a helper in hand, so that its
+/// counts go back in order, and a thread that finds it in hand goes on to the next.
+#[derive(Drop)]
+pub struct Helpers {
+    each: Vec<Mutex<Helper>>,
+    bell: Arc<Bell>,
+}
+
+impl Helpers {
+    pub(crate) fn new(each: Vec<Mutex<Helper>>, bell: Arc<Bell>) -> Helpers {
+        Helpers { each, bell }
+    }
+
+    /// Passes the gate and counts a block of each worker that has one, where no other thread has
+    /// its helper in hand. Answers whether there was any.
+    pub fn count_some<G: Gate>(&self, gate: &G) -> bool {
+        let mut counted = false;
+        for helper in &self.each {
+            counted |= count_one_of(gate, helper);
+        }
+        counted
+    }
 }
 
 // Passes the gate and counts a block, where there is one. A count for which there is no place is let
 // go: the worker has a place for each block that it gives. Answers whether there was one.
-fn help_once<G: Gate>(gate: &G, helper: &mut Helper) -> bool {
+fn count_one<G: Gate>(gate: &G, helper: &mut Helper) -> bool {
     match helper.jobs.take() {
         Some(job) => {
             gate.pass(helper.worker, job.unit.name().gauge, job.number);
@@ -44,35 +65,23 @@ fn help_once<G: Gate>(gate: &G, helper: &mut Helper) -> bool {
     }
 }
 
-// A block of each.
-fn help_each<G: Gate>(gate: &G, helpers: &mut [Helper]) -> bool {
-    let mut helped = false;
-    for helper in helpers {
-        helped |= help_once(gate, helper);
-    }
-    helped
-}
-
-fn attend(helpers: &[Helper]) {
-    for helper in helpers {
-        helper.attended.store(true, SeqCst);
+// The same with a helper that nobody has in hand.
+fn count_one_of<G: Gate>(gate: &G, helper: &Mutex<Helper>) -> bool {
+    match helper.try_lock() {
+        Some(mut helper) => count_one(gate, &mut helper),
+        None => false,
     }
 }
 
-// Counts for these until their lines have ended. What was given before the end is counted.
-fn help<R: Wait, G: Gate>(rt: &R, gate: &G, helpers: &mut [Helper]) {
-    let Some(first) = helpers.first() else {
-        return;
-    };
-    let Ok(bell) = first.bell.clone() else {
-        return;
-    };
-    attend(helpers);
+// Counts until the lines have ended. What was given before the end is counted.
+fn help<R: Wait, G: Gate>(rt: &R, gate: &G, helpers: &Helpers) {
+    let bell = &helpers.bell;
+    bell.begin();
     let mut looks = 0;
     for _ in rt.forever() {
         let heard = bell.rings();
         let over = bell.is_over();
-        if help_each(gate, helpers) {
+        if helpers.count_some(gate) {
             looks = 0;
         } else if over {
             return;
@@ -86,8 +95,9 @@ fn help<R: Wait, G: Gate>(rt: &R, gate: &G, helpers: &mut [Helper]) {
     unreachable!()
 }
 
-// So many threads: one processor is for the thread of the rounds, and that of the puts has little to
-// do. Two threads are the least, so that workers count beside each other on any machine.
+// So many threads: one processor is for the thread of the rounds, and one for that of the puts, which
+// counts when it has made them. Two threads are the least, so that workers count beside each other on
+// any machine.
 fn threads_for(rt: &impl Threads) -> usize
     ensures { 0 < result }
 {
@@ -95,16 +105,19 @@ fn threads_for(rt: &impl Threads) -> usize
         Ok(count) => count.get(),
         Err(_) => 1,
     };
-    processors.saturating_sub(1).max(2)
+    processors.saturating_sub(2).max(2)
 }
 
-/// Counts for all workers until their lines have ended, in one thread fewer than there are
-/// processors, or in two. The gate stands before each block.
-pub fn help_all<R: Threads + Wait + Sync, G: Gate + Sync>(
-    rt: &R,
-    gate: &G,
-    helpers: &mut [Helper],
-) {
-    let share = helpers.len().div_ceil(threads_for(rt)).max(1);
-    thread::for_each_chunk_mut(rt, helpers, share, &|_, part| help(rt, gate, part));
+/// Counts for all workers until their lines have ended, in two threads fewer than there are
+/// processors, or in two; in no more than there are workers. The gate stands before each block.
+pub fn help_all<R: Threads + Wait + Sync, G: Gate + Sync>(rt: &R, gate: &G, helpers: &Helpers) {
+    let mut seats = [0u8; MAX_WORKERS as usize];
+    let most = helpers.each.len().min(MAX_WORKERS as usize);
+    let threads = threads_for(rt);
+    thread::for_each_mut(
+        rt,
+        &mut seats[..threads.min(most)],
+        threads,
+        &|_, _| help(rt, gate, helpers),
+    );
 }

@@ -11,8 +11,6 @@ use std::alloc::Global;
 use std::collections::VecDeque;
 use std::marker::Model;
 use std::sync::Arc;
-use std::sync::atomic::AtomicBool;
-use std::sync::atomic::Ordering::SeqCst;
 
 // The most blocks that are under way.
 const MOST_WAITING: usize = 16;
@@ -23,7 +21,6 @@ pub struct Line {
     jobs: Feeder<Job>,
     counts: Taker<Counted>,
     bell: Arc<Bell>,
-    attended: Arc<AtomicBool>,
     waiting: VecDeque<Receipt>,
     spare: Vec<Receipt>,
 }
@@ -49,7 +46,6 @@ pub(crate) fn new_line(
 {
     let (jobs, helper_jobs) = ring(alloc, MOST_WAITING)?;
     let (helper_counts, counts) = ring(alloc, MOST_WAITING)?;
-    let attended = Arc::new(alloc, AtomicBool::new(false))?;
     let mut spare = Vec::with_capacity(alloc, MOST_WAITING)?;
     for _ in 0..MOST_WAITING {
         spare.push(Receipt::new(alloc, block, grid)?)?;
@@ -58,14 +54,11 @@ pub(crate) fn new_line(
         worker,
         jobs: helper_jobs,
         counts: helper_counts,
-        bell: bell.clone()?,
-        attended: attended.clone()?,
     };
     let line = Line {
         jobs,
         counts,
         bell: bell.clone()?,
-        attended,
         waiting: VecDeque::with_capacity(alloc, MOST_WAITING)?,
         spare,
     };
@@ -97,13 +90,13 @@ impl Line {
         self.waiting.push_back(receipt).is_ok()
     }
 
-    /// Whether its helper has begun.
+    /// Whether helpers have begun.
     pub fn is_attended(&self) -> bool {
-        self.attended.load(SeqCst)
+        self.bell.has_begun()
     }
 
-    /// Hands a block of this number out, or gives it back: where the helper has not begun, or too
-    /// many are under way.
+    /// Hands a block of this number out, or gives it back: where no helper has begun, or too many
+    /// are under way.
     pub fn offer(&mut self, unit: Filled, number: u64) -> Result<(), Filled>
         ensures handed { OnOk result (self.new.waiting ≡ self.old.waiting ++ unit ∷ []) }
         ensures given { IfErr result (λ given. given ≡ unit) }

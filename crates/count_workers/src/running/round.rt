@@ -8,6 +8,7 @@ ghost use Rattle.count_workers.specs.running.Going.{CanGoOn, Collects};
 use crate::block_workers::{Reader, Worker, begin_work, end_work, is_helped};
 use crate::collector::{Depot, Return, collect_rest};
 use crate::running::lanes::run_readers;
+use crate::running::passing::pass_rest;
 use outside::{Gate, Source};
 use std::sync::Wait;
 use std::thread;
@@ -69,7 +70,7 @@ fn end_all<R: Threads + Wait + Sync, G: Gate + Sync>(rt: &R, gate: &G, workers: 
     }
 }
 
-// The readers, and then what is left for the workers.
+// The readers, then what helpers have, and then what is left for the workers.
 fn run_all<R: Threads + Wait + Sync, C: Source, G: Gate + Sync>(
     rt: &R,
     gate: &G,
@@ -87,6 +88,7 @@ fn run_all<R: Threads + Wait + Sync, C: Source, G: Gate + Sync>(
     ensures grid { depot.new.board.grid ≡ depot.new.pool.grid }
 {
     run_readers(rt, gate, readers, workers, depot, returns);
+    pass_rest(rt, gate, workers, depot, returns);
     end_all(rt, gate, workers);
 }
 

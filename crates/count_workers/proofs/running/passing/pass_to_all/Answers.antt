@@ -12,16 +12,16 @@ loop-v-init g c = record {
   can = c.requires;
 }
 
-pub pass_to-requires : goal.pass_to-requires
-pass_to-requires g c = c.loop-v.invariant.can c.loop-v.v _ (omega arith)
+pub pass_to-came-requires : goal.pass_to-came-requires
+pass_to-came-requires g c = c.loop-v.invariant.can c.loop-v.v _ (omega arith)
 
 pub loop-v-preserved : goal.loop-v-preserved
 loop-v-preserved g c =
-    let ws0 = c.args.workers.now in let ws = c.loop-v.workers in let k = c.loop-v.v in let y = c.pass_to.new.worker in
+    let ws0 = c.args.workers.now in let ws = c.loop-v.workers in let k = c.loop-v.v in let y = c.pass_to-came.new.worker in
     let l : k < length ws = omega arith in
     let inv = c.loop-v.invariant.on in
     let step : (d : _) → WorksOn (get_or ws k d) y = λ d.
-    subst (λ w. WorksOn w y) (get_or_default ws k _ d l) c.pass_to.ensures in
+    subst (λ w. WorksOn w y) (get_or_default ws k _ d l) c.pass_to-came.ensures in
     let still : (u : _) (d : _) → WorksOn (get_or ws u d) (get_or (set ws k y) u d) =
     set_related WorksOn ws ws k y l (λ u d. works_same (get_or ws u d)) step in
     record {
