@@ -7,7 +7,7 @@ use Rattle.segment.specs.declared.segment_rules.name.Name.{Name}
 use Rattle.board.specs.declared.block_pool.TheConstants.{MAX_BLOCK}
 use Rattle.board.specs.declared.TheConstants.{MAX_GAUGES}
 use Rattle.calibration.specs.Gain.{GainValue}
-use Rattle.segment.specs.Segment.{SegmentValue, Stands, empty_at}
+use Rattle.segment.specs.Segment.{SegmentValue, empty_at}
 use Rattle.segment.proofs.Empty.{empty_stands}
 use Rattle.board.specs.flow.Flow.{hits}
 use Rattle.board.proofs.on_flow.Counting.{over_none}

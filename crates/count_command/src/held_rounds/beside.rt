@@ -42,16 +42,23 @@ const LOOKS: u32 = 20_000;
 
 // Counts for the round until it has ended, and looks for its end, so that the next one begins at
 // once: a thread that sleeps may wake late. Who has counted looks again, since the others may have
-// passed over what it had in hand.
+// passed over what it had in hand, and who leaves before the end wakes them. Where there are none,
+// there is nothing to count.
 fn count_until<R: Wait, G: Gate>(rt: &R, gate: &G, helpers: &Helpers, ended: &AtomicBool) {
+    if !helpers.are_there() {
+        return;
+    }
     let mut looks = 0;
     for _ in rt.forever() {
         if helpers.count_some(gate) {
             looks = 0;
-        } else if looks < LOOKS && !ended.load(SeqCst) {
+        } else if ended.load(SeqCst) {
+            return;
+        } else if looks < LOOKS {
             looks += 1;
             thread::yield_now();
         } else {
+            helpers.wake();
             return;
         }
     }

@@ -41,14 +41,25 @@ impl Helpers {
         Helpers { each, bell }
     }
 
+    /// Whether a thread of theirs has begun. Before that they are given no blocks.
+    pub fn are_there(&self) -> bool {
+        self.bell.has_begun()
+    }
+
     /// Passes the gate and counts a block of each worker that has one, where no other thread has
-    /// its helper in hand. Answers whether there was any.
+    /// its helper in hand. Answers whether there was any. Others pass over what this thread has in
+    /// hand, so it calls again where there was, and wakes them when it leaves while blocks may come.
     pub fn count_some<G: Gate>(&self, gate: &G) -> bool {
         let mut counted = false;
         for helper in &self.each {
             counted |= count_one_of(gate, helper);
         }
         counted
+    }
+
+    /// Wakes the threads that sleep until there are blocks.
+    pub fn wake(&self) {
+        self.bell.ring();
     }
 }
 

@@ -1,4 +1,4 @@
-use Rattle.std.proofs.Common.{arith, ◌<◌, ◌∙◌, length, sym, subst}
+use Rattle.std.proofs.Common.{arith, ◌<◌, ◌∙◌, length, subst}
 use Rattle.std.proofs.lemmas.List.{get_or-set_other, get_or_default}
 use Rattle.std.proofs.Math.ListN.{length-set}
 use Rattle.count_workers.specs.Hiring.{SameButLine}

@@ -1,4 +1,4 @@
-use Rattle.std.proofs.Common.{length, ◌∙◌, ap, arith}
+use Rattle.std.proofs.Common.{◌∙◌, ap, arith}
 use Rattle.calibration.specs.Grid.{GridValue}
 use Rattle.calibration.specs.History.{history}
 use Rattle.turning_points.specs.three_point.Run.{half_units}
