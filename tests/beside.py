@@ -32,6 +32,10 @@ IN_USE = "monitor: monitor.store: in use by another monitor\nstation fault\n"
 NAMES = ["north", "south"]
 WRITERS = ("count", "watch")
 
+# Readers that are few beside one writer, and samples of a recording that are many for a trial.
+FEW = 4
+LONG = 60_000
+
 
 def configuration(block):
     lines = ["[grid]", "classes = 16", "width = 2", "low = -8000", "reference = 8"]
@@ -189,13 +193,17 @@ class Trials(Trial):
         return refused
 
     def read_beside(self, due):
-        """Readers until so many ran beside a writer. How many did."""
-        beside = grown = 0
-        while beside < due and grown < 40:
-            grown += 1
+        """Readers until so many ran beside a writer. How many did. Where few ran beside one, the next one has more to count."""
+        beside = writers = 0
+        backlog = 4000
+        while beside < due and writers < 10 * due:
+            writers += 1
+            before = beside
+            if len(self.raws[0]) > LONG:
+                self.begin(1)
             starts = [samples(self.run("report")[1])]
-            self.grow(4000)
-            writer = WRITERS[grown % 2]
+            self.grow(backlog)
+            writer = WRITERS[writers % 2]
             run = Run(self.program, writer)
             while run.is_running() and beside < due:
                 words = self.rng.choice((("report",), ("report",), ("repeat",), ALL_TIME, ("compact",)))
@@ -210,6 +218,8 @@ class Trials(Trial):
             self.check("repeat", self.run("repeat"), (0, self.repeat(lengths), ""))
             self.check("window", self.run(*ALL_TIME), (0, self.window(lengths), ""))
             self.check("compact", self.run("compact"), (0, self.copy(lengths), ""))
+            if beside < before + FEW:
+                backlog = min(2 * backlog, LONG)
         return beside
 
     def init_at_once(self, store):
