@@ -10,7 +10,7 @@ use std::thread;
 use std::thread::{Threads, available_parallelism};
 
 // How often a thread looks for blocks before it sleeps.
-const LOOKS: u32 = 4000;
+const LOOKS: u32 = 500;
 
 /// A block that goes out over a line.
 #[derive(Drop)]
